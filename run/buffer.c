@@ -148,14 +148,6 @@ int buffer_name(struct object *buffer, const char *name)
     return 0;
 }
 
-int buffer_fences(const struct object *buffer, uint32_t flags, struct fences *fences)
-{
-    static const struct fences none;
-    const struct fences *reads = flags & BIM_SYNC_WRITE ? &buffer->buffer.fences[READING] : &none;
-
-    return record_union(fences, &buffer->buffer.fences[WRITING], reads);
-}
-
 /* The program's poll reports a buffer for this access again. */
 void buffer_is_ready(struct object *object, enum access access)
 {
@@ -170,39 +162,55 @@ void buffer_is_ready(struct object *object, enum access access)
         endpoint_set_writable(object->endpoint);
 }
 
-static void stop_awaiting(struct registry *registry, struct buffer *buffer, enum access access)
+/* Lets go of what an access has waited for, perhaps as its process ends. */
+static void stop_awaiting(struct registry *registry, struct buffer *buffer, enum access access, bool with_process)
 {
     struct object *awaited = buffer->awaited[access];
 
     if (!awaited)
         return;
     bim_device_release(&registry->device, awaited->number, registry->now);
+    record_drop(&awaited->readiness.fences, with_process, registry->trace);
     registry_forget(registry, awaited);
     buffer->awaited[access] = NULL;
+}
+
+static struct object *new_readiness(struct object *of, enum access access)
+{
+    struct object *awaited = calloc(1, sizeof *awaited);
+
+    if (!awaited)
+        return NULL;
+    awaited->kind = READINESS;
+    awaited->endpoint = -1;
+    awaited->readiness.of = of;
+    awaited->readiness.access = access;
+    return awaited;
 }
 
 /* Has the device report when all that the access waits for has signalled, by a file that no program has. */
 static int await(struct registry *registry, struct object *object, enum access access)
 {
-    struct object *awaited = calloc(1, sizeof *awaited);
-    uint64_t number;
+    struct object *awaited = new_readiness(object, access);
+    uint64_t number = 0;
     int error;
 
     if (!awaited)
         return ENOMEM;
-    awaited->kind = READINESS;
-    awaited->endpoint = -1;
-    awaited->readiness.of = object;
-    awaited->readiness.access = access;
     error = bim_device_export(&registry->device, object->number, AWAITS[access], &number);
+    if (!error)
+        error = registry_fences(registry, number, &awaited->readiness.fences);
     if (!error)
         error = map_add(&registry->by_number, number, awaited);
     if (error) {
+        record_drop(&awaited->readiness.fences, false, registry->trace);
+        if (number)
+            bim_device_release(&registry->device, number, registry->now);
         free(awaited);
         return error;
     }
     awaited->number = number;
-    stop_awaiting(registry, &object->buffer, access);
+    stop_awaiting(registry, &object->buffer, access, false);
     object->buffer.awaited[access] = awaited;
     return 0;
 }
@@ -211,7 +219,7 @@ static void await_or_retry(struct registry *registry, struct object *object, enu
 {
     if (await(registry, object, access) == 0)
         return;
-    stop_awaiting(registry, &object->buffer, access);
+    stop_awaiting(registry, &object->buffer, access, false);
     registry->has_unawaited = true;
 }
 
@@ -272,24 +280,14 @@ static bool is_end_of(const struct object *object, int passed)
 /* Once the device has the file, nothing can fail any more: what lacks memory then is tried again. */
 int buffer_import(struct registry *registry, const struct bim_request *request, struct object *object, int passed)
 {
-    static const struct fences none;
-    enum access access = request->flags & BIM_SYNC_WRITE ? WRITING : READING;
     struct object *file = registry_find(registry, request->b);
-    struct fences both;
     int error;
 
     if (object->kind != BUFFER || !is_end_of(object, passed))
         return object->kind == BUFFER ? EBADF : ENOTTY;
-    error = record_union(&both, &object->buffer.fences[access],
-                         file && file->kind == SYNC_FILE ? &file->fences : &none);
-    if (error)
-        return error;
     error = bim_device_import(&registry->device, object->number, file ? file->number : 0, request->flags);
-    /* The fences of one are let go, of which none is the last: those before, or both. */
-    record_drop(error ? &both : &object->buffer.fences[access], false, registry->trace);
     if (error)
         return error;
-    object->buffer.fences[access] = both;
     refresh(registry, object, READING, passed);
     refresh(registry, object, WRITING, passed);
     return 0;
@@ -297,9 +295,7 @@ int buffer_import(struct registry *registry, const struct bim_request *request, 
 
 void buffer_drop(struct registry *registry, struct object *object)
 {
-    for (enum access access = 0; access < ACCESSES; access++) {
-        stop_awaiting(registry, &object->buffer, access);
-        record_drop(&object->buffer.fences[access], !object->is_told, registry->trace);
-    }
+    for (enum access access = 0; access < ACCESSES; access++)
+        stop_awaiting(registry, &object->buffer, access, !object->is_told);
     parts_close(&object->buffer.memory);
 }

@@ -99,7 +99,7 @@ int info_of_file(struct registry *registry, const struct bim_request *request, s
     return error;
 }
 
-static void print_fence(FILE *text, const struct fence *fence)
+static void print_fence(FILE *text, const struct fence *fence, int32_t value)
 {
     uint64_t at = fence->cancelled_at;
 
@@ -107,23 +107,29 @@ static void print_fence(FILE *text, const struct fence *fence)
         fprintf(text, "  fence error@%llu.%09llu", at / 1000000000ull, at % 1000000000ull);
     else
         fputs("  fence active", text);
-    fprintf(text, ": %u / %d\n", fence->seqno, (int32_t)fence->timeline->value);
+    fprintf(text, ": %u / %d\n", fence->seqno, value);
 }
 
-static void print_timeline(FILE *text, const struct timeline *timeline)
+/* The kernel shows the low 32 bits of a value. */
+static void print_timeline(FILE *text, const struct timeline *timeline, int32_t value)
 {
-    fprintf(text, "%s: %d\n", timeline->name, (int32_t)timeline->value);
+    fprintf(text, "%s: %d\n", timeline->name, value);
     for (const struct fence *fence = timeline->first; fence; fence = fence->next)
-        print_fence(text, fence);
+        print_fence(text, fence, value);
     fputc('\n', text);
 }
 
 /* The kernel lists no sync files below the second heading. */
-static void print_all(const struct registry *registry, FILE *text)
+static void print_all(struct registry *registry, FILE *text)
 {
     fputs("objs:\n--------------\n", text);
-    for (const struct timeline *timeline = registry->timelines.first; timeline; timeline = timeline->after)
-        print_timeline(text, timeline);
+    for (const struct timeline *timeline = registry->timelines.first; timeline; timeline = timeline->after) {
+        uint64_t value = timeline->value;
+
+        if (!timeline->is_closed)
+            bim_device_value(&registry->device, timeline->number, &value);
+        print_timeline(text, timeline, (int32_t)value);
+    }
     fputs("fences:\n--------------\n", text);
 }
 
@@ -146,7 +152,7 @@ static int store(const char *text, size_t length, int *gives)
     return 0;
 }
 
-int info_text(const struct registry *registry, int *gives)
+int info_text(struct registry *registry, int *gives)
 {
     char *bytes = NULL;
     size_t length;

@@ -68,7 +68,7 @@ static void link_after(struct timeline *timeline, struct fence *before, struct f
     *(fence->next ? &fence->next->before : &timeline->last) = fence;
 }
 
-static struct fence *new_fence(struct timeline *timeline, uint32_t point)
+static struct fence *new_fence(struct timeline *timeline, uint32_t seqno, uint64_t value)
 {
     struct fence *fence = calloc(1, sizeof *fence);
 
@@ -77,20 +77,28 @@ static struct fence *new_fence(struct timeline *timeline, uint32_t point)
     fence->timeline = timeline;
     timeline->fences++;
     fence->context = timeline->number;
-    fence->seqno = point;
-    fence->value = timeline->value + (int32_t)(point - (uint32_t)timeline->value);
+    fence->seqno = seqno;
+    fence->value = value;
     fence->driver = "sw_sync";
     memcpy(fence->timeline_name, timeline->name, sizeof fence->timeline_name);
+    return fence;
+}
+
+/* The last fence on a timeline at or below a point; NULL if there is none. */
+static struct fence *last_up_to(const struct timeline *timeline, uint64_t value)
+{
+    struct fence *fence = timeline->last;
+
+    while (fence && fence->value > value)
+        fence = fence->before;
     return fence;
 }
 
 /* Puts a new fence on its timeline, or returns the one of its point that is pending there. */
 static struct fence *share(struct timeline *timeline, struct fence *fence)
 {
-    struct fence *before = timeline->last;
+    struct fence *before = last_up_to(timeline, fence->value);
 
-    while (before && before->value > fence->value)
-        before = before->before;
     if (!before || before->value < fence->value) {
         link_after(timeline, before, fence);
         return fence;
@@ -99,27 +107,50 @@ static struct fence *share(struct timeline *timeline, struct fence *fence)
     return before;
 }
 
-int record_fence(struct fences *fences, struct timeline *timeline, uint32_t point, struct trace *trace)
+int record_room(struct fences *fences, size_t count)
 {
-    struct fence *fence = new_fence(timeline, point);
+    *fences = (struct fences){ NULL, 0, NULL };
+    if (count == 0)
+        return 0;
+    fences->at = malloc(count * sizeof fences->at[0]);
+    return fences->at ? 0 : ENOMEM;
+}
 
-    *fences = (struct fences){ malloc(sizeof fences->at[0]), 1, NULL };
-    if (!fence || !fences->at) {
-        if (fence)
-            free_fence(fence);
+static void hold(struct fences *fences, struct fence *fence)
+{
+    fence->holders++;
+    fences->at[fences->count++] = fence;
+}
+
+void record_hold(struct fences *fences, const struct timeline *timeline, uint64_t value)
+{
+    struct fence *fence = last_up_to(timeline, value);
+
+    if (fence && fence->value == value)
+        hold(fences, fence);
+}
+
+int record_fence(struct fences *fences, struct timeline *timeline, uint32_t seqno, const bim_device_point *point,
+                 struct trace *trace)
+{
+    struct fence *fence;
+
+    if (record_room(fences, 1))
+        return ENOMEM;
+    fence = new_fence(timeline, seqno, point->value);
+    if (!fence) {
         free(fences->at);
         *fences = (struct fences){ NULL, 0, NULL };
         return ENOMEM;
     }
     trace_event(trace, "init", fence);
-    if (fence->value <= timeline->value) {
+    if (point->is_pending) {
+        fence = share(timeline, fence);
+    } else {
         trace_event(trace, "signaled", fence);
         fence->state = SIGNALLED;
-    } else {
-        fence = share(timeline, fence);
     }
-    fence->holders++;
-    fences->at[0] = fence;
+    hold(fences, fence);
     return 0;
 }
 
@@ -129,57 +160,21 @@ static void signal_first(struct timeline *timeline, struct trace *trace)
     unlink_fence(timeline->first);
 }
 
-bool record_signals(const struct timeline *timeline, uint32_t n)
+void record_signal(struct timeline *timeline, uint64_t pending, struct trace *trace)
 {
-    return timeline->first && timeline->first->value <= timeline->value + n;
-}
-
-void record_inc(struct timeline *timeline, uint32_t n, struct trace *trace)
-{
-    timeline->value += n;
-    while (timeline->first && timeline->first->value <= timeline->value)
+    while (timeline->first && (pending == 0 || timeline->first->value < pending))
         signal_first(timeline, trace);
 }
 
 /* As in the kernel, what is cancelled stays on its timeline. */
-void record_close(struct timeline *timeline, uint64_t now, struct trace *trace)
+void record_close(struct timeline *timeline, uint64_t value, uint64_t now, struct trace *trace)
 {
+    timeline->value = value;
     for (struct fence *fence = timeline->first; fence; fence = fence->next) {
         trace_event(trace, "signaled", fence);
         fence->state = CANCELLED;
         fence->cancelled_at = now;
     }
-}
-
-static void hold(struct fences *fences, struct fence *fence)
-{
-    if (!is_pending(fence))
-        return;
-    fence->holders++;
-    fences->at[fences->count++] = fence;
-}
-
-int record_union(struct fences *fences, const struct fences *a, const struct fences *b)
-{
-    size_t i = 0, j = 0;
-
-    *fences = (struct fences){ NULL, 0, NULL };
-    if (a->count + b->count == 0)
-        return 0;
-    fences->at = malloc((a->count + b->count) * sizeof fences->at[0]);
-    if (!fences->at)
-        return ENOMEM;
-    while (i < a->count || j < b->count) {
-        struct fence *x = i < a->count ? a->at[i] : NULL, *y = j < b->count ? b->at[j] : NULL;
-
-        i += x && (!y || x->context <= y->context);
-        j += y && (!x || y->context <= x->context);
-        if (x && y && x->context == y->context)
-            hold(fences, x->value >= y->value ? x : y);
-        else
-            hold(fences, x && (!y || x->context < y->context) ? x : y);
-    }
-    return 0;
 }
 
 int record_array(struct fences *fences, uint64_t context, struct trace *trace)

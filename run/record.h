@@ -1,11 +1,12 @@
-/* What the trace and sync/info show: which fences each file holds, and which are on each timeline. Statuses, times and
- * names, and what a merge or an export holds for the program, are the device's. */
+/* What the trace and sync/info show and no device knows: which files share a fence, and what a process leaves at its
+ * end. The device says which points files wait for, and which of them a call has signalled. */
 #ifndef BIM_RUN_RECORD_H
 #define BIM_RUN_RECORD_H
 
 #include "trace.h"
 #include "wire.h"
 
+#include <bimphlai.h>
 #include <stdbool.h>
 #include <stddef.h>
 #include <stdint.h>
@@ -16,10 +17,10 @@ struct timeline {
     struct timeline *before, *after; /* among all, in order of making */
     char name[BIM_TEXT_ROOM];
     uint64_t number;
-    int64_t value;              /* of which the kernel shows the low 32 bits */
     struct fence *first, *last; /* pending, or cancelled, by rising value */
     size_t fences;              /* these, and those that it has signalled */
     bool is_closed;
+    uint64_t value; /* when it was closed */
     bool ends_with_process;
 };
 
@@ -36,7 +37,7 @@ struct fence {
     enum fence_state state;
     uint64_t cancelled_at;
     uint64_t context;
-    int64_t value;
+    uint64_t value; /* the point of 64 bits, as the device has it */
     uint32_t seqno;
     unsigned holders;
     bool is_enabled;
@@ -44,7 +45,7 @@ struct fence {
     char timeline_name[BIM_TEXT_ROOM];
 };
 
-/* What a file or a buffer holds, by rising context. */
+/* The fences that a file holds, by rising context. */
 struct fences {
     struct fence **at;
     size_t count;
@@ -53,18 +54,20 @@ struct fences {
 
 /* Adds a timeline after all others; NULL if there is no memory. */
 struct timeline *record_timeline(struct timelines *all, uint64_t number, const char *name, size_t length);
-/* Whether an increment signals anything. */
-bool record_signals(const struct timeline *timeline, uint32_t n);
-void record_inc(struct timeline *timeline, uint32_t n, struct trace *trace);
-/* All that is pending on the timeline is cancelled. */
-void record_close(struct timeline *timeline, uint64_t now, struct trace *trace);
+/* Signals all fences of a timeline below its first point that is still pending, or all for 0. */
+void record_signal(struct timeline *timeline, uint64_t pending, struct trace *trace);
+/* Cancels all that is pending on a timeline, which is closed at that value. */
+void record_close(struct timeline *timeline, uint64_t value, uint64_t now, struct trace *trace);
 /* Nobody has the timeline any more. It is freed with the last of its fences. */
 void record_forget(struct timeline *timeline);
 
-/* Makes a list of the fence of a point. Returns 0 or ENOMEM. */
-int record_fence(struct fences *fences, struct timeline *timeline, uint32_t point, struct trace *trace);
-/* Makes a list of what is pending in two, of each timeline the later. Returns 0 or ENOMEM. */
-int record_union(struct fences *fences, const struct fences *a, const struct fences *b);
+/* Makes a list of a new fence of a timeline, by the device's word for its point. Returns 0 or ENOMEM. */
+int record_fence(struct fences *fences, struct timeline *timeline, uint32_t seqno, const bim_device_point *point,
+                 struct trace *trace);
+/* Makes an empty list with room for some fences. Returns 0 or ENOMEM. */
+int record_room(struct fences *fences, size_t count);
+/* Adds the fence of a timeline's pending point to a list that has room, if anybody holds that fence. */
+void record_hold(struct fences *fences, const struct timeline *timeline, uint64_t value);
 /* Has several fences of a file stand in the trace as an array of that context. Returns 0 or ENOMEM. */
 int record_array(struct fences *fences, uint64_t context, struct trace *trace);
 /* The fence for which a wait on a file waits; NULL if there is none. */

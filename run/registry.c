@@ -18,6 +18,33 @@ uint64_t registry_now(void)
     return now.tv_sec * 1000000000ull + now.tv_nsec;
 }
 
+bool registry_signals(struct registry *registry, uint64_t timeline, uint64_t n)
+{
+    uint64_t point = 0;
+
+    return bim_device_first_due(&registry->device, timeline, n, &point) == 0 && point > 0;
+}
+
+int registry_fences(struct registry *registry, uint64_t file, struct fences *fences)
+{
+    bim_device_point point;
+    size_t count = 0;
+    int error;
+
+    while (bim_device_fence_of(&registry->device, file, count, &point) == 0)
+        count++;
+    error = record_room(fences, count);
+    for (size_t i = 0; !error && i < count; i++) {
+        const struct object *object;
+
+        bim_device_fence_of(&registry->device, file, i, &point);
+        object = map_find(&registry->by_number, point.timeline);
+        if (object)
+            record_hold(fences, object->timeline, point.value);
+    }
+    return error;
+}
+
 /* Opens all but the device. Returns 0 or an errno. */
 static int open_page_and_trace(struct registry *registry, const char *trace_path)
 {

@@ -28,7 +28,6 @@ struct buffer {
     char name[BIM_TEXT_ROOM];
     bool is_ready[ACCESSES];
     struct object *awaited[ACCESSES]; /* the device's file of what the access waits for */
-    struct fences fences[ACCESSES];   /* put in for reading, and for writing */
 };
 
 struct object {
@@ -47,6 +46,7 @@ struct object {
         struct {
             struct object *of; /* READINESS: a file of the device that no program has */
             enum access access;
+            struct fences fences;
         } readiness;
     };
 };
@@ -102,6 +102,9 @@ bool registry_sweep_timelines(struct registry *registry);
 
 struct object *registry_find(const struct registry *registry, uint64_t inode);
 uint64_t registry_now(void);
+/* Whether the device says that an increment by n signals anything. The closing of a timeline signals what the greatest
+ * increment would. */
+bool registry_signals(struct registry *registry, uint64_t timeline, uint64_t n);
 
 /* For the parts of the registry, each in a file of its own. */
 int registry_begin(struct registry *registry, enum kind kind, const struct bim_request *request, struct object **made,
@@ -109,16 +112,15 @@ int registry_begin(struct registry *registry, enum kind kind, const struct bim_r
 int registry_finish(struct registry *registry, struct object *object, int error, int *gives);
 void registry_wake(struct registry *registry);
 void registry_forget(struct registry *registry, struct object *object);
+/* Makes a list of the fences that the device's file of pending points has. Returns 0 or ENOMEM. */
+int registry_fences(struct registry *registry, uint64_t file, struct fences *fences);
 
-/* What an access to a buffer waits for, as its export shows it. Returns 0 or ENOMEM. */
-int buffer_fences(const struct object *buffer, uint32_t flags, struct fences *fences);
 int buffer_name(struct object *buffer, const char *name);
 /* `passed` is the memory of another's, or -1 for new memory. */
 int buffer_make(struct registry *registry, const struct bim_request *request, int passed, int *gives);
 int buffer_extend(struct registry *registry, const struct bim_request *request, struct object *buffer, int passed);
 int buffer_memory(const struct bim_request *request, const struct object *buffer, struct bim_answer *answer,
                   int *gives);
-int buffer_export(struct registry *registry, const struct bim_request *request, struct object *buffer, int *gives);
 int buffer_import(struct registry *registry, const struct bim_request *request, struct object *buffer, int passed);
 void buffer_is_ready(struct object *buffer, enum access access);
 /* Tries once more what lacked memory. */
@@ -127,6 +129,6 @@ void buffer_drop(struct registry *registry, struct object *buffer);
 
 int info_of_file(struct registry *registry, const struct bim_request *request, struct object *file,
                  struct bim_answer *answer, int *gives);
-int info_text(const struct registry *registry, int *gives);
+int info_text(struct registry *registry, int *gives);
 
 #endif

@@ -24,6 +24,16 @@ static int finish_file(struct registry *registry, struct object *file, int error
     return error;
 }
 
+/* Finishes a file of pending points, as a merge or an export makes it. */
+static int finish_pending(struct registry *registry, struct object *file, int error, int *gives)
+{
+    if (!error)
+        error = registry_fences(registry, file->number, &file->fences);
+    if (error)
+        return registry_finish(registry, file, error, gives);
+    return finish_file(registry, file, 0, gives);
+}
+
 static int serve_timeline(struct registry *registry, const struct bim_request *request, int *gives)
 {
     struct object *object;
@@ -44,21 +54,33 @@ static int serve_timeline(struct registry *registry, const struct bim_request *r
 
 static int serve_fence(struct registry *registry, const struct bim_request *request, struct object *object, int *gives)
 {
+    bim_device_point point;
     struct object *file;
     int error = registry_begin(registry, SYNC_FILE, request, &file, gives);
 
     if (error)
         return error;
     error = bim_device_fence(&registry->device, object->number, request->value, registry->now, &file->number);
+    if (!error)
+        error = bim_device_fence_of(&registry->device, file->number, 0, &point);
     if (error)
         return registry_finish(registry, file, error, gives);
-    error = record_fence(&file->fences, object->timeline, request->value, registry->trace);
+    error = record_fence(&file->fences, object->timeline, request->value, &point, registry->trace);
     return finish_file(registry, file, error, gives);
+}
+
+/* Records what an increment has signalled: all below the first point that is still pending. */
+static void record_signalled(struct registry *registry, struct object *object)
+{
+    uint64_t pending;
+
+    if (bim_device_first_due(&registry->device, object->number, UINT64_MAX, &pending) == 0)
+        record_signal(object->timeline, pending, registry->trace);
 }
 
 static int serve_inc(struct registry *registry, const struct bim_request *request, struct object *object)
 {
-    bool signals = object->kind == TIMELINE && record_signals(object->timeline, request->value);
+    bool signals = registry_signals(registry, object->number, request->value);
     int error;
 
     if (signals)
@@ -66,7 +88,8 @@ static int serve_inc(struct registry *registry, const struct bim_request *reques
     error = bim_device_inc(&registry->device, object->number, request->value, registry->now);
     if (error)
         return error;
-    record_inc(object->timeline, request->value, registry->trace);
+    if (signals)
+        record_signalled(registry, object);
     registry_wake(registry);
     return 0;
 }
@@ -80,11 +103,7 @@ static int serve_merge(struct registry *registry, const struct bim_request *requ
     if (error)
         return error;
     error = bim_device_merge_n(&registry->device, a->number, b ? b->number : 0, request->name, length, &file->number);
-    if (!error)
-        error = record_union(&file->fences, &a->fences, &b->fences);
-    if (error)
-        return registry_finish(registry, file, error, gives);
-    return finish_file(registry, file, 0, gives);
+    return finish_pending(registry, file, error, gives);
 }
 
 static int serve_export(struct registry *registry, const struct bim_request *request, struct object *buffer, int *gives)
@@ -95,11 +114,7 @@ static int serve_export(struct registry *registry, const struct bim_request *req
     if (error)
         return error;
     error = bim_device_export(&registry->device, buffer->number, request->flags, &file->number);
-    if (!error)
-        error = buffer_fences(buffer, request->flags, &file->fences);
-    if (error)
-        return registry_finish(registry, file, error, gives);
-    return finish_file(registry, file, 0, gives);
+    return finish_pending(registry, file, error, gives);
 }
 
 /* The beginning and the end of a wait; the answer's status is 1 if there is something to wait for. */

@@ -49,14 +49,18 @@ static void set_closer(struct registry *registry, const struct object *object, c
 /* Returns ENOMEM for a timeline that can't be released yet. */
 static int let_go(struct registry *registry, struct object *object, const struct who *teller)
 {
-    int error = bim_device_release(&registry->device, object->number, registry->now);
+    uint64_t value = 0;
+    int error;
 
+    if (object->kind == TIMELINE)
+        bim_device_value(&registry->device, object->number, &value);
+    error = bim_device_release(&registry->device, object->number, registry->now);
     if (error)
         return error;
     set_closer(registry, object, teller);
     registry->counts[object->kind]--;
     if (object->kind == TIMELINE) {
-        record_close(object->timeline, registry->now, registry->trace);
+        record_close(object->timeline, value, registry->now, registry->trace);
         registry_wake(registry);
     } else if (object->kind == SYNC_FILE) {
         record_drop(&object->fences, !object->is_told, registry->trace);
@@ -119,10 +123,10 @@ static void await_ends(struct registry *registry)
 }
 
 /* Whether what is closed cancels any point. */
-static bool cancels(const struct registry *registry)
+static bool cancels(struct registry *registry)
 {
     for (const struct object *object = registry->closing; object; object = object->next_closing)
-        if (object->kind == TIMELINE && object->timeline->first)
+        if (registry_signals(registry, object->number, UINT64_MAX))
             return true;
     return false;
 }
@@ -208,12 +212,14 @@ void registry_sweep(struct registry *registry)
 }
 
 /* Fills in the endpoints of timelines with pending fences, from one on. Returns that after the last. */
-static const struct timeline *endpoints_of(const struct registry *registry, const struct timeline *timeline,
+static const struct timeline *endpoints_of(struct registry *registry, const struct timeline *timeline,
                                            struct pollfd *endpoints, nfds_t *count)
 {
     for (*count = 0; timeline && *count < AT_ONCE; timeline = timeline->after) {
-        const struct object *object = timeline->first ? map_find(&registry->by_number, timeline->number) : NULL;
+        const struct object *object = NULL;
 
+        if (registry_signals(registry, timeline->number, UINT64_MAX))
+            object = map_find(&registry->by_number, timeline->number);
         if (object)
             endpoints[(*count)++] = (struct pollfd){ object->endpoint, 0, 0 };
     }
