@@ -11,7 +11,7 @@ use Rattle.device_core.specs.declared.request.Answer.TheVariants as answer
 use Rattle.device_core.specs.Buffers.{none_waits}
 use Rattle.device_core.specs.Fences.{are_signalled, status_of}
 use Rattle.device_core.specs.State.{FileState, DeviceState, Objects, file_at, timeline_at, objects_of, file_signalled}
-use Rattle.device_core.specs.Request.{with_at, closed, closed_timeline, dropped, risen, wakes_some, after, is_waiting, has_signalled, AreWoken, IsAnswer, Reports}
+use Rattle.device_core.specs.Request.{with_at, closed, closed_timeline, dropped, risen, wakes_some, after, is_waiting, AreWoken, IsAnswer, Reports}
 use Rattle.device_core.specs.History.{World, world_of, HasHistory}
 use Rattle.device_core.specs.Sound.{IsSound}
 use Rattle.device_core.specs.Times.{woken_in}

@@ -1,5 +1,5 @@
 -- Every fence that a file or a buffer lists was put into it.
-use Rattle.std.proofs.Common.{◌≡◌, ℕ, ◌+◌, ◌<◌, ◌≤◌, ◌⊎◌, zero, suc, inl, inr, Bool, true, false, cond, nat_eq, nat_lt, refl, sym, ap, ◌∙◌, subst, List, [], ◌∷◌, ◌++◌, map, filter, Option, None, Some, is_some, option_map, Result, Ok, Err, All, Contains, if◌then◌else◌, arith}
+use Rattle.std.proofs.Common.{◌≡◌, ℕ, ◌+◌, zero, suc, inl, inr, Bool, true, false, nat_lt, refl, sym, ap, ◌∙◌, subst, List, [], ◌∷◌, ◌++◌, map, filter, Option, None, Some, is_some, option_map, Result, Ok, Err, All, Contains, if◌then◌else◌, arith}
 use Rattle.std.specs.List.{filter_map, cons_option}
 use Rattle.std.proofs.lemmas.Bool.{cases_Bool, cases_eq}
 use Rattle.std.proofs.lemmas.List.Elements.{All-cons, All-nil, All-head, All-tail, All-map, All-weaker, Contains-append_left, Contains-append_right}
@@ -18,7 +18,7 @@ use Rattle.device_core.specs.declared.request.Request.TheVariants as request
 use Rattle.device_core.specs.Fences.{all_signalled_by, is_pending, merged, signal_at, signalled_by}
 use Rattle.device_core.specs.Buffers.{BufferState, at_usage, empty_buffer, entry_of, export_usage, exported, fence_waiting, import_into, import_usage, imported, is_within, put_as, waiting_fence}
 use Rattle.device_core.specs.BufferWorld.{put_with}
-use Rattle.device_core.specs.State.{FileState, Objects, export_of, fence_at, file_signalled, import_of, merged_files, one_fence_file, raised}
+use Rattle.device_core.specs.State.{FileState, export_of, fence_at, file_signalled, import_of, merged_files, one_fence_file, raised}
 use Rattle.device_core.specs.Request.{closed, dropped, value_in, with_at}
 use Rattle.device_core.specs.History.{AreAccepted, World, asked, empty_world, put_by_export, put_by_import, world_after, world_from, world_of}
 use Rattle.device_core.specs.Sound.{IsSound}

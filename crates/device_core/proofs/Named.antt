@@ -1,5 +1,5 @@
 -- The fences of files have the names with which their timelines were opened.
-use Rattle.std.proofs.Common.{◌≡◌, ◌≢◌, ℕ, ◌+◌, ◌<◌, ◌≤◌, ◌⊎◌, inl, inr, Bool, true, false, cond, nat_eq, nat_lt, refl, sym, ap, ◌∙◌, subst, List, [], ◌∷◌, ◌++◌, append_assoc, append-nil, Option, None, Some, is_some, option_map, Result, Ok, Err, All, if◌then◌else◌, arith}
+use Rattle.std.proofs.Common.{◌≡◌, ℕ, ◌+◌, ◌≤◌, inl, inr, Bool, true, false, cond, nat_lt, refl, sym, ap, ◌∙◌, subst, List, [], ◌∷◌, ◌++◌, append_assoc, append-nil, Option, None, Some, is_some, option_map, Result, Ok, Err, All, if◌then◌else◌, arith}
 use Rattle.std.specs.List.{filter_map, cons_option}
 use Rattle.std.proofs.lemmas.Bool.{cases_Bool, cases_eq, eq-eqb, ne_eqb}
 use Rattle.std.proofs.lemmas.List.Elements.{All-nil, All-cons, All-map, All-weaker}
@@ -13,17 +13,16 @@ use Rattle.device_core.specs.declared.fence.Timeline.{Timeline}
 use Rattle.device_core.specs.declared.refusal.Refusal.{Refusal}
 use Rattle.device_core.specs.declared.request.Request.{Request}
 use Rattle.device_core.specs.declared.request.Request.TheVariants as request
-use Rattle.device_core.specs.Fences.{all_signalled_by, is_due, merged, signal_at, signalled_by}
-use Rattle.device_core.specs.Buffers.{BufferState, export_usage, exported, fence_waiting, is_within, entry_of, waiting_fence}
+use Rattle.device_core.specs.Fences.{is_due, signal_at, signalled_by}
+use Rattle.device_core.specs.Buffers.{BufferState, export_usage, fence_waiting, is_within, entry_of, waiting_fence}
 use Rattle.device_core.specs.State.{FileState, Objects, export_of, fence_at, file_signalled, merged_files, new_timeline, one_fence_file, raised}
-use Rattle.device_core.specs.Request.{closed, closed_timeline, dropped, value_in, with_at}
-use Rattle.device_core.specs.History.{AreAccepted, World, empty_world, world_after, world_from, world_of}
+use Rattle.device_core.specs.Request.{closed_timeline, dropped, value_in, with_at}
+use Rattle.device_core.specs.History.{World, empty_world, world_after, world_from, world_of}
 use Rattle.device_core.specs.Signals.{first_name, name_in, opened_as}
-use Rattle.device_core.specs.Sound.{IsSound}
 use Rattle.device_core.proofs.Placed.{fold-All, merged-All}
 use Rattle.device_core.proofs.Histories.{world_from-push}
 use Rattle.device_core.proofs.Sound.{with_at-same, with_at-other}
-use Rattle.device_core.proofs.Stepping.{same_Some, None≢Some, IsSound-after, IsSound-empty}
+use Rattle.device_core.proofs.Stepping.{same_Some, None≢Some}
 
 -- the name after another request
 first_name-none : (a : Option Text) → first_name a None ≡ a

@@ -1,7 +1,7 @@
 -- Requests that need memory to report the files that they wake.
-use Rattle.std.proofs.Common.{◌≡◌, ℕ, ◌+◌, ◌^◌, ◌<◌, ◌≤◌, ◌⊎◌, zero, suc, inl, inr, Bool, true, false, not, ◌&&◌, ◌||◌, cond, refl, sym, ap, ◌∙◌, subst, Option, None, Some, is_some, option_map, arith}
+use Rattle.std.proofs.Common.{◌≡◌, ℕ, ◌+◌, ◌^◌, ◌<◌, ◌≤◌, zero, suc, inl, inr, Bool, true, false, not, ◌&&◌, ◌||◌, cond, refl, sym, ap, ◌∙◌, subst, Option, None, Some, is_some, option_map, arith}
 use Rattle.std.specs.List.{list_any, range_with_len}
-use Rattle.std.proofs.lemmas.Bool.{and_from, and_parts, cases_Bool, cases_eq, cases_lt, false≢true, lt-leb}
+use Rattle.std.proofs.lemmas.Bool.{and_from, cases_eq, cases_lt, false≢true, lt-leb}
 use Rattle.point_core.specs.Reach.{GREATEST}
 use Rattle.device_core.specs.declared.fence.Signal.{Signal}
 use Rattle.device_core.specs.declared.fence.Timeline.{Timeline}
@@ -12,7 +12,7 @@ use Rattle.device_core.specs.Buffers.{BufferState}
 use Rattle.device_core.specs.declared.refusal.Refusal.TheVariants.{NoEntry, NoMemory, Overflow}
 use Rattle.device_core.specs.State.{FileState, Objects, file_signalled, missing_timeline, raised}
 use Rattle.device_core.specs.Woken.{WakesSome, file_wakes}
-use Rattle.device_core.specs.Request.{IsCause, cause_of, closed, closed_timeline, dropped, has_signalled, is_waiting, overflow, risen, takes_memory, value_in, wakes_some, with_at, with_signals}
+use Rattle.device_core.specs.Request.{IsCause, cause_of, closed_timeline, dropped, has_signalled, is_waiting, overflow, takes_memory, value_in, wakes_some, with_at, with_signals}
 use Rattle.device_core.proofs.Answering.{wakes-is}
 use Rattle.device_core.proofs.Memory.{at_or_past, or_left, or_right}
 use Rattle.device_core.proofs.Sound.{with_at-same, with_at-other}

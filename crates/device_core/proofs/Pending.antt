@@ -1,5 +1,5 @@
 -- The pending fences of a file are the latest pending points among all that were put into it.
-use Rattle.std.proofs.Common.{◌≡◌, ◌≢◌, ℕ, ◌+◌, ◌-◌, ◌<◌, ◌≤◌, zero, suc, inl, inr, Bool, true, false, refl, sym, ap, ◌∙◌, List, [], ◌∷◌, length, map, filter, Option, None, Some, option_map, All, if◌then◌else◌, arith}
+use Rattle.std.proofs.Common.{◌≡◌, ◌≢◌, ℕ, ◌+◌, ◌-◌, ◌<◌, ◌≤◌, zero, suc, inl, inr, true, refl, sym, ap, ◌∙◌, List, [], ◌∷◌, length, map, Option, None, Some, option_map, All, if◌then◌else◌, arith}
 use Rattle.std.specs.List.{filter_map, cons_option, range_with_len}
 use Rattle.std.proofs.lemmas.Bool.{cases_eq, false≢true, lt-ltb, ltb-true}
 use Rattle.std.proofs.lemmas.List.FromFn.{length-map-range_with_len}
@@ -9,14 +9,14 @@ use Rattle.point_core.specs.declared.entry.Usage.{Usage}
 use Rattle.point_core.specs.declared.entry.Point.{Point}
 use Rattle.point_core.specs.Usage.{usage_number}
 use Rattle.point_core.specs.Reach.{value_at}
-use Rattle.point_core.specs.Agreement.{AgreesAbove, as_entry, later, pending, pending_top, point_of, top}
+use Rattle.point_core.specs.Agreement.{AgreesAbove, later, pending, pending_top, point_of, top}
 use Rattle.point_core.proofs.Agreement.{AgreesAbove-trans}
 use Rattle.point_core.proofs.Latest.{applies-true, applies-other}
 use Rattle.point_core.proofs.Listings.{filter_map-range_same}
 use Rattle.device_core.specs.declared.buffer_fence.BufferFence.{BufferFence}
 use Rattle.device_core.specs.declared.fence.Fence.{Fence}
 use Rattle.device_core.specs.declared.fence.Timeline.{Timeline}
-use Rattle.device_core.specs.Buffers.{AreWaiting, IsWaitingAt, at_usage, exported}
+use Rattle.device_core.specs.Buffers.{IsWaitingAt, at_usage, exported}
 use Rattle.device_core.specs.BufferWorld.{AreBufferFences, HasGivenTimelines}
 use Rattle.device_core.specs.Fences.{entries_in, is_pending, pending_of, point_in}
 use Rattle.device_core.specs.History.{reach_of, reached_by}
@@ -25,7 +25,7 @@ use Rattle.device_core.specs.Sound.{AreFences, IsFence, is_above}
 use Rattle.device_core.specs.State.{Objects}
 use Rattle.device_core.proofs.Placed.{Rising, Rising-from, entry_in, pending-Rising, pending-agrees}
 use Rattle.device_core.proofs.Exports.{exported-waits, top-at_usage}
-use Rattle.device_core.proofs.BufferSteps.{export-keeps, export-step}
+use Rattle.device_core.proofs.BufferSteps.{export-keeps}
 use Rattle.device_core.proofs.Sound.{fences-reached, value_at-reach_of}
 
 -- fences of rising timelines, and the top of each timeline

@@ -1,5 +1,5 @@
 -- The signals of files' fences along a history, and whether they are cancellations.
-use Rattle.std.proofs.Common.{◌≡◌, ◌≢◌, ℕ, ◌+◌, ◌<◌, ◌≤◌, ◌⊎◌, inl, inr, Bool, true, false, not, ◌&&◌, cond, nat_eq, nat_le, nat_lt, refl, sym, ap, ◌∙◌, subst, List, [], ◌∷◌, ◌++◌, append_assoc, append-nil, map, Option, None, Some, is_some, option_map, Result, Ok, Err, All, if◌then◌else◌, arith}
+use Rattle.std.proofs.Common.{◌≡◌, ℕ, ◌+◌, ◌<◌, ◌≤◌, ◌⊎◌, inl, inr, true, false, not, ◌&&◌, cond, nat_eq, nat_le, nat_lt, refl, sym, ap, ◌∙◌, subst, List, [], ◌∷◌, ◌++◌, append_assoc, append-nil, map, Option, None, Some, is_some, option_map, Result, Ok, Err, All, if◌then◌else◌, arith}
 use Rattle.std.proofs.lemmas.Bool.{and_parts, cases_Bool, cases_eq, cases_lt, eq-eqb, eqb-true, ne_eqb, false≢true, le-leb, le-ltb, leb-true, lt-leb, lt-ltb, ltb-true, ltb-false}
 use Rattle.std.proofs.lemmas.List.Elements.{All-nil, All-cons, All-head, All-tail, All-weaker, filter_passes}
 use Rattle.point_core.specs.declared.entry.Point.{Point}
@@ -16,10 +16,10 @@ use Rattle.device_core.specs.declared.request.Request.{Request}
 use Rattle.device_core.specs.declared.request.Request.TheVariants as request
 use Rattle.device_core.specs.Wrapping.{unwrapped}
 use Rattle.device_core.specs.Fences.{all_signalled_by, is_due, is_pending, merged, pending_of, point_in, signal_at, signalled_by, status_before, status_of}
-use Rattle.device_core.specs.Buffers.{BufferState, export_usage, exported}
-use Rattle.device_core.specs.State.{DeviceState, FileState, Objects, export_of, fence_at, file_at, file_signalled, merged_files, missing_timeline, one_fence_file, raised, timeline_at}
-use Rattle.device_core.specs.Request.{cause_of, closed, closed_timeline, dropped, overflow, value_in, with_at}
-use Rattle.device_core.specs.History.{AreAccepted, HasHistory, World, added_by, empty_world, reach_of, reached_by, sum_of, world_after, world_from, world_of}
+use Rattle.device_core.specs.Buffers.{BufferState, export_usage}
+use Rattle.device_core.specs.State.{DeviceState, FileState, Objects, export_of, fence_at, file_at, file_signalled, merged_files, missing_timeline, one_fence_file, timeline_at}
+use Rattle.device_core.specs.Request.{cause_of, closed_timeline, dropped, overflow, value_in, with_at}
+use Rattle.device_core.specs.History.{AreAccepted, HasHistory, World, added_by, empty_world, reach_of, sum_of, world_after, world_from, world_of}
 use Rattle.device_core.specs.Sound.{IsFence, IsSound, is_above}
 use Rattle.device_core.specs.Signals.{first_status, has_reached, point_status, reached_from, time_in}
 use Rattle.device_core.specs.Headline.{ReportsFences}

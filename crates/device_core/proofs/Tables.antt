@@ -1,6 +1,6 @@
 -- The tables of buffers, after every history.
-use Rattle.std.proofs.Common.{◌≡◌, ℕ, ◌+◌, ◌*◌, ◌<◌, ◌≤◌, ◌⊎◌, inl, inr, Bool, true, false, not, nat_eq, nat_le, ◌&&◌, ◌||◌, cond, refl, sym, ap, ◌∙◌, subst, List, [], ◌∷◌, ◌++◌, length, map, filter, max, All, Contains, arith}
-use Rattle.std.specs.Prelude.{⊤, Option, None, Some, is_some, option_map, fold, Result, Ok, Err, if◌then◌else◌}
+use Rattle.std.proofs.Common.{◌≡◌, ℕ, ◌*◌, ◌≤◌, ◌⊎◌, inl, inr, Bool, true, false, not, ◌&&◌, ◌||◌, refl, sym, ap, ◌∙◌, subst, List, [], ◌∷◌, length, map, filter, max, All, Contains, arith}
+use Rattle.std.specs.Prelude.{⊤, Option, None, Some, is_some, fold, Result, Ok, Err}
 use Rattle.std.specs.Cmp.{IsEquivalence}
 use Rattle.std.specs.List.{AllByRecursion, IsDistinct}
 use Rattle.std.specs.Set.{is_member, unique_keys}
@@ -11,7 +11,7 @@ use Rattle.std.proofs.lemmas.Map.Made.{All-is_member, length-le_from_is_member}
 use Rattle.point_core.specs.declared.entry.Entry.{Entry}
 use Rattle.point_core.specs.declared.entry.Usage.{Usage}
 use Rattle.point_core.specs.Usage.{usage_number}
-use Rattle.point_core.specs.Agreement.{Covers, covers}
+use Rattle.point_core.specs.Agreement.{covers}
 use Rattle.point_core.specs.Reach.{is_reached, value_at}
 use Rattle.point_core.proofs.Reached.{covers-Covers}
 use Rattle.device_core.specs.declared.buffer.TheConstants.{GROWTH, UNTRIMMED}
@@ -24,9 +24,9 @@ use Rattle.device_core.specs.declared.request.Request.TheVariants as request
 use Rattle.device_core.specs.Buffers.{BufferState, empty_buffer, entry_of, has_grown, import_into, import_usage, imported, is_waiting, put_as, waits_in, with_buffer_fence}
 use Rattle.device_core.specs.BufferWorld.{HasGivenTimelines}
 use Rattle.device_core.specs.Fences.{are_signalled, is_pending}
-use Rattle.device_core.specs.History.{AreAccepted, HasHistory, World, empty_world, reach_of, world_after, world_from, world_of}
+use Rattle.device_core.specs.History.{AreAccepted, HasHistory, World, empty_world, reach_of, world_after, world_from}
 use Rattle.device_core.specs.Memory.{AreTrimmed, is_same_entry, most_pending, pending_put}
-use Rattle.device_core.specs.Request.{closed, with_at}
+use Rattle.device_core.specs.Request.{with_at}
 use Rattle.device_core.specs.Sound.{IsFence, IsSound, is_above}
 use Rattle.device_core.specs.State.{DeviceState, FileState, Objects, import_of}
 use Rattle.device_core.proofs.BufferSteps.{value_of, with-All}

@@ -1,6 +1,6 @@
 use Rattle.std.proofs.Common.{◌∙◌, refl, sym, []}
 use Rattle.device_core.proofs.Held.{holds-range}
-use Rattle.device_core.proofs.Waking.{held_below, passed-none, passed-more, passed-all, not-put, none-woken}
+use Rattle.device_core.proofs.Waking.{held_below, passed-none, passed-more, not-put, none-woken}
 use Rattle.device_core.proofs.woken.wakes_some.Goals as goal
 
 pub loop-due-init : goal.loop-due-init

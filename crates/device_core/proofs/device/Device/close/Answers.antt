@@ -1,4 +1,4 @@
-use Rattle.std.proofs.Common.{◌≡◌, false, sym, subst, rules, IfErr, Result, Vec, Global, ℕ}
+use Rattle.std.proofs.Common.{sym, subst, rules, IfErr, Result, Vec, Global, ℕ}
 use Rattle.device_core.specs.declared.refusal.Refusal.{Refusal}
 use Rattle.device_core.specs.declared.request.Request.TheVariants as request
 use Rattle.device_core.specs.Request.{IsCause, cause_of, takes_memory}

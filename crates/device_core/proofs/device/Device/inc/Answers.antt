@@ -1,4 +1,4 @@
-use Rattle.std.proofs.Common.{◌≡◌, ◌↔◌, ◌⊎◌, ◌∙◌, ◌^◌, ◌<◌, ◌≤◌, ℕ, ◌+◌, true, false, inl, refl, sym, ap, subst, Contains, Option, Some, arith, rules}
+use Rattle.std.proofs.Common.{◌≡◌, ◌↔◌, ◌⊎◌, ◌^◌, ◌<◌, ◌≤◌, ℕ, ◌+◌, true, false, inl, refl, sym, subst, Contains, Option, Some, arith, rules}
 use Rattle.std.specs.Prelude.{IfSome}
 use Rattle.device_core.specs.declared.fence.Timeline.{Timeline}
 use Rattle.device_core.specs.declared.refusal.Refusal.TheVariants.{NoMemory, Overflow}

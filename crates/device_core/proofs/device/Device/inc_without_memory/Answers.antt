@@ -1,4 +1,4 @@
-use Rattle.std.proofs.Common.{◌≡◌, ◌+◌, ◌∙◌, ◌^◌, ◌<◌, ℕ, true, false, refl, sym, ap, subst, Some, arith, rules}
+use Rattle.std.proofs.Common.{◌≡◌, ◌+◌, ◌∙◌, ℕ, false, refl, ap, subst, Some, arith}
 use Rattle.device_core.specs.declared.refusal.Refusal.TheVariants.{NoMemory}
 use Rattle.device_core.specs.declared.request.Request.TheVariants as request
 use Rattle.device_core.specs.Request.{IsCause, cause_of, takes_memory}
