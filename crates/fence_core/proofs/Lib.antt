@@ -7,6 +7,7 @@ pub mod Pending
 pub mod PointIndex
 pub mod Registered
 pub mod Indexed
+mod Falling
 pub mod InOrder
 pub mod Fired
 pub mod Signalling

@@ -1,12 +1,10 @@
--- Queues of standing watches: their order, which watches they have, and one more or one less. The index of queues.
-use Rattle.std.proofs.Common.{◌≡◌, ◌≢◌, ℕ, ◌+◌, length, filter, zero, suc, get_or, set, ◌<◌, ◌≤◌, nat_eq, nat_le, ◌⊎◌, inl, inr, Bool, true, false, not, cond, ◌&&◌, ◌||◌, refl, sym, ap, ◌∙◌, subst, List, [], ◌∷◌, ◌++◌, Result, Ok, Err, OnOk, arith}
+-- Queues of standing watches: their order, and which watches they have. The index of queues.
+use Rattle.std.proofs.Common.{◌≡◌, ◌≢◌, ℕ, ◌+◌, length, zero, suc, get_or, set, ◌<◌, ◌≤◌, nat_eq, nat_le, ◌⊎◌, inl, inr, Bool, true, false, not, ◌&&◌, ◌||◌, refl, sym, ap, ◌∙◌, subst, List, [], ◌∷◌, ◌++◌, Result, Ok, Err, OnOk, arith}
 use Rattle.std.specs.declared.cmp.Ordering.{Ordering}
 use Rattle.std.specs.declared.cmp.Ordering.TheVariants.{Less, Equal, Greater}
-use Rattle.std.specs.Ordering.{is_eq, nat_cmp, ordering_then, match_ordering}
-use Rattle.std.specs.List.{list_any, AllByRecursion}
+use Rattle.std.specs.Ordering.{is_eq, nat_cmp, ordering_then}
+use Rattle.std.specs.List.{AllByRecursion}
 use Rattle.std.specs.List.Sorted.{IsStrictlySortedBy}
-use Rattle.std.specs.BTreeSet.{insert_key}
-use Rattle.std.specs.Set.{remove_key}
 use Rattle.std.proofs.lemmas.Bool.{and_parts, and_from, leb-true, eqb-true, eq-eqb, cases_Bool, false≢true}
 use Rattle.std.proofs.lemmas.Bool.Decides.{nat_tests}
 use Rattle.std.proofs.lemmas.Cmp.{ranked}
@@ -19,11 +17,6 @@ use Rattle.fence_core.specs.PointIndex.{waiting, is_same, standing_of, is_alike,
 use Rattle.fence_core.specs.declared.watches.point_index.WaitingPoint.{WaitingPoint}
 use Rattle.fence_core.specs.declared.watches.point_index.point_queue.Standing.{Standing}
 
-is_eq-then : (o p : Ordering) → is_eq (ordering_then o p) ≡ (is_eq o && is_eq p)
-is_eq-then Less p = refl
-is_eq-then Equal p = refl
-is_eq-then Greater p = refl
-
 pub is_eq-nat_cmp : (x y : ℕ) → is_eq (nat_cmp x y) ≡ nat_eq x y
 is_eq-nat_cmp x y = grind (arith, nat_tests)
 
@@ -32,13 +25,6 @@ less-nat x y e = ranked x y Less (sym e)
 
 pub equal-nat : (x y : ℕ) → nat_cmp x y ≡ Equal → x ≡ y
 equal-nat x y e = ranked x y Equal (sym e)
-
--- the order tells all watches apart
-pub is_eq-order : (a b : Standing) → is_eq (order a b) ≡ is_alike a b
-is_eq-order a b =
-    is_eq-then (nat_cmp a.value b.value) (nat_cmp a.registration b.registration)
-    ∙ ap (λ t. t && is_eq (nat_cmp a.registration b.registration)) (is_eq-nat_cmp a.value b.value)
-    ∙ ap (λ t. nat_eq a.value b.value && t) (is_eq-nat_cmp a.registration b.registration)
 
 less-value : (o p : Ordering) → ordering_then o p ≡ Less → (o ≡ Less) ⊎ (o ≡ Equal)
 less-value Less p h = inl refl
@@ -52,12 +38,12 @@ order-value a b less = elim (less-value _ _ less) [
 ]
 
 -- two that are alike are one
-one_standing : (a b : Standing) → is_alike a b ≡ true → a ≡ b
+pub one_standing : (a b : Standing) → is_alike a b ≡ true → a ≡ b
 one_standing a b alike =
     let parts = and_parts (nat_eq a.value b.value) (nat_eq a.registration b.registration) alike in
     λ i. record { value = eqb-true a.value b.value parts.0 i; registration = eqb-true a.registration b.registration parts.1 i }
 
-alike_itself : (a : Standing) → is_alike a a ≡ true
+pub alike_itself : (a : Standing) → is_alike a a ≡ true
 alike_itself a = and_from (nat_eq a.value a.value) (nat_eq a.registration a.registration) (eq-eqb a.value a.value refl) (eq-eqb a.registration a.registration refl)
 
 -- those after the first of a queue stand no lower
@@ -85,79 +71,6 @@ IsRising-rest q rest first rising is = (subst IsRising is rising).1
 
 pub has-first : (q rest : List Standing) (first : Standing) → q ≡ first ∷ rest → has q first ≡ true
 has-first q rest first is = ap (λ xs. has xs first) is ∙ ap (λ b. b || has rest first) (alike_itself first)
-
-found-has : (k : Standing) (ks : List Standing) → list_any (λ x. is_eq (order k x)) ks ≡ has ks k
-found-has k ks = λ i. list_any (λ x. is_eq-order k x i) ks
-
--- one more, and one taken out
-cond-or : (a b : Bool) → cond a true b ≡ (a || b)
-cond-or true b = refl
-cond-or false b = refl
-
-cond-and : (a b : Bool) → cond a false b ≡ (not a && b)
-cond-and true b = refl
-cond-and false b = refl
-
-pub has-put : (old new : List Standing) (key s : Standing) → list_any (λ x. is_eq (order s x)) new ≡ cond (is_eq (order key s)) true (list_any (λ x. is_eq (order s x)) old) → has new s ≡ (is_alike key s || has old s)
-has-put old new key s is =
-    sym (found-has s new) ∙ is
-    ∙ ap (λ b. cond b true (list_any (λ x. is_eq (order s x)) old)) (is_eq-order key s)
-    ∙ ap (λ b. cond (is_alike key s) true b) (found-has s old)
-    ∙ cond-or (is_alike key s) (has old s)
-
-pub has-taken : (old new : List Standing) (key s : Standing) → list_any (λ x. is_eq (order s x)) new ≡ cond (is_eq (order key s)) false (list_any (λ x. is_eq (order s x)) old) → has new s ≡ (not (is_alike key s) && has old s)
-has-taken old new key s is =
-    sym (found-has s new) ∙ is
-    ∙ ap (λ b. cond b false (list_any (λ x. is_eq (order s x)) old)) (is_eq-order key s)
-    ∙ ap (λ b. cond (is_alike key s) false b) (found-has s old)
-    ∙ cond-and (is_alike key s) (has old s)
-
--- one more that fails the test, and one less
-number-insert : (test : Standing → Bool) (key : Standing) (ks : List Standing) → test key ≡ false → number test (insert_key order ks key) ≡ number test ks
-number-insert test key [] none = ap (λ b. length (cond b (key ∷ []) [])) none
-number-insert test key (x ∷ ks) none = on (order key x) (number-insert test key ks none)
-  where
-    more : (b : Bool) (xs ys : List Standing) → length xs ≡ length ys → length (cond b (x ∷ xs) xs) ≡ length (cond b (x ∷ ys) ys)
-    more true xs ys is = omega arith
-    more false xs ys is = is
-
-    on : (o : Ordering) → number test (insert_key order ks key) ≡ number test ks → number test (match_ordering o (key ∷ x ∷ ks) (x ∷ ks) (x ∷ insert_key order ks key)) ≡ number test (x ∷ ks)
-    on Less rest = ap (λ b. length (cond b (key ∷ filter test (x ∷ ks)) (filter test (x ∷ ks)))) none
-    on Equal rest = refl
-    on Greater rest = more (test x) (filter test (insert_key order ks key)) (filter test ks) rest
-
-number-remove : (test : Standing → Bool) (key : Standing) (ks : List Standing) → ((x : Standing) → is_eq (order key x) ≡ true → test x ≡ test key) → number test (remove_key (λ x. is_eq (order key x)) ks) + cond (list_any (λ x. is_eq (order key x)) ks) (cond (test key) 1 0) 0 ≡ number test ks
-number-remove test key [] same = refl
-number-remove test key (x ∷ ks) same = on (is_eq (order key x)) refl (number-remove test key ks same)
-  where
-    first : (b c : Bool) (xs : List Standing) → b ≡ c → length xs + cond c 1 0 ≡ length (cond b (x ∷ xs) xs)
-    first true true xs e = omega arith
-    first false false xs e = omega arith
-    first true false xs e = absurd (cc)
-    first false true xs e = absurd (cc)
-
-    more : (b : Bool) (xs ys : List Standing) (n : ℕ) → length xs + n ≡ length ys → length (cond b (x ∷ xs) xs) + n ≡ length (cond b (x ∷ ys) ys)
-    more true xs ys n is = omega arith
-    more false xs ys n is = is
-
-    on : (b : Bool) → is_eq (order key x) ≡ b → number test (remove_key (λ x. is_eq (order key x)) ks) + cond (list_any (λ x. is_eq (order key x)) ks) (cond (test key) 1 0) 0 ≡ number test ks → number test (cond b ks (x ∷ remove_key (λ x. is_eq (order key x)) ks)) + cond (b || list_any (λ x. is_eq (order key x)) ks) (cond (test key) 1 0) 0 ≡ number test (x ∷ ks)
-    on true is rest = first (test x) (test key) (filter test ks) (same x is)
-    on false is rest = more (test x) (filter test (remove_key (λ x. is_eq (order key x)) ks)) (filter test ks) _ rest
-
--- a watch put in that is not low, and one taken out that is
-pub low-put : (value : ℕ) (key : Standing) (old new : List Standing) → new ≡ insert_key order old key → is_low value key ≡ false → number (is_low value) new ≡ number (is_low value) old
-low-put value key old new is high = ap (number (is_low value)) is ∙ number-insert (is_low value) key old high
-
-low-alike : (value : ℕ) (a b : Standing) → is_alike a b ≡ true → is_low value b ≡ is_low value a
-low-alike value a b alike = ap (is_low value) (sym (one_standing a b alike))
-
-pub low-taken : (value : ℕ) (key : Standing) (old new : List Standing) → new ≡ remove_key (λ x. is_eq (order key x)) old → is_low value key ≡ true → has old key ≡ true → number (is_low value) new < number (is_low value) old
-low-taken value key old new is low there =
-    let left = number (is_low value) (remove_key (λ x. is_eq (order key x)) old) in
-    let count : left + cond (list_any (λ x. is_eq (order key x)) old) (cond (is_low value key) 1 0) 0 ≡ number (is_low value) old = number-remove (is_low value) key old (λ x same. low-alike value key x (sym (is_eq-order key x) ∙ same)) in
-    let one : left + cond (list_any (λ x. is_eq (order key x)) old) (cond (is_low value key) 1 0) 0 ≡ left + 1 = ap (λ b. left + cond b (cond (is_low value key) 1 0) 0) (found-has key old ∙ there) ∙ ap (λ b. left + cond b 1 0) low in
-    let now : number (is_low value) new ≡ left = ap (number (is_low value)) is in
-    omega arith
 
 -- the index: no queues, and queues of which one has changed
 pub holds-nothing : (queues : List (List Standing)) (k : WaitingPoint) → queues ≡ [] → holds queues k ≡ false

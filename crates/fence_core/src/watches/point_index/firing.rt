@@ -83,7 +83,8 @@ fn report_low(
     ensures memory { IfErr result (λ e. e ≡ Memory) }
     ensures some_fires { OnErr result (Fires pending.now.entries reach.now) }
 {
-    for watch in queue.iter() {
+    for place in 0..queue.len() {
+        let watch = queue.at(place);
         if watch.value > value {
             return Ok(());
         }

@@ -1,37 +1,50 @@
 // The values of one context at which pending watches stand.
-ghost use Rattle.std.specs.Prelude.{◌≡◌, ◌<◌, ◌≤◌, true, false, not, ◌&&◌, ◌||◌, []};
+ghost use Rattle.std.specs.Prelude.{◌≡◌, ◌↔◌, ◌<◌, ◌≤◌, true, false, not, ◌&&◌, ◌||◌, ◌+◌, ◌∷◌, []};
+ghost use Rattle.std.specs.Prelude.{length, drop, reverse, IsTrue};
 ghost use Rattle.std.specs.Prelude.{OnOk, OnErr, IfErr, IfSome, IfNone};
 ghost use Rattle.point_core.specs.declared.refusal.Refusal.TheVariants.{Memory};
 ghost use Rattle.fence_core.specs.declared.watches.point_index.point_queue.Standing.{Standing as Stands};
-ghost use Rattle.fence_core.specs.PointIndex.{is_alike, has, is_low, number, IsRising};
+ghost use Rattle.fence_core.specs.PointIndex.{is_alike, has, is_low, number, StandsBefore, IsRising, IsPlaceOf, StandsAt};
 
 use crate::watches::registration::Registration;
 use point_core::Refusal;
 use std::alloc::Global;
-use std::collections::BTreeSet;
-use std::collections::btree_set::Iter;
 use std::marker::Model;
 
 /// A value of a context, and the registration of the watch that stands there.
-#[derive(Clone, Copy, PartialEq, Eq, PartialOrd, Ord)]
+#[derive(Clone, Copy, PartialEq, Eq)]
 pub(super) struct Standing {
     pub(super) value: u64,
     pub(super) registration: Registration,
 }
 
-/// The watches that stand in one context, by rising value, and by registration at one value.
+impl Standing {
+    /// Whether it stands at a lower value, or at the same value with an earlier registration.
+    fn is_before(&self, other: &Standing) -> bool
+        ensures { IsTrue result ↔ StandsBefore self.now other.now }
+    {
+        self.value < other.value
+            || (self.value == other.value && self.registration.0 < other.registration.0)
+    }
+}
+
+/// The watches that stand in one context, by falling value, and by falling registration at one value. Those that fire
+/// first are last, and leave without a move of the others.
 #[derive(Drop)]
 pub(super) struct PointQueue {
-    standing: BTreeSet<Standing>,
+    standing: Vec<Standing>,
 }
 
 impl Model for PointQueue {
     ghost use Rattle.std.specs.Prelude.{List};
     ghost use Rattle.fence_core.specs.declared.watches.point_index.point_queue.Standing.{Standing};
+    ghost use Rattle.fence_core.specs.PointIndex.{IsFalling};
 
     ghost Value = { List Standing };
 
-    ghost view = { λ q. q.standing.keys };
+    ghost view = { λ q. q.standing.items };
+
+    ghost invariant = { λ q. IsFalling q.standing.items };
 }
 
 impl PointQueue {
@@ -42,7 +55,7 @@ impl PointQueue {
         ensures { result ≡ [] }
     {
         PointQueue {
-            standing: BTreeSet::new(alloc),
+            standing: Vec::new(alloc),
         }
     }
 
@@ -56,7 +69,11 @@ impl PointQueue {
         ensures memory { IfErr result (λ e. e ≡ Memory) }
         ensures unchanged { OnErr result (self.new ≡ self.old) }
     {
-        let Ok(_added) = self.standing.insert(*watch) else {
+        let place = self.place_of(watch);
+        if self.has_at(place, watch) {
+            return Ok(());
+        }
+        let Ok(()) = self.standing.insert(place, *watch) else {
             return Err(Refusal::Memory);
         };
         Ok(())
@@ -68,26 +85,62 @@ impl PointQueue {
         ensures fewer { (value : ℕ) → is_low value watch.now ≡ true → has self.old watch.now ≡ true →
             number (is_low value) self.new < number (is_low value) self.old }
     {
-        self.standing.remove(watch);
+        let place = self.place_of(watch);
+        if self.has_at(place, watch) {
+            self.standing.remove(place);
+        }
     }
 
-    /// The first of them.
+    /// The first of them, which has the lowest value.
     pub(super) fn first(&self) -> Option<Standing>
         ensures some { IfSome result (λ first. has self.now first ≡ true) }
         ensures least { IfSome result (λ first. (s : Stands) → has self.now s ≡ true → first.value ≤ s.value) }
         ensures none { IfNone result ((s : Stands) → has self.now s ≡ false) }
     {
-        match self.standing.iter().next() {
-            Some(first) => Some(*first),
-            None => None,
+        if self.len() == 0 {
+            return None;
         }
+        Some(self.at(0))
     }
 
-    /// All of them, in order.
-    pub(super) fn iter(&self) -> Iter<'_, Standing>
-        ensures all { result ≡ self.now }
-        ensures rising { IsRising result }
+    /// How many there are, to go over them in rising order by `at`.
+    pub(super) fn len(&self) -> usize
+        ensures count { result ≡ length self.now }
+        ensures rising { IsRising (reverse self.now) }
     {
-        self.standing.iter()
+        self.standing.len()
+    }
+
+    /// The one at a place, from 0, in rising order.
+    pub(super) fn at(&self, place: usize) -> Standing
+        requires within { place < length self.now }
+        ensures steps { drop place (reverse self.now) ≡ result ∷ drop (place + 1) (reverse self.now) }
+    {
+        let last = self.len() - 1;
+        self.standing[last - place]
+    }
+
+    /// The place where the watch stands, or where it goes in.
+    fn place_of(&self, watch: &Standing) -> usize
+        ensures place { IsPlaceOf watch.now result self.now }
+    {
+        let mut low = 0;
+        let mut high = self.standing.len();
+        while low < high {
+            let middle = low + (high - low) / 2;
+            if watch.is_before(&self.standing[middle]) {
+                low = middle + 1;
+            } else {
+                high = middle;
+            }
+        }
+        low
+    }
+
+    /// Whether the watch stands at the place.
+    fn has_at(&self, place: usize, watch: &Standing) -> bool
+        ensures { IsTrue result ↔ StandsAt watch.now place self.now }
+    {
+        place < self.standing.len() && self.standing[place] == *watch
     }
 }

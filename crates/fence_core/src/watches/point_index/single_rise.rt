@@ -36,7 +36,9 @@ pub(super) fn gathered_in_order(
         return Ok(Some(fired.cookies));
     }
     let value = value_with(reach, point, point.ctx);
-    for watch in queues[index].iter() {
+    let queue = &queues[index];
+    for place in 0..queue.len() {
+        let watch = queue.at(place);
         if watch.value > value {
             return Ok(Some(fired.cookies));
         }

@@ -1,15 +1,28 @@
-use Rattle.std.proofs.Common.{◌∙◌, ◌&&◌, not, ap, arith}
-use Rattle.fence_core.specs.PointIndex.{is_alike, has, is_low, number}
-use Rattle.fence_core.proofs.PointIndex.{has-taken, low-taken}
+use Rattle.std.proofs.Common.{◌∙◌, ◌<◌, sym, ap, subst}
+use Rattle.std.specs.List.{remove}
+use Rattle.std.proofs.lemmas.Bool.{false≢true}
+use Rattle.fence_core.specs.PointIndex.{has, is_low, number, IsFalling}
+use Rattle.fence_core.proofs.Falling.{has-removed, number-removed, has-still, has-not}
 use Rattle.fence_core.proofs.watches.point_index.point_queue.PointQueue.take.Goals as goal
 
-pub returns-clause-taken : goal.returns-clause-taken
-returns-clause-taken c = λ s.
-    has-taken c.self.inside.standing.keys c.remove.new.self.keys c.args.watch.now s (c.remove.ensures.updates.0 s)
-    ∙ ap (λ q. not (is_alike c.args.watch.now s) && has q s) c.self.view_is
+pub returns-then-has_at-clause-taken : goal.returns-then-has_at-clause-taken
+returns-then-has_at-clause-taken c = λ s.
+    let p = c.place_of-place.result in
+    let is = c.remove.ensures.items ∙ ap (λ xs. remove xs p) c.self.view_is in
+    ap (λ xs. has xs s) is ∙ has-removed c.args.watch.now p c.args.self.now (subst IsFalling c.self.view_is c.self.invariant) c.place_of-place.ensures.place (c.has_at.ensures.0 c.if-has_at.true) s
 
-pub returns-clause-fewer : goal.returns-clause-fewer
-returns-clause-fewer c = λ value low there.
-    let less = low-taken value c.args.watch.now c.self.inside.standing.keys c.remove.new.self.keys c.remove.ensures.keys low (ap (λ q. has q c.args.watch.now) c.self.view_is ∙ there) in
-    let same = ap (number (is_low value)) c.self.view_is in
-    omega arith
+pub returns-then-has_at-clause-fewer : goal.returns-then-has_at-clause-fewer
+returns-then-has_at-clause-fewer c = λ value low there.
+    let q = c.args.self.now in
+    let p = c.place_of-place.result in
+    let is = c.remove.ensures.items ∙ ap (λ xs. remove xs p) c.self.view_is in
+    let stands = c.has_at.ensures.0 c.if-has_at.true in
+    subst (λ xs. number (is_low value) xs < number (is_low value) q) (sym is) (number-removed (is_low value) q p c.args.watch.now stands.0 stands.1 low)
+
+pub returns-else-has_at-clause-taken : goal.returns-else-has_at-clause-taken
+returns-else-has_at-clause-taken c = λ s.
+    has-still c.args.watch.now c.place_of-place.result c.args.self.now (subst IsFalling c.self.view_is c.self.invariant) c.place_of-place.ensures.place (λ stands. false≢true (sym c.if-has_at.false ∙ c.has_at.ensures.1 stands)) s
+
+pub returns-else-has_at-clause-fewer : goal.returns-else-has_at-clause-fewer
+returns-else-has_at-clause-fewer c = λ value low there.
+    absurd (false≢true (sym (has-not c.args.watch.now c.place_of-place.result c.args.self.now (subst IsFalling c.self.view_is c.self.invariant) c.place_of-place.ensures.place (λ stands. false≢true (sym c.if-has_at.false ∙ c.has_at.ensures.1 stands))) ∙ there))
