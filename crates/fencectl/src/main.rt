@@ -3,8 +3,8 @@
 //! reports what hangs in a trace of a kernel; or runs clients on threads, and prints what they settle.
 #![tactic(auto)]
 
+use fencectl_core::perform;
 use std::process::ExitCode;
-use subcommands::perform;
 
 fn main(rt: HostRuntime) -> ExitCode {
     ExitCode::from(perform(&rt, &rt))

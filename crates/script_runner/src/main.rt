@@ -2,8 +2,8 @@
 //! until `fencectl` is built, since it compiles in less than half the time.
 #![tactic(auto)]
 
+use fencectl_core::{FAULT, report_unread_word, run_script, tell_fault};
 use point_core::Refusal;
-use run_core::{FAULT, report_unread_word, run_script, tell_fault};
 use source_core::{Script, Source};
 use std::env;
 use std::process::ExitCode;

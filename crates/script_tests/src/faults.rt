@@ -1,6 +1,6 @@
 //! Tests of the line and the exit status of a fault.
+use fencectl_core::{FAULT, tell_fault};
 use point_core::Refusal;
-use run_core::{FAULT, tell_fault};
 use std::io;
 use std::io::Write;
 

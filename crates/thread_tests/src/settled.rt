@@ -1,6 +1,6 @@
 //! Tests of `clients`: the settled tables that the program prints, and a writer that fails.
 use crate::seats::holds;
-use command_line::{Clients, Table, clients_report, report_clients};
+use fencectl_core::{Clients, Table, clients_report, report_clients};
 use point_core::Refusal;
 use std::io;
 use std::io::Write;

@@ -1,4 +1,0 @@
-pub mod Asked
-pub mod Clients
-pub mod Color
-pub mod Words

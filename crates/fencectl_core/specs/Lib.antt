@@ -1,0 +1,8 @@
+pub mod Asked
+pub mod Clients
+pub mod Color
+pub mod Ends
+pub mod Fault
+pub mod Json
+pub mod Verdicts
+pub mod Words

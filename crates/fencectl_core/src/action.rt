@@ -1,0 +1,102 @@
+// What the program is to do.
+ghost use Rattle.std.specs.Prelude.{◌≤◌};
+ghost use Rattle.clients_core.specs.declared.plans.TheConstants.{CLIENTS};
+ghost use Rattle.clients_core.specs.declared.rounds.TheConstants.{ROUNDS};
+
+use source_core::Script;
+
+/// What the program is to do.
+#[derive(Drop)]
+pub(crate) enum Action<'a> {
+    /// Run a script, and print its answers.
+    Run(Script<'a>),
+    /// Run a script, and print its answers as JSON.
+    Json(Script<'a>),
+    /// Compare the answers of scripts with those that they expect.
+    Check(Check<'a>),
+    /// Rewrite scripts so that they expect what they answer: files, and those below folders.
+    Update(Vec<&'a str>),
+    /// Run a script, print its answers, and explain why lines were refused.
+    Explain(Script<'a>),
+    /// Read a trace, and report what hangs.
+    Trace(Trace<'a>),
+    /// Draw a picture of a script's run, or a graph of what it leaves.
+    Draw(Draw<'a>),
+    /// Run clients on threads, and print what they settle.
+    Clients(Clients),
+    /// End with this status: help or the version is printed, or wrong usage is reported.
+    End(u8),
+}
+
+/// Which scripts are checked, and how.
+#[derive(Drop)]
+pub(crate) struct Check<'a> {
+    /// Files, folders, and `-` for standard input.
+    pub paths: Vec<&'a str>,
+    pub report: Report,
+    /// Whether a script may expect nothing.
+    pub allows_empty: bool,
+}
+
+/// What is drawn of a script, and where. The texts are those of the command line.
+#[derive(Clone, Copy)]
+pub(crate) struct Draw<'a> {
+    pub script: Script<'a>,
+    /// A graph in the place of a picture.
+    pub graph: bool,
+    /// The line after which a graph is drawn.
+    pub line: Option<&'a str>,
+    /// The lines that a picture has.
+    pub lines: Option<&'a str>,
+    /// The file that is written.
+    pub output: Option<&'a str>,
+}
+
+/// What a check reports.
+#[derive(Clone, Copy)]
+pub(crate) enum Report {
+    /// Each answer that differs, each script that does not pass, and the counts.
+    All,
+    /// Only the counts.
+    Counts,
+    /// Tests of the Test Anything Protocol.
+    Tap,
+}
+
+/// Where a trace is read from, and what is written of it.
+#[derive(Clone, Copy)]
+pub(crate) struct Trace<'a> {
+    /// A file, or standard input.
+    pub text: Script<'a>,
+    /// Whether the report is a JSON document.
+    pub is_json: bool,
+    /// Whether what happened is written as a script.
+    pub is_script: bool,
+    /// Whether it is drawn.
+    pub is_drawing: bool,
+    /// Whether it is written as trace events, which Perfetto opens.
+    pub is_perfetto: bool,
+    /// Where the window begins, in seconds.
+    pub from: Option<&'a str>,
+    /// Where it ends.
+    pub to: Option<&'a str>,
+}
+
+/// How many clients, how many rounds each of them makes, and what they share.
+#[derive(Clone, Copy)]
+pub struct Clients {
+    pub count: usize,
+    pub rounds: u64,
+    pub table: Table,
+    ghost counted: { (1 ≤ count) × (count ≤ CLIENTS) },
+    ghost bounded: { (1 ≤ rounds) × (rounds ≤ ROUNDS) },
+}
+
+/// The table that clients share.
+#[derive(Clone, Copy)]
+pub enum Table {
+    /// A board of words, without a lock.
+    Board,
+    /// Buffers under locks.
+    Locks,
+}

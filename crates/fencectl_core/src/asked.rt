@@ -1,0 +1,222 @@
+// What the matches of a command line ask for.
+ghost use Rattle.std.specs.Prelude.{◌≡◌, ◌≤◌, IfOk, Some, codes, map, option_map};
+ghost use Rattle.clap.specs.Words.{all_of, found_of, first_of, one_of, rows_of, subcommand_rows_of};
+ghost use Rattle.source_core.specs.Script.{file_named, file_of};
+ghost use Rattle.fencectl_core.specs.Asked.{
+  asked_after,
+  asked_by,
+  asked_of,
+  asked_of_check,
+  asked_of_draw,
+  asked_of_trace,
+  asked_on,
+  check_after,
+  check_or_update,
+  draw_after,
+  flag_named,
+  number_named,
+  paths_named,
+  report_named,
+  run_or_json,
+  table_named,
+  trace_after,
+};
+
+use crate::action::{Action, Check, Clients, Draw, Report, Table, Trace};
+use crate::subcommands::{
+    ALLOW_EMPTY, CHECK, CLIENTS_WORD, COUNT, DRAW, EXPLAIN, FILE, FROM, GRAPH, JSON, LINE, LINES,
+    LOCKS, OUTPUT, PATH, PERFETTO, QUIET, ROUNDS_WORD, SCRIPT, TAP, TO, TRACE, UPDATE,
+};
+use clap::ArgMatches;
+use clients_core::{CLIENTS, ROUNDS};
+use point_core::{LimitKind, Refusal};
+use source_core::Script;
+use std::alloc::Global;
+
+/// What the matches of a command line ask for.
+///
+/// Fails with `Limit` of the clients or of the plan if one of their numbers is not in its range, which the command line
+/// refuses earlier.
+pub(crate) fn action_by<'a>(alloc: Global, matches: &ArgMatches<'a>) -> Result<Action<'a>, Refusal>
+    ensures asked { IfOk result (λ action. asked_of action ≡ Some (asked_by (subcommand_rows_of matches.now))) }
+{
+    match matches.subcommand() {
+        Some((word, matches)) => action_after(alloc, word, matches),
+        None => Ok(Action::Run(Script::StandardInput)),
+    }
+}
+
+/// By the word of a subcommand, and what follows it.
+fn action_after<'a>(
+    alloc: Global,
+    word: &str,
+    matches: &ArgMatches<'a>,
+) -> Result<Action<'a>, Refusal>
+    ensures asked { IfOk result (λ action. asked_of action
+        ≡ Some (asked_after word.now (rows_of (found_of matches.now)))) }
+{
+    if word == CLIENTS_WORD {
+        return Ok(Action::Clients(clients_of(matches)?));
+    }
+    if word == CHECK {
+        return check_action(alloc, matches);
+    }
+    if word == TRACE {
+        return Ok(Action::Trace(trace_of(matches)));
+    }
+    if word == DRAW {
+        return Ok(Action::Draw(draw_of(matches)));
+    }
+    Ok(action_on(word, matches))
+}
+
+fn check_action<'a>(alloc: Global, matches: &ArgMatches<'a>) -> Result<Action<'a>, Refusal>
+    ensures asked { IfOk result (λ action. asked_of action
+        ≡ Some (check_or_update (rows_of (found_of matches.now)))) }
+{
+    if has_flag(matches, UPDATE) {
+        Ok(Action::Update(paths_of(alloc, matches)?))
+    } else {
+        Ok(Action::Check(check_of(alloc, matches)?))
+    }
+}
+
+/// What a word asks for of a script.
+fn action_on<'a>(word: &str, matches: &ArgMatches<'a>) -> Action<'a>
+    ensures asked { asked_of result ≡ Some (asked_on word.now (rows_of (found_of matches.now))) }
+{
+    if word == EXPLAIN {
+        Action::Explain(script_of(matches))
+    } else {
+        run_action(matches)
+    }
+}
+
+fn run_action<'a>(matches: &ArgMatches<'a>) -> Action<'a>
+    ensures asked { asked_of result ≡ Some (run_or_json (rows_of (found_of matches.now))) }
+{
+    if has_flag(matches, JSON) {
+        Action::Json(script_of(matches))
+    } else {
+        Action::Run(script_of(matches))
+    }
+}
+
+fn trace_of<'a>(matches: &ArgMatches<'a>) -> Trace<'a>
+    ensures asked { asked_of_trace result ≡ trace_after (rows_of (found_of matches.now)) }
+{
+    Trace {
+        text: script_of(matches),
+        is_json: has_flag(matches, JSON),
+        is_script: has_flag(matches, SCRIPT),
+        is_drawing: has_flag(matches, DRAW),
+        is_perfetto: has_flag(matches, PERFETTO),
+        from: text_of(matches, FROM),
+        to: text_of(matches, TO),
+    }
+}
+
+fn script_of<'a>(matches: &ArgMatches<'a>) -> Script<'a>
+    ensures { file_of result ≡ file_named (first_of (codes "FILE") (rows_of (found_of matches.now))) }
+{
+    match matches.get_str(FILE) {
+        Some(name) => Script::named(name),
+        None => Script::StandardInput,
+    }
+}
+
+fn draw_of<'a>(matches: &ArgMatches<'a>) -> Draw<'a>
+    ensures asked { asked_of_draw result ≡ draw_after (rows_of (found_of matches.now)) }
+{
+    Draw {
+        script: script_of(matches),
+        graph: has_flag(matches, GRAPH),
+        line: text_of(matches, LINE),
+        lines: text_of(matches, LINES),
+        output: text_of(matches, OUTPUT),
+    }
+}
+
+/// The text of that name.
+fn text_of<'a>(matches: &ArgMatches<'a>, name: &str) -> Option<&'a str>
+    ensures { option_map (λ t. t.now) result ≡ first_of name.now (rows_of (found_of matches.now)) }
+{
+    matches.get_str(name)
+}
+
+fn check_of<'a>(alloc: Global, matches: &ArgMatches<'a>) -> Result<Check<'a>, Refusal>
+    ensures asked { IfOk result (λ check. asked_of_check check ≡ check_after (rows_of (found_of matches.now))) }
+{
+    Ok(Check {
+        paths: paths_of(alloc, matches)?,
+        report: report_of(matches),
+        allows_empty: has_flag(matches, ALLOW_EMPTY),
+    })
+}
+
+fn paths_of<'a>(alloc: Global, matches: &ArgMatches<'a>) -> Result<Vec<&'a str>, Refusal>
+    ensures paths { IfOk result (λ paths. map (λ p. p.now) paths.items
+        ≡ paths_named (all_of (codes "PATH") (rows_of (found_of matches.now)))) }
+{
+    match matches.get_strs(PATH) {
+        Some(paths) => Ok(Vec::from_slice(alloc, paths)?),
+        None => Ok(Vec::new(alloc)),
+    }
+}
+
+fn report_of(matches: &ArgMatches<'_>) -> Report
+    ensures { result ≡ report_named (rows_of (found_of matches.now)) }
+{
+    if has_flag(matches, TAP) {
+        Report::Tap
+    } else if has_flag(matches, QUIET) {
+        Report::Counts
+    } else {
+        Report::All
+    }
+}
+
+fn has_flag(matches: &ArgMatches<'_>, name: &str) -> bool
+    ensures { result ≡ flag_named (one_of name.now (rows_of (found_of matches.now))) }
+{
+    matches.get_one(name).unwrap_or(false)
+}
+
+fn clients_of(matches: &ArgMatches<'_>) -> Result<Clients, Refusal>
+    ensures count { IfOk result (λ clients. clients.count
+        ≡ number_named (one_of (codes "N") (rows_of (found_of matches.now)))) }
+    ensures rounds { IfOk result (λ clients. clients.rounds
+        ≡ number_named (one_of (codes "ROUNDS") (rows_of (found_of matches.now)))) }
+    ensures table { IfOk result (λ clients. clients.table ≡ table_named (rows_of (found_of matches.now))) }
+{
+    let count = usize::from(number_of(matches, COUNT));
+    if !(1..=CLIENTS).contains(&count) {
+        return Err(Refusal::Limit(LimitKind::Clients));
+    }
+    let rounds = u64::from(number_of(matches, ROUNDS_WORD));
+    if !(1..=ROUNDS).contains(&rounds) {
+        return Err(Refusal::Limit(LimitKind::Plan));
+    }
+    Ok(Clients {
+        count,
+        rounds,
+        table: table_of(matches),
+    })
+}
+
+/// The number of that name, or 0 if there is none.
+fn number_of(matches: &ArgMatches<'_>, name: &str) -> u16
+    ensures { 1 ≤ result → result ≡ number_named (one_of name.now (rows_of (found_of matches.now))) }
+{
+    matches.get_one(name).unwrap_or(0)
+}
+
+fn table_of(matches: &ArgMatches<'_>) -> Table
+    ensures { result ≡ table_named (rows_of (found_of matches.now)) }
+{
+    if has_flag(matches, LOCKS) {
+        Table::Locks
+    } else {
+        Table::Board
+    }
+}

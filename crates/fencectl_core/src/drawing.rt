@@ -1,0 +1,197 @@
+// Pictures and graphs of a script's run.
+use crate::action::Draw;
+use crate::fault::FAULT;
+use crate::status::{ACCEPTED, REFUSED};
+use draw_core::{COLUMNS, Drawing, Run, Window, count_lines};
+use line_core::SCRIPT_BYTES;
+use picture_core::{History, dot_text};
+use point_core::Refusal;
+use report_core::write_whole;
+use source_core::{Script, Source, put_file, reported};
+use std::io::{Read, Write};
+
+/// Draws a script's run, and writes the picture or the graph to standard output or to a file, which is written as a whole or not
+/// at all. Gives the status: 1 if a line was refused. Options that don't fit are reported, with the status of a fault.
+pub(crate) fn draw(rt: &HostRuntime, asked: &Draw<'_>) -> Result<u8, Refusal> {
+    match window_of(asked) {
+        Some(window) => draw_lines(rt, asked, &window),
+        None => report_mistake(rt, wrong_options(asked)),
+    }
+}
+
+// A function that owns much memory only hands on a reference to it.
+
+fn draw_lines(rt: &HostRuntime, asked: &Draw<'_>, window: &Window) -> Result<u8, Refusal> {
+    let script = script_of(rt, asked.script)?;
+    draw_script(rt, asked, window, script.as_slice())
+}
+
+fn draw_script(
+    rt: &HostRuntime,
+    asked: &Draw<'_>,
+    window: &Window,
+    script: &[u8],
+) -> Result<u8, Refusal> {
+    if is_too_long(rt, asked, script)? {
+        return report_mistake(rt, TOO_LONG);
+    }
+    if asked.graph {
+        draw_graph(rt, asked.output, window, script)
+    } else {
+        draw_picture(rt, asked.output, window, script)
+    }
+}
+
+fn draw_graph(
+    rt: &HostRuntime,
+    output: Option<&str>,
+    window: &Window,
+    script: &[u8],
+) -> Result<u8, Refusal> {
+    let mut run = Run::of(rt.alloc(), script, window)?;
+    write_graph(rt, output, &mut run)
+}
+
+fn write_graph(rt: &HostRuntime, output: Option<&str>, run: &mut Run) -> Result<u8, Refusal> {
+    let document = graph_of(rt, run)?;
+    write_document(rt, output, document.as_slice(), status_of(run.history()))
+}
+
+fn graph_of(rt: &HostRuntime, run: &mut Run) -> Result<Vec<u8>, Refusal> {
+    let graph = run.graph()?;
+    dot_text(rt.alloc(), &graph)
+}
+
+fn draw_picture(
+    rt: &HostRuntime,
+    output: Option<&str>,
+    window: &Window,
+    script: &[u8],
+) -> Result<u8, Refusal> {
+    let drawing = Drawing::of(rt.alloc(), script, window)?;
+    write_picture(rt, output, &drawing, status_of(drawing.history()))
+}
+
+fn write_picture(
+    rt: &HostRuntime,
+    output: Option<&str>,
+    drawing: &Drawing,
+    status: u8,
+) -> Result<u8, Refusal> {
+    let document = drawing.svg(rt.alloc())?;
+    write_document(rt, output, document.as_slice(), status)
+}
+
+fn status_of(history: &History) -> u8 {
+    if history.refused { REFUSED } else { ACCEPTED }
+}
+
+/// Draws a script that what happened in a trace was written as, to standard output.
+pub(crate) fn draw_trace(rt: &HostRuntime, script: &[u8]) -> Result<u8, Refusal> {
+    if count_lines(rt.alloc(), script)? > COLUMNS {
+        return report_mistake(rt, TOO_LONG_A_WINDOW);
+    }
+    let drawing = Drawing::of(rt.alloc(), script, &Window::whole())?;
+    write_picture(rt, None, &drawing, ACCEPTED)
+}
+
+const TOO_LONG_A_WINDOW: &str =
+    "fencectl: more than 500 commands happened; choose a window with --from and --to";
+
+const TOO_LONG: &str =
+    "fencectl: the script has more than 500 commands; choose the lines with --lines A..B";
+
+/// The lines that are drawn, or none if the options name no such lines.
+fn window_of(asked: &Draw<'_>) -> Option<Window> {
+    if asked.graph {
+        graph_window(asked)
+    } else {
+        picture_window(asked)
+    }
+}
+
+fn picture_window(asked: &Draw<'_>) -> Option<Window> {
+    if asked.line.is_some() {
+        return None;
+    }
+    match asked.lines {
+        Some(lines) => Window::read(lines),
+        None => Some(Window::whole()),
+    }
+}
+
+/// A graph has no columns.
+fn graph_window(asked: &Draw<'_>) -> Option<Window> {
+    if asked.lines.is_some() {
+        return None;
+    }
+    match asked.line {
+        Some(line) => Some(Window::after(line.parse().ok()?)),
+        None => Some(Window::after(u32::MAX)),
+    }
+}
+
+fn wrong_options(asked: &Draw<'_>) -> &'static str {
+    if asked.graph && asked.lines.is_some() {
+        "fencectl: a graph is drawn after one line, with --line N"
+    } else if asked.graph {
+        "fencectl: --line takes the number of a line"
+    } else if asked.line.is_some() {
+        "fencectl: --line goes with --graph; a picture has --lines A..B"
+    } else {
+        "fencectl: --lines takes A..B, the numbers of a first and a last line"
+    }
+}
+
+pub(crate) fn report_mistake(rt: &HostRuntime, message: &str) -> Result<u8, Refusal> {
+    eprintln!(rt; "{message}").map_err(|_| Refusal::Write)?;
+    Ok(FAULT)
+}
+
+fn script_of(rt: &HostRuntime, script: Script<'_>) -> Result<Vec<u8>, Refusal> {
+    let mut source = Source::open(rt, script, rt.stdin())?;
+    read_script(rt, &mut source)
+}
+
+/// The script, up to one byte past its limit.
+fn read_script<S: Read>(rt: &HostRuntime, source: &mut S) -> Result<Vec<u8>, Refusal> {
+    let mut script = Vec::new(rt.alloc());
+    let most = SCRIPT_BYTES as u64;
+    match source.take(most.saturating_add(1)).read_to_end(&mut script) {
+        Ok(_) => Ok(script),
+        Err(_) => Err(Refusal::Read),
+    }
+}
+
+/// Whether a picture would have too many columns, if no lines were chosen.
+fn is_too_long(rt: &HostRuntime, asked: &Draw<'_>, script: &[u8]) -> Result<bool, Refusal> {
+    if asked.graph || asked.lines.is_some() {
+        return Ok(false);
+    }
+    Ok(count_lines(rt.alloc(), script)? > COLUMNS)
+}
+
+/// Gives that status once the document is written.
+fn write_document(
+    rt: &HostRuntime,
+    output: Option<&str>,
+    document: &[u8],
+    status: u8,
+) -> Result<u8, Refusal> {
+    match output {
+        Some(name) => match reported(rt, name, put_file(rt, name, document)) {
+            Ok(()) => Ok(status),
+            Err(_) => Err(Refusal::Write),
+        },
+        None => write_output(rt, document, status),
+    }
+}
+
+pub(crate) fn write_output(rt: &HostRuntime, document: &[u8], status: u8) -> Result<u8, Refusal> {
+    let mut output = rt.stdout();
+    write_whole(&mut output, document)?;
+    match output.flush() {
+        Ok(()) => Ok(status),
+        Err(_) => Err(Refusal::Write),
+    }
+}

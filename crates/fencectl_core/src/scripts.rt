@@ -1,0 +1,42 @@
+// JSON and explanations of a script, each with its exit status.
+ghost use Rattle.std.specs.Prelude.{◌≡◌, Result};
+ghost use Rattle.point_core.specs.declared.refusal.Refusal.{Refusal};
+ghost use Rattle.script_core.specs.declared.totals.Totals.{Totals};
+ghost use Rattle.fencectl_core.specs.Ends.{EndsRun, ReportsFault, run_status};
+ghost use Rattle.fencectl_core.specs.Json.{EndsJson};
+
+use crate::status::status_of_run;
+use json_core::run_json;
+use reason_core::{Look, explain};
+use std::alloc::Global;
+use std::io::{Read, Write};
+
+/// Runs the script of a reader, and writes its answers as JSON. A fault is reported on `errors`.
+pub(crate) fn json_script<R: Read, W: Write, E: Write>(
+    alloc: Global,
+    reader: &mut R,
+    writer: &mut W,
+    errors: &mut E,
+) -> u8
+    ensures ended { (ended : Result Totals Refusal) × (result ≡ run_status ended)
+        × EndsJson ended (R.remaining reader.old) (R.remaining reader.new) (W.contents writer.old) (W.contents writer.new)
+        × ReportsFault ended (E.contents errors.old) (E.contents errors.new) }
+{
+    let ended = run_json(alloc, reader, writer);
+    status_of_run(ended, errors)
+}
+
+/// Runs the script of a reader, and explains on `errors` why lines were refused. A fault is reported there too.
+pub(crate) fn explain_script<R: Read, W: Write, E: Write>(
+    alloc: Global,
+    look: Look,
+    reader: &mut R,
+    writer: &mut W,
+    errors: &mut E,
+) -> u8
+    ensures ended { (ended : Result Totals Refusal) × (result ≡ run_status ended)
+        × EndsRun ended (R.remaining reader.old) (R.remaining reader.new) (W.contents writer.old) (W.contents writer.new) }
+{
+    let ended = explain(alloc, look, reader, writer, errors);
+    status_of_run(ended, errors)
+}

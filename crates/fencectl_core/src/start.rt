@@ -1,0 +1,194 @@
+// The command line of the program, and what it asks for.
+use crate::action::{Action, Check, Report};
+use crate::clients::report_clients;
+use crate::color::{ColorChoice, Colors, take_color};
+use crate::drawing::draw;
+use crate::fault::{FAULT, tell_fault};
+use crate::run::run_script;
+use crate::scripts::{explain_script, json_script};
+use crate::status::{ACCEPTED, status_of_verdict};
+use crate::traces::trace;
+use crate::unread_word::report_unread_word;
+use crate::usage::action_of;
+use check_core::{CheckForm, Plan, check_scripts, update_scripts};
+use point_core::Refusal;
+use reason_core::Look;
+use source_core::{Prompted, Script, Source, script_files};
+use std::env;
+use std::io::IsTerminal;
+use std::sync::Wait;
+use std::thread::Threads;
+
+/// What a session at a terminal begins with.
+const GREETING: &str =
+    "fencectl: type one command a line; Ctrl-D leaves, and 'fencectl --help' lists the commands";
+
+/// Reads the command line, and does what it asks for. Gives the exit status: that of a fault is 2, and the fault is reported on
+/// standard error.
+pub fn perform<T: Threads + Wait + Sync>(rt: &HostRuntime, threads: &T) -> u8 {
+    start(rt, threads).unwrap_or_else(|refusal| tell_fault(&refusal, &mut rt.stderr()))
+}
+
+fn start<T: Threads + Wait + Sync>(rt: &HostRuntime, threads: &T) -> Result<u8, Refusal> {
+    match env::args(rt) {
+        Ok(words) => {
+            let mut words: Vec<String> = words.collect(rt.alloc())?;
+            match take_color(rt, &mut words)? {
+                Some(choice) => start_by(rt, threads, choice, words.as_slice()),
+                None => Ok(FAULT),
+            }
+        }
+        Err(error) => report_unread_word(rt, error),
+    }
+}
+
+fn start_by<T: Threads + Wait + Sync>(
+    rt: &HostRuntime,
+    threads: &T,
+    choice: ColorChoice,
+    words: &[String],
+) -> Result<u8, Refusal> {
+    let plain = is_plain(rt);
+    let colors = Colors {
+        output: choice.is_on(rt.stdout().is_terminal(), plain),
+        errors: choice.is_on(rt.stderr().is_terminal(), plain),
+    };
+    act(
+        rt,
+        threads,
+        colors,
+        action_of(rt, rt.alloc(), colors, words)?,
+    )
+}
+
+/// Whether the environment asks for output without colours: by `NO_COLOR`, or by a terminal that has none.
+fn is_plain(rt: &HostRuntime) -> bool {
+    let no_color = match env::var(rt, "NO_COLOR") {
+        Ok(value) => !value.is_empty(),
+        Err(_) => false,
+    };
+    let dumb = match env::var(rt, "TERM") {
+        Ok(value) => value.as_str() == "dumb",
+        Err(_) => false,
+    };
+    no_color || dumb
+}
+
+/// Does it. Gives the exit status.
+fn act<T: Threads + Wait + Sync>(
+    rt: &HostRuntime,
+    threads: &T,
+    colors: Colors,
+    action: Action,
+) -> Result<u8, Refusal> {
+    match action {
+        Action::Run(script) => run(rt, colors, script),
+        Action::Json(script) => json(rt, script),
+        Action::Check(asked) => check(rt, colors, &asked),
+        Action::Update(paths) => update(rt, paths.as_slice()),
+        Action::Explain(script) => explain(rt, colors, script),
+        Action::Trace(asked) => trace(rt, &asked),
+        Action::Draw(asked) => draw(rt, &asked),
+        Action::Clients(clients) => {
+            report_clients(threads, rt.alloc(), &clients, &mut rt.stdout())?;
+            Ok(ACCEPTED)
+        }
+        Action::End(status) => Ok(status),
+    }
+}
+
+/// Runs a script. One that is typed at a terminal is asked for line by line, and explained.
+fn run(rt: &HostRuntime, colors: Colors, script: Script) -> Result<u8, Refusal> {
+    if is_typed(rt, script) {
+        return converse(rt, colors);
+    }
+    let mut source = Source::open(rt, script, rt.stdin())?;
+    Ok(run_script(rt.alloc(), &mut source, &mut rt.stdout(), &mut rt.stderr()))
+}
+
+/// Whether the script is typed at a terminal, and errors are seen there.
+fn is_typed(rt: &HostRuntime, script: Script) -> bool {
+    match script {
+        Script::StandardInput => rt.stdin().is_terminal() && rt.stderr().is_terminal(),
+        Script::File(_) => false,
+    }
+}
+
+/// Answers and explains what is typed, line by line.
+fn converse(rt: &HostRuntime, colors: Colors) -> Result<u8, Refusal> {
+    eprintln!(rt; "{GREETING}").map_err(|_| Refusal::Write)?;
+    let mut reader = Prompted::new(rt.stdin(), rt.stderr());
+    Ok(explain_script(
+        rt.alloc(),
+        look(colors),
+        &mut reader,
+        &mut rt.stdout(),
+        &mut rt.stderr(),
+    ))
+}
+
+fn json(rt: &HostRuntime, script: Script) -> Result<u8, Refusal> {
+    let mut source = Source::open(rt, script, rt.stdin())?;
+    Ok(json_script(rt.alloc(), &mut source, &mut rt.stdout(), &mut rt.stderr()))
+}
+
+fn check(rt: &HostRuntime, colors: Colors, asked: &Check) -> Result<u8, Refusal> {
+    let names = script_files(rt, asked.paths.as_slice())?;
+    let plan = Plan {
+        form: form_of(rt, colors, asked.report),
+        allows_empty: asked.allows_empty,
+    };
+    let verdict = check_scripts(
+        rt,
+        &plan,
+        names.as_slice(),
+        rt.stdin(),
+        &mut rt.stdout(),
+        &mut rt.stderr(),
+    )?;
+    Ok(status_of_verdict(verdict))
+}
+
+fn update(rt: &HostRuntime, paths: &[&str]) -> Result<u8, Refusal> {
+    let names = script_files(rt, paths)?;
+    let verdict = update_scripts(rt, names.as_slice(), &mut rt.stderr())?;
+    Ok(status_of_verdict(verdict))
+}
+
+fn form_of(rt: &HostRuntime, colors: Colors, report: Report) -> CheckForm {
+    match report {
+        Report::All => CheckForm::Lines {
+            bold: colors.errors,
+        },
+        Report::Counts => CheckForm::Counts,
+        Report::Tap => CheckForm::Tap(tap_version(rt)),
+    }
+}
+
+/// Perl's harness, which names itself in the environment, knows no later version than 13. What is written is the same in both.
+fn tap_version(rt: &HostRuntime) -> u64 {
+    match env::var(rt, "HARNESS_VERSION") {
+        Ok(_) => 13,
+        Err(_) => 14,
+    }
+}
+
+fn explain(rt: &HostRuntime, colors: Colors, script: Script) -> Result<u8, Refusal> {
+    let mut source = Source::open(rt, script, rt.stdin())?;
+    Ok(explain_script(
+        rt.alloc(),
+        look(colors),
+        &mut source,
+        &mut rt.stdout(),
+        &mut rt.stderr(),
+    ))
+}
+
+/// Bold if errors are coloured, else plain.
+fn look(colors: Colors) -> Look {
+    if colors.errors {
+        Look::Bold
+    } else {
+        Look::Plain
+    }
+}

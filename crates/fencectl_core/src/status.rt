@@ -1,0 +1,48 @@
+// Exit statuses.
+ghost use Rattle.std.specs.Prelude.{◌≡◌, ◌==◌, if◌then◌else◌};
+ghost use Rattle.fencectl_core.specs.Ends.{ReportsFault, run_status};
+ghost use Rattle.fencectl_core.specs.Verdicts.{check_status};
+
+use crate::fault::{FAULT, tell_fault};
+use check_core::Verdict;
+use point_core::Refusal;
+use script_core::Totals;
+use std::io::Write;
+
+/// Every line was accepted, every answer was as expected, the clients settled, or nothing hangs.
+pub const ACCEPTED: u8 = 0;
+/// A line was refused, an answer differs, or something hangs.
+pub const REFUSED: u8 = 1;
+
+/// The status of a script that was answered to its end: 0 if every line was accepted, 1 if one was refused.
+fn status_of_totals(totals: Totals) -> u8
+    ensures { result ≡ (if totals.refused == 0 then 0 else 1) }
+{
+    if totals.refused == 0 {
+        ACCEPTED
+    } else {
+        REFUSED
+    }
+}
+
+/// The status of a run, by how it ended. A fault is reported to the writer, and its status is 2.
+pub(crate) fn status_of_run<W: Write>(ended: Result<Totals, Refusal>, writer: &mut W) -> u8
+    ensures status { result ≡ run_status ended }
+    ensures reported { ReportsFault ended (W.contents writer.old) (W.contents writer.new) }
+{
+    match ended {
+        Ok(totals) => status_of_totals(totals),
+        Err(refusal) => tell_fault(&refusal, writer),
+    }
+}
+
+/// The status of a check: 0 if every script passes, 1 if one does not, and 2 if one could not be checked to its end.
+pub(crate) fn status_of_verdict(verdict: Verdict) -> u8
+    ensures status { result ≡ check_status verdict }
+{
+    match verdict {
+        Verdict::Passed => ACCEPTED,
+        Verdict::Differs => REFUSED,
+        Verdict::Failed => FAULT,
+    }
+}

@@ -1,0 +1,249 @@
+// The table of subcommands: the word of each, and its arguments.
+ghost use Rattle.std.specs.Prelude.{◌≡◌, map};
+ghost use Rattle.fencectl_core.specs.Words.{app_by, apps};
+
+use clients_core::{CLIENTS, ROUNDS};
+
+/// A subcommand: its word, what the help says of it, and its arguments.
+pub(crate) struct Subcommand {
+    pub word: &'static str,
+    pub about: &'static str,
+    pub arguments: &'static [Argument],
+}
+
+/// An argument: the name by which it is read, its form, and what the help says of it.
+pub(crate) struct Argument {
+    pub name: &'static str,
+    pub form: ArgumentForm,
+    pub help: &'static str,
+}
+
+/// What is given for an argument.
+pub(crate) enum ArgumentForm {
+    /// A file, or else standard input.
+    File,
+    /// Files and folders, or else standard input.
+    Paths,
+    /// An option without a value.
+    Flag,
+    /// An option with a value; the string is its metavariable.
+    Option(&'static str),
+    /// A number from 1 to this one, without which the command line is wrong.
+    Number(u16),
+}
+
+pub(crate) const FILE: &str = "FILE";
+
+pub(crate) const PATH: &str = "PATH";
+
+pub(crate) const RUN: &str = "run";
+
+pub(crate) const CHECK: &str = "check";
+
+/// Asks for JSON: answers, or a report of a trace.
+pub(crate) const JSON: &str = "json";
+
+/// The flags of a check.
+pub(crate) const QUIET: &str = "quiet";
+
+pub(crate) const TAP: &str = "tap";
+
+pub(crate) const ALLOW_EMPTY: &str = "allow-empty";
+
+pub(crate) const UPDATE: &str = "update";
+
+pub(crate) const EXPLAIN: &str = "explain";
+
+pub(crate) const TRACE: &str = "trace";
+
+/// Asks for what happened in a trace, as a script.
+pub(crate) const SCRIPT: &str = "script";
+
+/// Asks for what happened in a trace, as trace events.
+pub(crate) const PERFETTO: &str = "perfetto";
+
+/// The window of a trace.
+pub(crate) const FROM: &str = "from";
+
+pub(crate) const TO: &str = "to";
+
+/// The word for drawing a script, and the flag for drawing what happened in a trace.
+pub(crate) const DRAW: &str = "draw";
+
+/// The options of a drawing.
+pub(crate) const GRAPH: &str = "graph";
+
+pub(crate) const LINE: &str = "line";
+
+pub(crate) const LINES: &str = "lines";
+
+pub(crate) const OUTPUT: &str = "output";
+
+/// The word for a run of clients, and the numbers that follow it.
+pub(crate) const CLIENTS_WORD: &str = "clients";
+
+pub(crate) const COUNT: &str = "N";
+
+pub(crate) const ROUNDS_WORD: &str = "ROUNDS";
+
+/// Asks for buffers under locks.
+pub(crate) const LOCKS: &str = "locks";
+
+static SUBCOMMANDS: &[Subcommand] = &[
+    Subcommand {
+        word: RUN,
+        about: "Runs the script of a file, or that of standard input",
+        arguments: &[
+            Argument {
+                name: FILE,
+                form: ArgumentForm::File,
+                help: "The script's file, or - for standard input",
+            },
+            Argument {
+                name: JSON,
+                form: ArgumentForm::Flag,
+                help: "Writes a JSON object for each answer, on a line of its own",
+            },
+        ],
+    },
+    Subcommand {
+        word: CHECK,
+        about: "Runs scripts, and compares their answers with those that their notes expect",
+        arguments: &[
+            Argument {
+                name: PATH,
+                form: ArgumentForm::Paths,
+                help: "Scripts' files, folders with such files (*.fence), or - for standard input",
+            },
+            Argument {
+                name: QUIET,
+                form: ArgumentForm::Flag,
+                help: "Reports the counts alone",
+            },
+            Argument {
+                name: TAP,
+                form: ArgumentForm::Flag,
+                help: "Writes TAP version 14 to standard output, a test for each file",
+            },
+            Argument {
+                name: ALLOW_EMPTY,
+                form: ArgumentForm::Flag,
+                help: "Lets a file pass that expects nothing",
+            },
+            Argument {
+                name: UPDATE,
+                form: ArgumentForm::Flag,
+                help: "Writes the answers that come into the files, as what they expect",
+            },
+        ],
+    },
+    Subcommand {
+        word: EXPLAIN,
+        about: "Runs a script, and explains on standard error why lines were refused",
+        arguments: &[Argument {
+            name: FILE,
+            form: ArgumentForm::File,
+            help: "The script's file, or - for standard input",
+        }],
+    },
+    Subcommand {
+        word: TRACE,
+        about: "Reads a trace of the kernel's dma_fence events, and reports what hangs and who waits",
+        arguments: &[
+            Argument {
+                name: FILE,
+                form: ArgumentForm::File,
+                help: "The trace's text, or - for standard input",
+            },
+            Argument {
+                name: JSON,
+                form: ArgumentForm::Flag,
+                help: "Writes the report as one JSON document",
+            },
+            Argument {
+                name: SCRIPT,
+                form: ArgumentForm::Flag,
+                help: "Writes what happened as a script instead",
+            },
+            Argument {
+                name: DRAW,
+                form: ArgumentForm::Flag,
+                help: "Draws what happened as SVG instead",
+            },
+            Argument {
+                name: PERFETTO,
+                form: ArgumentForm::Flag,
+                help: "Writes what happened as trace events, in JSON, for Perfetto instead",
+            },
+            Argument {
+                name: FROM,
+                form: ArgumentForm::Option("SECONDS"),
+                help: "Begins the script, the picture or the events at that time",
+            },
+            Argument {
+                name: TO,
+                form: ArgumentForm::Option("SECONDS"),
+                help: "Ends them at that time",
+            },
+        ],
+    },
+    Subcommand {
+        word: DRAW,
+        about: "Draws what a script does as SVG, or what it leaves as a graph",
+        arguments: &[
+            Argument {
+                name: FILE,
+                form: ArgumentForm::File,
+                help: "The script's file, or - for standard input",
+            },
+            Argument {
+                name: GRAPH,
+                form: ArgumentForm::Flag,
+                help: "Draws what waits for what at the end, as a graph in DOT",
+            },
+            Argument {
+                name: LINE,
+                form: ArgumentForm::Option("N"),
+                help: "Draws the graph after line N",
+            },
+            Argument {
+                name: LINES,
+                form: ArgumentForm::Option("A..B"),
+                help: "Draws these lines alone",
+            },
+            Argument {
+                name: OUTPUT,
+                form: ArgumentForm::Option("PICTURE"),
+                help: "Writes this file, as a whole or not at all",
+            },
+        ],
+    },
+    Subcommand {
+        word: CLIENTS_WORD,
+        about: "Runs clients on threads against shared buffers, and prints what they settle",
+        arguments: &[
+            Argument {
+                name: COUNT,
+                form: ArgumentForm::Number(CLIENTS as u16),
+                help: "How many clients, 1 to 8",
+            },
+            Argument {
+                name: ROUNDS_WORD,
+                form: ArgumentForm::Number(ROUNDS as u16),
+                help: "How many rounds each of them makes, 1 to 10000",
+            },
+            Argument {
+                name: LOCKS,
+                form: ArgumentForm::Flag,
+                help: "Shares buffers under locks instead of a lock-free board",
+            },
+        ],
+    },
+];
+
+/// The table, a row for each subcommand.
+pub(crate) fn subcommands() -> &'static [Subcommand]
+    ensures apps { map app_by result.now ≡ apps }
+{
+    SUBCOMMANDS
+}
