@@ -2,7 +2,12 @@
 use Rattle.std.specs.Prelude.{◌≡◌, ◌≢◌, ◌⊎◌, ◌∷◌, ℕ, Bool, true, false, List, [], Option, Some, None, codes, map, option_map, if◌then◌else◌}
 use Rattle.std.specs.Str.Parse.{digits_value, without_leading_plus}
 use Rattle.std.specs.Str.{bytes_eq}
-use Rattle.clap.specs.Words.{Row, Text, all_of, first_of, one_of, subcommand_of, takes}
+use Rattle.clap.specs.Words.{IsAmong, Kinds, Row, Text, all_of, fault_of, first_of, one_of, subcommand_of, takes}
+use Rattle.clap.specs.declared.error.kind.ErrorKind.{ErrorKind}
+use Rattle.clap.specs.declared.error.kind.ErrorKind.TheVariants.{DisplayHelp, DisplayVersion}
+use Rattle.point_core.specs.declared.refusal.Refusal.{Refusal}
+use Rattle.point_core.specs.declared.refusal.Refusal.TheVariants.{Limit, Memory, Write as WriteFault}
+use Rattle.point_core.specs.declared.refusal.LimitKind.TheVariants as limit
 use Rattle.source_core.specs.Script.{file_named, file_of}
 use Rattle.fencectl_core.specs.Words.{fencectl}
 use Rattle.fencectl_core.specs.declared.action.Action.{Action}
@@ -188,3 +193,38 @@ pub record IsRunAlone (words : List Text) : Type 0 where
 abbrev pub IsAsked : List Text → Asked → Type 0
 IsAsked words asked =
     (asked ≡ asked_by (subcommand_of fencectl words)) ⊎ (IsFileOf words asked × (takes fencectl words ≢ true))
+
+-- the status with which the program ends: 0 once help or the version is printed, and 2 once wrong usage is reported
+abbrev pub kind_status : ErrorKind → ℕ
+kind_status DisplayHelp = 0
+kind_status DisplayVersion = 0
+kind_status kind = 2
+
+-- if the program is to end, its status is that of one of these kinds
+abbrev pub EndsBy : Kinds → Action → Type 0
+EndsBy kinds (action.End status) = (kind : ErrorKind) × IsAmong kind kinds × (status ≡ kind_status kind)
+EndsBy kinds (action.Run script) = Unit {0}
+EndsBy kinds (action.Json script) = Unit {0}
+EndsBy kinds (action.Update paths) = Unit {0}
+EndsBy kinds (action.Check check) = Unit {0}
+EndsBy kinds (action.Explain script) = Unit {0}
+EndsBy kinds (action.Trace trace) = Unit {0}
+EndsBy kinds (action.Draw draw) = Unit {0}
+EndsBy kinds (action.Clients clients) = Unit {0}
+
+abbrev pub asks_clients : Option (Text × List Row) → Bool
+asks_clients None = false
+asks_clients (Some subcommand) = bytes_eq subcommand.0 (codes "clients")
+
+-- a number of clients, or of their rounds, is out of its range
+abbrev pub IsRangeFault : Refusal → Type 0
+IsRangeFault refusal = (refusal ≡ Limit limit.Clients) ⊎ (refusal ≡ Limit limit.Plan)
+
+-- memory was refused, or clients are asked for and one of their numbers is out of its range
+abbrev pub IsAskedFault : Bool → Refusal → Type 0
+IsAskedFault of_clients refusal = (refusal ≡ Memory) ⊎ (IsRangeFault refusal × (of_clients ≡ true))
+
+-- help, the version or a mistake could not be printed; or the words were taken, and not what they ask for
+abbrev pub IsUsageFault : List Text → Refusal → Type 0
+IsUsageFault words refusal =
+    (refusal ≡ WriteFault) ⊎ (IsAskedFault (asks_clients (subcommand_of fencectl words)) refusal)

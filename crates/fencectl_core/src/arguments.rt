@@ -1,7 +1,7 @@
 // The command line.
 ghost use Rattle.std.specs.Prelude.{◌≡◌, IfErr, IfOk, false, map, pos, string_bytes, true};
 ghost use Rattle.clap.specs.declared.builder.value_parser.ValueParser.TheVariants as parser;
-ghost use Rattle.clap.specs.Words.{kind_of, rule_of, subcommand_of, subcommand_rows_of, takes};
+ghost use Rattle.clap.specs.Words.{FailsBy, fault_of, kind_of, rule_of, subcommand_of, subcommand_rows_of, takes};
 ghost use Rattle.fencectl_core.specs.Words.{IsApp, app_by, fencectl, program_app, rule_by};
 
 use crate::subcommands::{Argument, ArgumentForm, Subcommand, subcommands};
@@ -104,6 +104,7 @@ pub(crate) fn matches_of<'a>(alloc: Global, words: &'a [String]) -> Result<ArgMa
         ≡ subcommand_of fencectl (map string_bytes words.entry.now)) }
     ensures taken { IfErr result (λ error. takes fencectl (map string_bytes words.entry.now) ≡ true
         → kind_of error ≡ ErrorKind.OutOfMemory) }
+    ensures kinds { FailsBy (fault_of fencectl (map string_bytes words.entry.now)) result }
 {
     let command = command(alloc)?;
     command.try_get_matches_from(words)

@@ -1,8 +1,13 @@
 // What the matches of a command line ask for.
-ghost use Rattle.std.specs.Prelude.{◌≡◌, ◌≤◌, IfOk, Some, codes, map, option_map};
+ghost use Rattle.std.specs.Prelude.{◌≡◌, ◌≤◌, IfErr, IfOk, Some, codes, map, option_map, true};
+ghost use Rattle.std.specs.Str.{bytes_eq};
+ghost use Rattle.point_core.specs.declared.refusal.Refusal.TheVariants.{Memory};
 ghost use Rattle.clap.specs.Words.{all_of, found_of, first_of, one_of, rows_of, subcommand_rows_of};
 ghost use Rattle.source_core.specs.Script.{file_named, file_of};
 ghost use Rattle.fencectl_core.specs.Asked.{
+  IsAskedFault,
+  IsRangeFault,
+  asks_clients,
   asked_after,
   asked_by,
   asked_of,
@@ -39,6 +44,7 @@ use std::alloc::Global;
 /// refuses earlier.
 pub(crate) fn action_by<'a>(alloc: Global, matches: &ArgMatches<'a>) -> Result<Action<'a>, Refusal>
     ensures asked { IfOk result (λ action. asked_of action ≡ Some (asked_by (subcommand_rows_of matches.now))) }
+    ensures refusals { IfErr result (IsAskedFault (asks_clients (subcommand_rows_of matches.now))) }
 {
     match matches.subcommand() {
         Some((word, matches)) => action_after(alloc, word, matches),
@@ -54,6 +60,7 @@ fn action_after<'a>(
 ) -> Result<Action<'a>, Refusal>
     ensures asked { IfOk result (λ action. asked_of action
         ≡ Some (asked_after word.now (rows_of (found_of matches.now)))) }
+    ensures refusals { IfErr result (IsAskedFault (bytes_eq word.now (codes "clients"))) }
 {
     if word == CLIENTS_WORD {
         return Ok(Action::Clients(clients_of(matches)?));
@@ -73,6 +80,7 @@ fn action_after<'a>(
 fn check_action<'a>(alloc: Global, matches: &ArgMatches<'a>) -> Result<Action<'a>, Refusal>
     ensures asked { IfOk result (λ action. asked_of action
         ≡ Some (check_or_update (rows_of (found_of matches.now)))) }
+    ensures refusals { IfErr result (λ refusal. refusal ≡ Memory) }
 {
     if has_flag(matches, UPDATE) {
         Ok(Action::Update(paths_of(alloc, matches)?))
@@ -146,6 +154,7 @@ fn text_of<'a>(matches: &ArgMatches<'a>, name: &str) -> Option<&'a str>
 
 fn check_of<'a>(alloc: Global, matches: &ArgMatches<'a>) -> Result<Check<'a>, Refusal>
     ensures asked { IfOk result (λ check. asked_of_check check ≡ check_after (rows_of (found_of matches.now))) }
+    ensures refusals { IfErr result (λ refusal. refusal ≡ Memory) }
 {
     Ok(Check {
         paths: paths_of(alloc, matches)?,
@@ -157,6 +166,7 @@ fn check_of<'a>(alloc: Global, matches: &ArgMatches<'a>) -> Result<Check<'a>, Re
 fn paths_of<'a>(alloc: Global, matches: &ArgMatches<'a>) -> Result<Vec<&'a str>, Refusal>
     ensures paths { IfOk result (λ paths. map (λ p. p.now) paths.items
         ≡ paths_named (all_of (codes "PATH") (rows_of (found_of matches.now)))) }
+    ensures refusals { IfErr result (λ refusal. refusal ≡ Memory) }
 {
     match matches.get_strs(PATH) {
         Some(paths) => Ok(Vec::from_slice(alloc, paths)?),
@@ -188,6 +198,7 @@ fn clients_of(matches: &ArgMatches<'_>) -> Result<Clients, Refusal>
     ensures rounds { IfOk result (λ clients. clients.rounds
         ≡ number_named (one_of (codes "ROUNDS") (rows_of (found_of matches.now)))) }
     ensures table { IfOk result (λ clients. clients.table ≡ table_named (rows_of (found_of matches.now))) }
+    ensures refusals { IfErr result IsRangeFault }
 {
     let count = usize::from(number_of(matches, COUNT));
     if !(1..=CLIENTS).contains(&count) {

@@ -9,9 +9,7 @@ ghost use Rattle.report_core.specs.Bytes.{AppendsFront};
 ghost use Rattle.fencectl_core.specs.Clients.{clients_text};
 
 use crate::action::{Clients, Table};
-use clients_core::{
-    Board, CLIENTS, LockedTable, OpenGate, ROUND_BUFFERS, ROUNDS, plans_of_rounds, run_clients,
-};
+use clients_core::{CLIENTS, OpenGate, ROUND_BUFFERS, ROUNDS, plans_of_rounds, run_clients};
 use point_core::Refusal;
 use report_core::{settled_text, write_whole};
 use resv_core::SharedTable;
@@ -20,12 +18,12 @@ use std::io::Write;
 use std::sync::Wait;
 use std::thread::Threads;
 
-/// Runs `n` clients for that many rounds over the board, the first on the calling thread and each other in a thread of
+/// Runs `n` clients for that many rounds over a table `T`, the first on the calling thread and each other in a thread of
 /// its own, and writes the text of what they settle, which is that of the plans' settled table, whatever the schedule.
 ///
 /// Fails as `run_clients`, which refuses none of these plans before its threads start, and with Write if a write
 /// failed or took no byte, or the flush failed. Then a prefix of the text is written.
-pub fn clients_report<R: Threads + Wait + Sync, W: Write>(
+pub fn clients_report<R: Threads + Wait + Sync, T: SharedTable, W: Write>(
     rt: &R,
     alloc: Global,
     n: usize,
@@ -39,11 +37,15 @@ pub fn clients_report<R: Threads + Wait + Sync, W: Write>(
         (AppendsFront (W.contents writer.old) (W.contents writer.new) (clients_text n rounds)) }
     ensures refusals { IfErr result (λ e. (e ≡ refusal.Write) ⊎ IsClientRefusal e) }
 {
-    report_over::<R, Board, W>(rt, alloc, n, rounds, writer)
+    let text = text_of_run::<R, T>(rt, alloc, n, rounds)?;
+    write_whole(writer, text.as_slice())?;
+    flush(writer)
 }
 
-/// The same, over the table that the clients ask for.
-pub fn report_clients<R: Threads + Wait + Sync, W: Write>(
+/// Reports the run of clients that is asked for, over `B` as the board, or over `L` under locks.
+///
+/// Fails as `clients_report`.
+pub fn report_clients<R: Threads + Wait + Sync, B: SharedTable, L: SharedTable, W: Write>(
     rt: &R,
     alloc: Global,
     clients: &Clients,
@@ -61,28 +63,9 @@ pub fn report_clients<R: Threads + Wait + Sync, W: Write>(
         table,
     } = *clients;
     match table {
-        Table::Board => clients_report(rt, alloc, count, rounds, writer),
-        Table::Locks => report_over::<R, LockedTable, W>(rt, alloc, count, rounds, writer),
+        Table::Board => clients_report::<R, B, W>(rt, alloc, count, rounds, writer),
+        Table::Locks => clients_report::<R, L, W>(rt, alloc, count, rounds, writer),
     }
-}
-
-fn report_over<R: Threads + Wait + Sync, T: SharedTable, W: Write>(
-    rt: &R,
-    alloc: Global,
-    clients: usize,
-    rounds: u64,
-    writer: &mut W,
-) -> Result<(), Refusal>
-    requires clients { (1 ≤ clients) × (clients ≤ CLIENTS) }
-    requires rounds { (1 ≤ rounds) × (rounds ≤ ROUNDS) }
-    ensures ok { OnOk result (Appends (W.contents writer.old) (W.contents writer.new) (clients_text clients rounds)) }
-    ensures err { OnErr result
-        (AppendsFront (W.contents writer.old) (W.contents writer.new) (clients_text clients rounds)) }
-    ensures refusals { IfErr result (λ e. (e ≡ refusal.Write) ⊎ IsClientRefusal e) }
-{
-    let text = text_of_run::<R, T>(rt, alloc, clients, rounds)?;
-    write_whole(writer, text.as_slice())?;
-    flush(writer)
 }
 
 /// The text of what the clients settle.

@@ -1,4 +1,6 @@
 // Pictures and graphs of a script's run.
+ghost use Rattle.std.specs.Prelude.{◌≡◌, IfOk, if◌then◌else◌};
+
 use crate::action::Draw;
 use crate::fault::FAULT;
 use crate::status::{ACCEPTED, REFUSED};
@@ -82,7 +84,9 @@ fn write_picture(
     write_document(rt, output, document.as_slice(), status)
 }
 
-fn status_of(history: &History) -> u8 {
+fn status_of(history: &History) -> u8
+    ensures { result ≡ (if history.now.refused then 1 else 0) }
+{
     if history.refused { REFUSED } else { ACCEPTED }
 }
 
@@ -143,7 +147,9 @@ fn wrong_options(asked: &Draw<'_>) -> &'static str {
     }
 }
 
-pub(crate) fn report_mistake(rt: &HostRuntime, message: &str) -> Result<u8, Refusal> {
+pub(crate) fn report_mistake(rt: &HostRuntime, message: &str) -> Result<u8, Refusal>
+    ensures status { IfOk result (λ status. status ≡ 2) }
+{
     eprintln!(rt; "{message}").map_err(|_| Refusal::Write)?;
     Ok(FAULT)
 }
@@ -177,7 +183,9 @@ fn write_document(
     output: Option<&str>,
     document: &[u8],
     status: u8,
-) -> Result<u8, Refusal> {
+) -> Result<u8, Refusal>
+    ensures status { IfOk result (λ given. given ≡ status) }
+{
     match output {
         Some(name) => match reported(rt, name, put_file(rt, name, document)) {
             Ok(()) => Ok(status),
@@ -187,7 +195,9 @@ fn write_document(
     }
 }
 
-pub(crate) fn write_output(rt: &HostRuntime, document: &[u8], status: u8) -> Result<u8, Refusal> {
+pub(crate) fn write_output(rt: &HostRuntime, document: &[u8], status: u8) -> Result<u8, Refusal>
+    ensures status { IfOk result (λ given. given ≡ status) }
+{
     let mut output = rt.stdout();
     write_whole(&mut output, document)?;
     match output.flush() {

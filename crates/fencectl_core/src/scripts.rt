@@ -26,17 +26,19 @@ pub(crate) fn json_script<R: Read, W: Write, E: Write>(
     status_of_run(ended, errors)
 }
 
-/// Runs the script of a reader, and explains on `errors` why lines were refused. A fault is reported there too.
-pub(crate) fn explain_script<R: Read, W: Write, E: Write>(
+/// Runs the script of a reader, and explains on `notes` why lines were refused. A fault is reported on `errors`.
+pub(crate) fn explain_script<R: Read, W: Write, N: Write, E: Write>(
     alloc: Global,
     look: Look,
     reader: &mut R,
     writer: &mut W,
+    notes: &mut N,
     errors: &mut E,
 ) -> u8
     ensures ended { (ended : Result Totals Refusal) × (result ≡ run_status ended)
-        × EndsRun ended (R.remaining reader.old) (R.remaining reader.new) (W.contents writer.old) (W.contents writer.new) }
+        × EndsRun ended (R.remaining reader.old) (R.remaining reader.new) (W.contents writer.old) (W.contents writer.new)
+        × ReportsFault ended (E.contents errors.old) (E.contents errors.new) }
 {
-    let ended = explain(alloc, look, reader, writer, errors);
+    let ended = explain(alloc, look, reader, writer, notes);
     status_of_run(ended, errors)
 }

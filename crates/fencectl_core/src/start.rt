@@ -1,5 +1,5 @@
 // The command line of the program, and what it asks for.
-use crate::action::{Action, Check, Report};
+use crate::action::{Action, Check, Clients, Report};
 use crate::clients::report_clients;
 use crate::color::{ColorChoice, Colors, take_color};
 use crate::drawing::draw;
@@ -11,11 +11,13 @@ use crate::traces::trace;
 use crate::unread_word::report_unread_word;
 use crate::usage::action_of;
 use check_core::{CheckForm, Plan, check_scripts, update_scripts};
+use clients_core::{Board, LockedTable};
 use point_core::Refusal;
 use reason_core::Look;
 use source_core::{Prompted, Script, Source, script_files};
+use std::alloc::Global;
 use std::env;
-use std::io::IsTerminal;
+use std::io::{IsTerminal, Write};
 use std::sync::Wait;
 use std::thread::Threads;
 
@@ -90,11 +92,21 @@ fn act<T: Threads + Wait + Sync>(
         Action::Trace(asked) => trace(rt, &asked),
         Action::Draw(asked) => draw(rt, &asked),
         Action::Clients(clients) => {
-            report_clients(threads, rt.alloc(), &clients, &mut rt.stdout())?;
+            write_clients(threads, rt.alloc(), &clients, &mut rt.stdout())?;
             Ok(ACCEPTED)
         }
         Action::End(status) => Ok(status),
     }
+}
+
+/// Runs clients over the board, or over buffers under locks, and writes what they settle.
+fn write_clients<T: Threads + Wait + Sync, W: Write>(
+    threads: &T,
+    alloc: Global,
+    clients: &Clients,
+    writer: &mut W,
+) -> Result<(), Refusal> {
+    report_clients::<T, Board, LockedTable, W>(threads, alloc, clients, writer)
 }
 
 /// Runs a script. One that is typed at a terminal is asked for line by line, and explained.
@@ -123,6 +135,7 @@ fn converse(rt: &HostRuntime, colors: Colors) -> Result<u8, Refusal> {
         look(colors),
         &mut reader,
         &mut rt.stdout(),
+        &mut rt.stderr(),
         &mut rt.stderr(),
     ))
 }
@@ -180,6 +193,7 @@ fn explain(rt: &HostRuntime, colors: Colors, script: Script) -> Result<u8, Refus
         look(colors),
         &mut source,
         &mut rt.stdout(),
+        &mut rt.stderr(),
         &mut rt.stderr(),
     ))
 }

@@ -1,4 +1,7 @@
 // Reports of traces, and what happened in them as scripts, pictures and trace events, each with its exit status.
+ghost use Rattle.std.specs.Prelude.{◌≡◌, IfOk};
+ghost use Rattle.fencectl_core.specs.Verdicts.{outcome_status};
+
 use crate::action::Trace;
 use crate::drawing::{draw_trace, report_mistake, write_output};
 use crate::fault::FAULT;
@@ -104,14 +107,18 @@ fn write_script(rt: &HostRuntime, asked: &Trace<'_>, scripted: &Scripted) -> Res
 }
 
 /// Reports that there is no event, in the text or up to the end of the window.
-fn report_none(rt: &HostRuntime, asked: &Trace<'_>) -> Result<u8, Refusal> {
+fn report_none(rt: &HostRuntime, asked: &Trace<'_>) -> Result<u8, Refusal>
+    ensures status { IfOk result (λ status. status ≡ 2) }
+{
     if asked.to.is_some() {
         return report_mistake(rt, NO_EVENTS_YET);
     }
     report_no_events(rt)
 }
 
-fn report_no_events(rt: &HostRuntime) -> Result<u8, Refusal> {
+fn report_no_events(rt: &HostRuntime) -> Result<u8, Refusal>
+    ensures status { IfOk result (λ status. status ≡ 2) }
+{
     eprint!(rt; "{NO_EVENTS}").map_err(|_| Refusal::Write)?;
     Ok(FAULT)
 }
@@ -129,7 +136,9 @@ fn form_of(is_json: bool) -> Form {
     if is_json { Form::Json } else { Form::Text }
 }
 
-fn status_of_outcome(rt: &HostRuntime, outcome: Outcome) -> Result<u8, Refusal> {
+fn status_of_outcome(rt: &HostRuntime, outcome: Outcome) -> Result<u8, Refusal>
+    ensures status { IfOk result (λ status. status ≡ outcome_status outcome) }
+{
     match outcome {
         Outcome::Sound => Ok(ACCEPTED),
         Outcome::Broken => Ok(REFUSED),

@@ -1,15 +1,17 @@
 // The words of the command line: what they ask for, and what is printed if they ask for nothing.
-ghost use Rattle.std.specs.Prelude.{◌≡◌, Err, IfOk, IfSome, Some, map, string_bytes, true};
-ghost use Rattle.clap.specs.Words.{kind_of, subcommand_of, takes};
-ghost use Rattle.point_core.specs.declared.refusal.Refusal.TheVariants.{Memory};
-ghost use Rattle.fencectl_core.specs.Asked.{IsAsked, IsFileOf, IsRunAlone, asked_by, asked_of};
+ghost use Rattle.std.specs.Prelude.{◌≡◌, ◌⊎◌, Err, IfErr, IfOk, IfSome, Some, [], ◌∷◌, map, string_bytes, true};
+ghost use Rattle.clap.specs.Words.{fault_of, kind_of, subcommand_of, takes};
+ghost use Rattle.point_core.specs.declared.refusal.Refusal.TheVariants.{Memory, Write as WriteFault};
+ghost use Rattle.fencectl_core.specs.Asked.{EndsBy, IsAsked, IsFileOf, IsRunAlone, IsUsageFault, asked_by, asked_of, kind_status};
 ghost use Rattle.fencectl_core.specs.Words.{fencectl};
 
 use crate::action::Action;
 use crate::arguments::matches_of;
 use crate::asked::action_by;
 use crate::color::Colors;
+use crate::fault::FAULT;
 use crate::paint::painted;
+use crate::status::ACCEPTED;
 use crate::subcommands::RUN;
 use clap::Error;
 use clap::error::ErrorKind;
@@ -34,6 +36,9 @@ pub(crate) fn action_of<'a>(
     ensures taken { takes fencectl (map string_bytes words.entry.now) ≡ true
         → IfOk result (λ action. asked_of action
         ≡ Some (asked_by (subcommand_of fencectl (map string_bytes words.entry.now)))) }
+    // The program ends with 2 after wrong usage, and with 0 after help and the version.
+    ensures status { IfOk result (EndsBy (fault_of fencectl (map string_bytes words.entry.now))) }
+    ensures refusals { IfErr result (IsUsageFault (map string_bytes words.entry.now)) }
 {
     if is_run_alone(words) {
         return Ok(Action::Run(Script::StandardInput));
@@ -66,6 +71,8 @@ fn action_instead<'a>(
     ensures asked { IfOk result (λ action. IfSome (asked_of action) (λ asked.
         IsFileOf (map string_bytes words.entry.now) asked × (kind_of error.now ≡ ErrorKind.InvalidSubcommand))) }
     ensures memory { kind_of error.now ≡ ErrorKind.OutOfMemory → result ≡ Err Memory }
+    ensures status { IfOk result (EndsBy (kind_of error.now ∷ [])) }
+    ensures refusals { IfErr result (λ refusal. (refusal ≡ WriteFault) ⊎ (refusal ≡ Memory)) }
 {
     if error.kind() == ErrorKind::InvalidSubcommand {
         if let [_, name] = words {
@@ -96,6 +103,8 @@ fn report_error(
     error: &Error,
 ) -> Result<u8, Refusal>
     ensures memory { kind_of error.now ≡ ErrorKind.OutOfMemory → result ≡ Err Memory }
+    ensures status { IfOk result (λ status. status ≡ kind_status (kind_of error.now)) }
+    ensures refusals { IfErr result (λ refusal. (refusal ≡ WriteFault) ⊎ (refusal ≡ Memory)) }
 {
     if error.kind() == ErrorKind::OutOfMemory {
         return Err(Refusal::Memory);
@@ -106,7 +115,17 @@ fn report_error(
             |_| Refusal::Write,
         )?;
     }
-    Ok(error.exit_code() as u8)
+    Ok(status_of_kind(error.kind()))
+}
+
+fn status_of_kind(kind: ErrorKind) -> u8
+    ensures { result ≡ kind_status kind }
+{
+    match kind {
+        ErrorKind::DisplayHelp => ACCEPTED,
+        ErrorKind::DisplayVersion => ACCEPTED,
+        _ => FAULT,
+    }
 }
 
 /// Prints what clap says to the stream that it belongs to, coloured if that stream is.
@@ -115,7 +134,9 @@ fn print_error(
     alloc: Global,
     colors: Colors,
     error: &Error,
-) -> Result<(), Refusal> {
+) -> Result<(), Refusal>
+    ensures refusals { IfErr result (λ refusal. (refusal ≡ WriteFault) ⊎ (refusal ≡ Memory)) }
+{
     let printed = match (error.use_stderr(), colors.output, colors.errors) {
         (true, _, true) => {
             let text = format!(in alloc; "{error}")?;

@@ -1,9 +1,15 @@
 //! Tests of `clients`: the settled tables that the program prints, and a writer that fails.
 use crate::seats::holds;
+use crate::wrapping::OddTable;
+use clients_core::{Board, LockedTable};
 use fencectl_core::{Clients, Table, clients_report, report_clients};
 use point_core::Refusal;
+use std::alloc::Global;
 use std::io;
 use std::io::Write;
+use std::process::Abort;
+use std::sync::Wait;
+use std::thread::Threads;
 
 const TWO_CLIENTS: &str = "\
 timeline c1                                               100\n\
@@ -22,6 +28,15 @@ bookkeep c1                                               300\n\
 bookkeep c2                                               300\n\
 ";
 
+/// The report of two clients of a hundred rounds over the board.
+fn report_two<R: Threads + Wait + Sync, W: Write>(
+    rt: &R,
+    alloc: Global,
+    writer: &mut W,
+) -> Result<(), Refusal> {
+    clients_report::<R, Board, W>(rt, alloc, 2, 100, writer)
+}
+
 /// Two clients of a hundred rounds, over buffers under locks.
 fn two_clients_under_locks() -> Clients {
     Clients {
@@ -34,15 +49,63 @@ fn two_clients_under_locks() -> Clients {
 #[test]
 fn two_clients_settle(rt: HostRuntime) {
     let mut printed = Vec::new(rt.alloc());
-    let ended = clients_report(&rt, rt.alloc(), 2, 100, &mut printed);
+    let ended = report_two(&rt, rt.alloc(), &mut printed);
     holds(&rt, are_settled(&ended, &printed));
 }
 
 #[test]
 fn two_clients_settle_under_locks(rt: HostRuntime) {
     let mut printed = Vec::new(rt.alloc());
-    let ended = report_clients(&rt, rt.alloc(), &two_clients_under_locks(), &mut printed);
+    let ended = report_locked(&rt, rt.alloc(), &mut printed);
     holds(&rt, are_settled(&ended, &printed));
+}
+
+/// The report of two clients over buffers under locks; the table in the place of the board refuses each run of one client.
+fn report_locked<R: Threads + Wait + Sync, W: Write>(
+    rt: &R,
+    alloc: Global,
+    writer: &mut W,
+) -> Result<(), Refusal> {
+    report_clients::<R, OddTable, LockedTable, W>(rt, alloc, &two_clients_under_locks(), writer)
+}
+
+/// One client of one round, over that table.
+fn one_client(table: Table) -> Clients {
+    Clients {
+        count: 1,
+        rounds: 1,
+        table,
+    }
+}
+
+/// Checks that one client is refused over a table that never settles, and that nothing is printed: so clients ran over it.
+fn check_board<R: Threads + Wait + Abort + Sync>(rt: &R, alloc: Global) {
+    let mut printed = Vec::new(alloc);
+    let ended = report_clients::<R, OddTable, LockedTable, Vec<u8>>(
+        rt,
+        alloc,
+        &one_client(Table::Board),
+        &mut printed,
+    );
+    holds(rt, ended == Err(Refusal::Torn) && printed.is_empty());
+}
+
+/// The same of the table under locks.
+fn check_locks<R: Threads + Wait + Abort + Sync>(rt: &R, alloc: Global) {
+    let mut printed = Vec::new(alloc);
+    let ended = report_clients::<R, Board, OddTable, Vec<u8>>(
+        rt,
+        alloc,
+        &one_client(Table::Locks),
+        &mut printed,
+    );
+    holds(rt, ended == Err(Refusal::Torn) && printed.is_empty());
+}
+
+#[test]
+fn clients_run_over_the_table_that_is_asked_for(rt: HostRuntime) {
+    check_board(&rt, rt.alloc());
+    check_locks(&rt, rt.alloc());
 }
 
 /// Whether two clients ended well, and their whole table was printed.
@@ -70,7 +133,7 @@ impl Write for Stuck {
 #[test]
 fn a_failed_flush_is_refused(rt: HostRuntime) {
     let mut stuck = Stuck { taken: 0 };
-    let ended = clients_report(&rt, rt.alloc(), 2, 100, &mut stuck);
+    let ended = report_two(&rt, rt.alloc(), &mut stuck);
     holds(&rt, ended == Err(Refusal::Write));
     holds(&rt, stuck.taken == TWO_CLIENTS.len());
 }

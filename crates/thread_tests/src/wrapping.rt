@@ -23,7 +23,7 @@ const TURNS: u32 = 1_000_000;
 /// Records each put that its table has accepted. It lists nothing for `Bookkeep`, and never settles the plan of a single client.
 /// A client's look is its `export`.
 #[derive(Drop)]
-struct OddTable {
+pub(crate) struct OddTable {
     table: LockedTable,
     puts: Mutex<Vec<Entry>>,
 }

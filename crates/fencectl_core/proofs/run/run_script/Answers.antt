@@ -7,6 +7,11 @@ returns g c = record {
     c.engine-ended.result,
     c.status_of_run.ensures.status,
     record {
+      reading = record {
+        reads = c.engine-ended.ensures.reads;
+        within = c.engine-ended.ensures.within;
+        refusals = c.engine-ended.ensures.refusals;
+      };
       ok = c.engine-ended.ensures.ok;
       read = c.engine-ended.ensures.read;
       err = c.engine-ended.ensures.err;

@@ -7,6 +7,11 @@ returns g c = record {
     c.run_json-ended.result,
     c.status_of_run.ensures.status,
     record {
+      reading = record {
+        reads = c.run_json-ended.ensures.reads;
+        within = c.run_json-ended.ensures.within;
+        refusals = c.run_json-ended.ensures.refusals;
+      };
       ok = c.run_json-ended.ensures.ok;
       read = c.run_json-ended.ensures.read;
       err = c.run_json-ended.ensures.err;
