@@ -51,6 +51,9 @@ impl Explainer {
             HasAnswered done answers.old start (W.contents writer.old)
             → WritesPrefix (done ++ answered line.now.number (Some body) []) start (W.contents writer.new)) }
         ensures lines { answers.new.totals.lines ≤ answers.old.totals.lines + 1 }
+
+        // Whatever the result, nothing is noted before all answers are written.
+        ensures noted { (notes.new ≡ notes.old) ⊎ (answers.new.out ≡ []) }
         ensures refusals { IfErr result (λ refusal. (refusal ≡ WriteFault) ⊎ (refusal ≡ Memory)) }
     {
         let refused = answers.answer(line.number, Some(body), writer)?;
