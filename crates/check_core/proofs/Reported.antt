@@ -2,7 +2,9 @@
 use Rattle.std.proofs.Common.{◌≡◌, ℕ, zero, suc, ◌+◌, ◌<◌, ap, List, [], ◌∷◌, ◌++◌, length, take, get_or, Option, sym, ◌∙◌, subst, append_assoc, append-nil, arith}
 use Rattle.std.specs.Io.KnownBytes.{Appends}
 use Rattle.std.proofs.KnownBytes.{Appends-trans}
+use Rattle.std.specs.Prelude.{All}
 use Rattle.std.proofs.lemmas.List.{length_push, take_more}
+use Rattle.std.proofs.lemmas.List.Elements.{All-push}
 use Rattle.check_core.specs.declared.updates.Update.{Update}
 use Rattle.check_core.specs.Update.{one_if_written, update_text, updates_text, written_count}
 
@@ -18,6 +20,10 @@ length-take : {N : Type 0} (ns : List N) (index : ℕ) → index < length ns →
 length-take [] index low = absurd (omega (arith, low))
 length-take (n ∷ ns) zero low = omega arith
 length-take (n ∷ ns) (suc index) low = ap suc (length-take ns index (omega (arith, low)))
+
+-- one file more was updated
+pub each-next : (P : Update → Type 0) (us more : List Update) (u : Update) → All P us → P u → more ≡ us ++ u ∷ [] → All P more
+each-next P us more u each is pushed = subst (All P) (sym pushed) (All-push P us u each is)
 
 -- one file more was reported
 pub reported-next : {N : Type 0} (text_of : N → List ℕ) (names : List N) (index : ℕ) (name : N) (us more : List Update) (u : Update) (before middle after : Option (List ℕ)) → index < length names → name ≡ get_or names index name → length us ≡ index → Appends before middle (updates_text text_of (take index names) us) → Appends middle after (update_text (text_of name) u) → more ≡ us ++ u ∷ [] → (length more ≡ index + 1) × Appends before after (updates_text text_of (take (index + 1) names) more)

@@ -1,9 +1,10 @@
 -- A script that passes its check, and what an update of several files reports.
-use Rattle.std.specs.Prelude.{◌≡◌, ℕ, ◌+◌, Bool, true, false, if◌then◌else◌, List, [], ◌∷◌, ◌++◌, length, codes, decimal, Option}
+use Rattle.std.specs.Prelude.{◌≡◌, ◌≢◌, ◌⊎◌, ℕ, ◌+◌, Bool, true, false, if◌then◌else◌, List, [], ◌∷◌, ◌++◌, length, codes, decimal, All, Option}
 use Rattle.std.specs.List.{list_any}
 use Rattle.std.specs.Io.KnownBytes.{Appends}
 use Rattle.point_core.specs.Refusal.{refusal_number, refusal_name}
 use Rattle.point_core.specs.declared.refusal.Refusal.{Refusal}
+use Rattle.point_core.specs.declared.refusal.Refusal.TheVariants.{Read as ReadFault}
 use Rattle.check_core.specs.Check.{ChecksScript}
 use Rattle.check_core.specs.declared.outcome.Verdict.{Verdict}
 use Rattle.check_core.specs.declared.outcome.Verdict.TheVariants as verdict
@@ -16,6 +17,14 @@ pub record Passes (script : List ℕ) : Type 0 where
   pub tally : Tally
   pub checks : ChecksScript script tally
   pub none : tally.differing ≡ 0
+
+-- What an update made of a file. `reads` says of bytes that a file has them, and `given` that a file was given them: the script
+-- that was read passes; or another text that passes was written; or the script was read and not updated, or not read.
+abbrev pub IsUpdate : (List ℕ → Type 0) → (List ℕ → Type 0) → Update → Type 0
+IsUpdate reads given Same = (script : List ℕ) × reads script × Passes script
+IsUpdate reads given Written =
+    (script : List ℕ) × (text : List ℕ) × reads script × (text ≢ script) × Passes text × given text
+IsUpdate reads given (Failed refusal) = (refusal ≡ ReadFault) ⊎ ((script : List ℕ) × reads script)
 
 abbrev pub is_failed : Update → Bool
 is_failed Same = false
@@ -57,10 +66,11 @@ abbrev pub update_totals : ℕ → ℕ → List ℕ
 update_totals files written = codes "files: " ++ decimal files ++ codes ", updated: " ++ decimal written ++ codes "\n"
 
 -- what was made of each file is reported, and then the counts
-pub record HasReported {N : Type 0} (text_of : N → List ℕ) (names : List N) (before after : Option (List ℕ))
-    (verdict : Verdict) : Type 0 where
+pub record HasReported {N : Type 0} (reads given : List ℕ → Type 0) (text_of : N → List ℕ) (names : List N)
+    (before after : Option (List ℕ)) (verdict : Verdict) : Type 0 where
   pub updates : List Update
   pub count : length updates ≡ length names
+  pub each : All (IsUpdate reads given) updates
   pub report : Appends before after
       (updates_text text_of names updates ++ update_totals (length names) (written_count updates))
   pub is : verdict ≡ verdict_of_updates updates

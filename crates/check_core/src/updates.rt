@@ -1,9 +1,11 @@
 // Scripts of files, each put in the place of what it was.
-ghost use Rattle.std.specs.Prelude.{◌≡◌, ◌⊎◌, ◌<◌, ◌≤◌, ◌^◌, ◌++◌, [], ◌∷◌, IfOk, OnOk, IfErr, length, string_bytes};
+ghost use Rattle.std.specs.Prelude.{◌≡◌, ◌⊎◌, ◌+◌, ◌<◌, ◌≤◌, ◌^◌, ◌++◌, [], ◌∷◌, IfOk, OnOk, IfErr, All, length, string_bytes};
 ghost use Rattle.std.specs.Io.KnownBytes.{Appends};
 ghost use Rattle.std.specs.List.{list_any};
+ghost use Rattle.line_core.specs.declared.script.TheConstants.{SCRIPT_BYTES};
 ghost use Rattle.point_core.specs.declared.refusal.Refusal.TheVariants.{Write as WriteFault, Memory};
-ghost use Rattle.check_core.specs.Update.{HasReported, Passes, failure_text, is_failed, one_if_written, update_text, updates_text, update_totals, verdict_of_updates, written_count};
+ghost use Rattle.source_core.specs.Replace.{HasFront, WasGiven};
+ghost use Rattle.check_core.specs.Update.{HasReported, IsUpdate, Passes, failure_text, is_failed, one_if_written, update_text, updates_text, update_totals, verdict_of_updates, written_count};
 
 use crate::outcome::Verdict;
 use crate::update::updated;
@@ -35,8 +37,8 @@ pub fn update_scripts<R: Files + Eprint + AllocGlobal, W: Write>(
     names: &[String],
     errors: &mut W,
 ) -> Result<Verdict, Refusal>
-    ensures reported { IfOk result (HasReported (λ name. string_bytes name) names.now
-        (W.contents errors.old) (W.contents errors.new)) }
+    ensures reported { IfOk result (HasReported (HasFront R.File.remaining (SCRIPT_BYTES + 1)) (WasGiven R.File.contents)
+        (λ name. string_bytes name) names.now (W.contents errors.old) (W.contents errors.new)) }
     ensures refusals { IfErr result (λ refusal. (refusal ≡ WriteFault) ⊎ (refusal ≡ Memory)) }
 {
     let mut updates = Vec::new(rt.alloc());
@@ -55,6 +57,8 @@ fn update_each<R: Files + Eprint + AllocGlobal, W: Write>(
 ) -> Result<(), Refusal>
     requires none { updates.old.items ≡ [] }
     ensures count { OnOk result (length updates.new.items ≡ length names.now) }
+    ensures each { OnOk result (All
+        (IsUpdate (HasFront R.File.remaining (SCRIPT_BYTES + 1)) (WasGiven R.File.contents)) updates.new.items) }
     ensures reported { OnOk result (Appends (W.contents errors.old) (W.contents errors.new)
         (updates_text (λ name. string_bytes name) names.now updates.new.items)) }
     ensures refusals { IfErr result (λ refusal. (refusal ≡ WriteFault) ⊎ (refusal ≡ Memory)) }
@@ -75,6 +79,8 @@ fn push(updates: &mut Vec<Update>, update: Update) -> Result<(), AllocError>
 }
 
 fn update_script<R: Files + Eprint + AllocGlobal>(rt: &R, name: &str) -> Result<Update, Refusal>
+    ensures update { IfOk result
+        (IsUpdate (HasFront R.File.remaining (SCRIPT_BYTES + 1)) (WasGiven R.File.contents)) }
     ensures memory { IfErr result (λ refusal. refusal ≡ Memory) }
 {
     match reported(rt, name, read_file(rt, name, SCRIPT_BYTES as u64)) {
@@ -88,6 +94,9 @@ fn rewrite_file<R: Files + Eprint + AllocGlobal>(
     name: &str,
     script: &[u8],
 ) -> Result<Update, Refusal>
+    requires front { HasFront R.File.remaining (SCRIPT_BYTES + 1) script.now }
+    ensures update { IfOk result
+        (IsUpdate (HasFront R.File.remaining (SCRIPT_BYTES + 1)) (WasGiven R.File.contents)) }
     ensures memory { IfErr result (λ refusal. refusal ≡ Memory) }
 {
     match updated(rt.alloc(), script) {
@@ -104,7 +113,9 @@ fn put_text<R: Files + Eprint + AllocGlobal>(
     script: &[u8],
     text: &[u8],
 ) -> Update
+    requires front { HasFront R.File.remaining (SCRIPT_BYTES + 1) script.now }
     requires passes { Passes text.now }
+    ensures update { IsUpdate (HasFront R.File.remaining (SCRIPT_BYTES + 1)) (WasGiven R.File.contents) result }
 {
     if text == script {
         return Update::Same;

@@ -3,4 +3,4 @@ use Rattle.check_core.specs.Update.{Passes}
 use Rattle.check_core.proofs.updates.rewrite_file.Goals as goal
 
 pub put_text-requires : goal.put_text-requires
-put_text-requires g c = record { passes = subst Passes (sym c.as_slice.ensures.value) c.in-Ok.ensures.passes }
+put_text-requires g c = record { front = c.requires.front; passes = subst Passes (sym c.as_slice.ensures.value) c.in-Ok.ensures.passes }

@@ -1,7 +1,9 @@
-use Rattle.std.proofs.Common.{◌≡◌, ℕ, List, ◌++◌, String, Global, string_bytes, subst}
+use Rattle.std.proofs.Common.{◌≡◌, ℕ, ◌+◌, List, ◌++◌, String, Global, string_bytes, subst}
 use Rattle.std.specs.Io.KnownBytes.{Appends}
-use Rattle.check_core.specs.Update.{update_text}
-use Rattle.check_core.proofs.Reported.{reported-next}
+use Rattle.line_core.specs.declared.script.TheConstants.{SCRIPT_BYTES}
+use Rattle.source_core.specs.Replace.{HasFront, WasGiven}
+use Rattle.check_core.specs.Update.{IsUpdate, update_text}
+use Rattle.check_core.proofs.Reported.{each-next, reported-next}
 use Rattle.check_core.proofs.updates.update_each.Goals as goal
 
 pub loop-name-preserved : goal.loop-name-preserved
@@ -16,4 +18,5 @@ loop-name-preserved g c =
     let written = subst (λ (text : List ℕ). Appends middle after (update_text text update)) c.as_str-in-loop-name.ensures.value c.in_ok-report_update.ensures.ok in
     let next = reported-next text_of c.args.names.now c.loop-name.name-index c.name-item.result c.loop-name.updates.items c.push.new.updates.items update before middle after
     c.loop-name-test.true c.name-item.is was.count was.reported written c.in_ok-push.ensures in
-    record { count = next.0; reported = next.1 }
+    let each = each-next (IsUpdate (HasFront g.R.File.Read.remaining (SCRIPT_BYTES + 1)) (WasGiven g.R.File.Write.contents)) c.loop-name.updates.items c.push.new.updates.items update was.each c.in_ok-update.ensures.update c.in_ok-push.ensures in
+    record { count = next.0; each = each; reported = next.1 }
