@@ -20,14 +20,14 @@ abbrev pub expected_text : List ℕ → Option (List ℕ)
 expected_text line =
     option_map (λ text. unwrap_or (strip_prefix text (codes " ")) text) (strip_prefix (drop_spaces line) (codes "#="))
 
--- what the notes expect that stand before the next line with an answer
+-- what the notes before the next line with an answer expect
 abbrev pub expected_after : List (List ℕ) → List (List ℕ)
 expected_after [] = []
 expected_after (line ∷ more) =
     if is_some (body_of line) then [] else option_to_list (expected_text line) ++ expected_after more
 
--- The expected lines of the script's line of that number, from 1: its notes up to the next line that has an answer. Those of
--- number 0 stand above every line that has one.
+-- The expected lines of the script's line of that number, from 1: its notes up to the next line that has an answer. The lines
+-- of number 0 are above every line that has an answer.
 abbrev pub expected_of : List ℕ → ℕ → List (List ℕ)
 expected_of script number = expected_after (drop number (lines_of script))
 
@@ -38,7 +38,7 @@ ended line = line ++ 10 ∷ []
 abbrev pub output_of_lines : List (List ℕ) → List ℕ
 output_of_lines lines = flat_map ended lines
 
--- if lines are expected, they are those that came, in order, and nothing else came
+-- if lines are expected, these came, in order, and nothing else came
 abbrev pub IsAsExpected : List (List ℕ) → List ℕ → Type 0
 IsAsExpected [] text = Unit {0}
 IsAsExpected (line ∷ more) text = text ≡ output_of_lines (line ∷ more)

@@ -30,8 +30,8 @@ verdict_of outcomes allows_empty =
     else if list_any (is_wrong allows_empty) outcomes || (is_none outcomes && not allows_empty) then Differs
     else Passed
 
--- What came of a script whose reader had these bytes unread, if that is known: the counts are those of the script that was
--- read, which is all of them; or a read failed; or more bytes were read than a script may have.
+-- What came of a script whose reader had these bytes unread, if that is known: the counts are the counts of these bytes, which
+-- were all read; or a read failed; or more bytes were read than a script may have.
 abbrev pub IsOutcome : Option (List ℕ) → CheckOutcome → Type 0
 IsOutcome unread (outcome.Checked tally) = (script : List ℕ) × IsInput unread script × ChecksScript script tally
 IsOutcome unread (outcome.Failed refusal) =

@@ -13,7 +13,7 @@ pub(crate) enum Finding {
 /// The first line of an answer that differs.
 #[derive(Clone, Copy)]
 pub(crate) struct Difference<'a> {
-    /// The command's line, counted from 1; 0 stands for what comes before the first.
+    /// The command's line, counted from 1; 0 is for the notes before the first command.
     pub(crate) number: u32,
     pub(crate) command: &'a [u8],
     /// None if more came than was expected.

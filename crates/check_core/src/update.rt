@@ -1,4 +1,4 @@
-// Scripts that come to expect what they are answered.
+// Scripts whose notes are rewritten to expect the answers that come.
 ghost use Rattle.std.specs.Prelude.{◌≡◌, IfOk};
 ghost use Rattle.check_core.specs.Update.{Passes};
 
@@ -11,9 +11,9 @@ use line_core::{SCRIPT_BYTES, first_line};
 use point_core::{LimitKind, Refusal};
 use std::alloc::{AllocError, Global};
 
-/// The script with the lines that its commands are answered with in the place of those that its notes expect. All other lines
-/// stay as they are, and so do commands of which nothing is expected, unless nothing is expected of any: then each answer is.
-/// Numbers of lines in answers are those of the new script, and what it has is checked.
+/// The script whose notes expect the answers that come. All other lines stay as they are. A command without an expectation gets
+/// none, unless the script expects nothing at all: then each answer is expected. Line numbers in answers are the new script's.
+/// The new script is checked before it is given.
 ///
 /// Fails with `Limit` if the script or the new one has more than `SCRIPT_BYTES` bytes, with `Memory` if memory was refused,
 /// also to a command, and with `Torn` if an answer of the new script differs, which none does.

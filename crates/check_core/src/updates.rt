@@ -1,4 +1,4 @@
-// Scripts of files, each put in the place of what it was.
+// Files whose scripts are updated.
 ghost use Rattle.std.specs.Prelude.{◌≡◌, ◌⊎◌, ◌+◌, ◌<◌, ◌≤◌, ◌^◌, ◌++◌, [], ◌∷◌, IfOk, OnOk, IfErr, All, length, string_bytes};
 ghost use Rattle.std.specs.Io.KnownBytes.{Appends};
 ghost use Rattle.std.specs.List.{list_any};
@@ -27,8 +27,8 @@ pub enum Update {
     Failed(Refusal),
 }
 
-/// Puts `updated` in the place of each of these files. On `errors` it reports those that changed and those that could not be
-/// updated, and the counts of both; why one can't be read or written is reported on standard error.
+/// Replaces the script of each of these files by `updated`. On `errors` it reports the files that changed, the files that could
+/// not be updated, and the counts of both; why one can't be read or written is reported on standard error.
 ///
 /// Fails with `Write` if a write to `errors` failed, and with `Memory` if memory was refused, also to a command of a script:
 /// then the files before that one are updated, and it and those after it are as they were.
@@ -106,7 +106,7 @@ fn rewrite_file<R: Files + Eprint + AllocGlobal>(
     }
 }
 
-/// Puts a text that passes in the place of the script.
+/// Replaces the script by a text that passes.
 fn put_text<R: Files + Eprint + AllocGlobal>(
     rt: &R,
     name: &str,

@@ -1,4 +1,4 @@
--- The word run alone asks for the script of standard input.
+-- The one word `run` asks for the script of standard input.
 use Rattle.std.proofs.Common.{◌≡◌, ◌≤◌, ◌<◌, ◌∷◌, refl, List, [], codes, None, length, get_or, arith}
 use Rattle.clap.specs.Walk.{walked}
 use Rattle.clap.specs.Words.{Text, subcommand_of}

@@ -1,4 +1,4 @@
--- Bytes that are written one piece after another, of which the last may be cut.
+-- Bytes that are written one piece after another. The last piece may be cut.
 use Rattle.std.proofs.Common.{ℕ, List, [], ◌++◌, Option, OnErr, Ok, Err, Result, ap, ◌∙◌, sym, append_assoc}
 use Rattle.std.specs.Io.KnownBytes.{Appends, Keeps}
 use Rattle.std.proofs.KnownBytes.{Appends-kept, Appends-trans}

@@ -45,7 +45,7 @@ pub record AskedDraw : Type 0 where
   pub lines : Option Text
   pub output : Option Text
 
--- a script has the name of its file, or none on standard input; clients have their number, that of their rounds, and their table
+-- a script has the name of its file, or none on standard input; clients have their number, their rounds and their table
 pub data Asked : Type 0 where
   Run : Option Text → Asked
   Json : Option Text → Asked
@@ -200,7 +200,7 @@ kind_status DisplayHelp = 0
 kind_status DisplayVersion = 0
 kind_status kind = 2
 
--- if the program is to end, its status is that of one of these kinds
+-- if the program is to end, its status is the status of one of these kinds
 abbrev pub EndsBy : Kinds → Action → Type 0
 EndsBy kinds (action.End status) = (kind : ErrorKind) × IsAmong kind kinds × (status ≡ kind_status kind)
 EndsBy kinds (action.Run script) = Unit {0}

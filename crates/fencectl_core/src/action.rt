@@ -12,7 +12,7 @@ pub(crate) enum Action<'a> {
     Run(Script<'a>),
     /// Run a script, and print its answers as JSON.
     Json(Script<'a>),
-    /// Compare the answers of scripts with those that they expect.
+    /// Compare the answers of scripts with the answers that their notes expect.
     Check(Check<'a>),
     /// Rewrite scripts so that they expect what they answer: files, and those below folders.
     Update(Vec<&'a str>),
@@ -38,11 +38,11 @@ pub(crate) struct Check<'a> {
     pub allows_empty: bool,
 }
 
-/// What is drawn of a script, and where. The texts are those of the command line.
+/// What is drawn of a script, and where. The texts are as the command line has them.
 #[derive(Clone, Copy)]
 pub(crate) struct Draw<'a> {
     pub script: Script<'a>,
-    /// A graph in the place of a picture.
+    /// A graph instead of a picture.
     pub graph: bool,
     /// The line after which a graph is drawn.
     pub line: Option<&'a str>,

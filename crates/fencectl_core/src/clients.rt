@@ -18,8 +18,8 @@ use std::io::Write;
 use std::sync::Wait;
 use std::thread::Threads;
 
-/// Runs `n` clients for that many rounds over a table `T`, the first on the calling thread and each other in a thread of
-/// its own, and writes the text of what they settle, which is that of the plans' settled table, whatever the schedule.
+/// Runs `n` clients of `rounds` rounds each over a table `T`, the first on the calling thread and each other on a thread of
+/// its own, and writes the text of the table that they settle. No schedule changes the text.
 ///
 /// Fails as `run_clients`, which refuses none of these plans before its threads start, and with Write if a write
 /// failed or took no byte, or the flush failed. Then a prefix of the text is written.

@@ -50,7 +50,7 @@ fn choice_named(value: &str) -> Option<ColorChoice>
     }
 }
 
-/// Takes the options `--color WHEN` and `--color=WHEN` out of the words of a command line, wherever they stand before a word
+/// Takes the options `--color WHEN` and `--color=WHEN` out of the words of a command line, wherever they come before a word
 /// `--`, and gives the last of them. `None` if a value is none of `auto`, `always` and `never`, which is then reported.
 ///
 /// Fails with `Write` if that could not be printed.

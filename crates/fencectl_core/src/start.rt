@@ -25,7 +25,7 @@ use std::thread::Threads;
 const GREETING: &str =
     "fencectl: type one command a line; Ctrl-D leaves, and 'fencectl --help' lists the commands";
 
-/// Reads the command line, and does what it asks for. Gives the exit status: that of a fault is 2, and the fault is reported on
+/// Reads the command line, and does what it asks for. Gives the exit status, which is 2 after a fault. A fault is reported on
 /// standard error.
 pub fn perform<T: Threads + Wait + Sync>(rt: &HostRuntime, threads: &T) -> u8 {
     start(rt, threads).unwrap_or_else(|refusal| tell_fault(&refusal, &mut rt.stderr()))
@@ -178,7 +178,7 @@ fn form_of(rt: &HostRuntime, colors: Colors, report: Report) -> CheckForm {
     }
 }
 
-/// Perl's harness, which names itself in the environment, knows no later version than 13. What is written is the same in both.
+/// Perl's harness, which names itself in the environment, knows no later version than 13. Both are written alike.
 fn tap_version(rt: &HostRuntime) -> u64 {
     match env::var(rt, "HARNESS_VERSION") {
         Ok(_) => 13,

@@ -27,8 +27,8 @@ fn start(rt: &HostRuntime) -> Result<u8, Refusal> {
     }
 }
 
-/// By the words of the command line, of which the first is the program's own: the script of standard input, or that of the file
-/// that one word names.
+/// The script that the words of the command line ask for: the file that the word after the program's own names, or standard input
+/// if there is no such word.
 fn script_of(words: &[String]) -> Option<Script<'_>> {
     match words {
         [_] => Some(Script::StandardInput),

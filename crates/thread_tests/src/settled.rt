@@ -60,7 +60,7 @@ fn two_clients_settle_under_locks(rt: HostRuntime) {
     holds(&rt, are_settled(&ended, &printed));
 }
 
-/// The report of two clients over buffers under locks; the table in the place of the board refuses each run of one client.
+/// The report of two clients over buffers under locks. The table that is given as the board would refuse a run of one client.
 fn report_locked<R: Threads + Wait + Sync, W: Write>(
     rt: &R,
     alloc: Global,
@@ -90,7 +90,7 @@ fn check_board<R: Threads + Wait + Abort + Sync>(rt: &R, alloc: Global) {
     holds(rt, ended == Err(Refusal::Torn) && printed.is_empty());
 }
 
-/// The same of the table under locks.
+/// Checks the same for the table under locks.
 fn check_locks<R: Threads + Wait + Abort + Sync>(rt: &R, alloc: Global) {
     let mut printed = Vec::new(alloc);
     let ended = report_clients::<R, Board, OddTable, Vec<u8>>(
