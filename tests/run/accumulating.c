@@ -1,4 +1,4 @@
-/* A user of libdrm's header <libsync.h>: what many drivers do with the fences of a batch. */
+/* A user of libdrm's header <libsync.h>, which gathers the fences of a batch as many drivers do. */
 #include "kernel.h"
 #include <libsync.h>
 

@@ -1,4 +1,4 @@
-/* Buffers from the heap: their memory, their fences, and who waits for what. */
+/* Buffers from the heap: their memory, their fences, and waits for them. */
 #include "kernel.h"
 #include <pthread.h>
 #include <signal.h>

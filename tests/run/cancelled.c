@@ -1,5 +1,4 @@
-/* An ioctl is no cancellation point: a thread that is cancelled in the midst of calls finishes them, and leaves neither a lock nor a
- * descriptor behind. */
+/* An ioctl is no cancellation point: a cancelled thread finishes its call, and leaves neither a lock nor a descriptor behind. */
 #include "kernel.h"
 #include <pthread.h>
 #include <sys/syscall.h>

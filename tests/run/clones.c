@@ -1,4 +1,4 @@
-/* Children that were made without the C library, or whose parent's handlers of fork call themselves. */
+/* Children made by clone or vfork past the C library, or of a parent whose fork handlers call the service. */
 #include "kernel.h"
 #include <pthread.h>
 #include <signal.h>

@@ -1,4 +1,4 @@
-/* Which errno each call of a timeline and of a sync file fails with, and that a failed call leaves nothing. */
+/* The errno with which each call of a timeline and of a sync file fails. A failed call leaves nothing behind. */
 #include "kernel.h"
 #include <sys/select.h>
 #include <sys/uio.h>

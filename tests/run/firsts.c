@@ -1,4 +1,4 @@
-/* The first calls of a process, which several threads make at once. */
+/* Two threads make the first calls of a process at once. */
 #include "kernel.h"
 #include <pthread.h>
 #include <sched.h>

@@ -1,5 +1,5 @@
-/* A user who has too many descriptors on the way, in messages that nobody has taken, gets no more by messages: the call fails then,
- * and the process goes on. To be run by an ordinary user with a limit of 64 descriptors. */
+/* A user with too many descriptors in flight, in messages that no process has received, gets no more by messages: the call
+ * fails, and the process continues. Run it as an ordinary user with a limit of 64 descriptors. */
 #include "kernel.h"
 
 enum { MANY = 80, SOME = 20 };

@@ -1,9 +1,9 @@
 /* usage: killed TOOL ORDER MICROSECONDS [WORD ...]
  *
- * Starts itself by the tool. Processes then wait in all ways for points that nobody reaches, and after some time those of the tool
- * are killed, in an order of letters: T is the tool, S its server, G its guard; - waits until there is a guard again, and L for
- * the program and the tool to end. Whoever sees success says so. All have to be ended, and soon: before the tool ends, if that
- * isn't killed. The words:
+ * Starts itself by the tool. Processes then wait in all ways for points that no one reaches, and after some time the tool's own
+ * processes are killed in the order of the letters: T is the tool, S its server, G its guard; - waits until there is a guard again,
+ * and L for the program and the tool to end. A process that sees success reports it. All processes have to end soon, and before the
+ * tool does, unless the tool was killed. The words:
  *
  *   full     the service has no descriptor left
  *   blind    nobody can read /proc any more

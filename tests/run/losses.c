@@ -1,5 +1,5 @@
-/* Once nobody holds the other end of a file or a buffer, what waits for it reports a hang-up, which libsync takes for a signal: no
- * call of a program that is served may return then. What is here stands for a file whose service is gone, by its mode. */
+/* Once no process holds the other end of a file or a buffer, its waits report a hang-up, which libsync takes for a signal: no
+ * call of a program that is served may return then. A pipe with the mode of a file whose service is gone takes the place of one. */
 #include "kernel.h"
 #include <pthread.h>
 #include <sys/epoll.h>

@@ -1,4 +1,4 @@
-/* A race that luck hides: nobody waits for the producer, since a short pause has always been long enough. */
+/* A race that luck hides: the program doesn't wait for the producer, since a short pause was always long enough. */
 #include "kernel.h"
 #include <pthread.h>
 

@@ -1,4 +1,4 @@
-/* As many timelines, files and buffers as a program makes, at a time and in turn. */
+/* Many timelines, files and buffers, at a time and in turn. */
 #include "kernel.h"
 
 enum { TIMELINES = 300, IN_TURN = 5000, FILES = 5000, BUFFERS = 1000, SPARE = 200 };

@@ -1,7 +1,7 @@
 /* usage: memory [TRACE]
  *
- * The registry of run/, with each of its allocations refused in turn. A request that was refused memory leaves nothing behind, no
- * object, descriptor or block, and after a run all that was made can be let go. To be linked with run/'s registry and
+ * The registry of run/, with each of its allocations refused in turn. A request that was refused memory leaves no object,
+ * descriptor or block behind, and after a run every object can be released. Link it with run/'s registry and
  *     -Wl,--wrap=malloc -Wl,--wrap=calloc -Wl,--wrap=realloc */
 #define _GNU_SOURCE
 #include "../../run/registry.h"

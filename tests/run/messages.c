@@ -1,4 +1,4 @@
-/* Messages that no client sends, of which each has one answer or none. */
+/* Messages that no client sends. Each has one answer or none. */
 #include "client.h"
 
 enum { PAGE = 4096, GUESSES = 300 };

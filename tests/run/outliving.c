@@ -1,6 +1,6 @@
 /* usage: outliving FILE
  *
- * A process that outlives the program: it goes on to use what it has, and at the end writes into the file how that went. */
+ * A process that outlives the program: it continues to use its objects, and at the end writes the result into the file. */
 #include "kernel.h"
 
 int main(int argc, char **argv)

@@ -1,8 +1,8 @@
 /* usage: outside give SOCKET | take SOCKET
  *
- * "take" runs without the tool, and begins first. "give" is a program of the tool's that hands a pending fence and its environment to
- * it by a socket, and kills the service. Nobody outside of the program's processes sees the fence signal, or is ended, if it only waits
- * or has used the service before. */
+ * "take" runs without the tool, and begins first. "give" is run by the tool, hands a pending fence and its environment over by a
+ * socket, and kills the service. No process outside of the run sees the fence signal, and none is killed that only waits or used
+ * the service before. */
 #include "service.h"
 #include <sys/un.h>
 

@@ -1,5 +1,4 @@
-/* The page that a service shares with its processes: none of them can write it, and what is read is what was written at one time. To
- * be linked with run/page.c. */
+/* The page that a service shares with its processes: no process can write it, and each read is of one write. Link it with run/page.c. */
 #define _GNU_SOURCE
 #include "../../run/page.h"
 #include "../c/expect.h"

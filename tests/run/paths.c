@@ -1,4 +1,4 @@
-/* The paths that a program looks for: each call that asks about one, and those beside it. */
+/* The paths that a program looks for: each call that takes one of them, and the paths beside them. */
 #include "kernel.h"
 #include <dlfcn.h>
 #include <sys/syscall.h>

@@ -1,5 +1,5 @@
-/* What the kernel may refuse to a program or to its service, and what goes another way then: copies from the caller's memory and
- * close_range, which a container's filter or an old kernel refuses, and memory for requests. */
+/* System calls that a kernel may refuse to a program or to its service: copies from the caller's memory and close_range, which a
+ * container's filter or an old kernel refuses, and memory for requests. Each has another way. */
 #include "service.h"
 #include <linux/filter.h>
 #include <linux/seccomp.h>

@@ -1,4 +1,4 @@
-/* What the kernel reports of files: names, statuses, rows and times; and its text of all timelines. */
+/* The kernel's reports of files: names, statuses, rows and times; and its text of all timelines. */
 #include "kernel.h"
 #include <pthread.h>
 #include <stdlib.h>

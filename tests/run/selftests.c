@@ -1,5 +1,5 @@
-/* What the ten tests of Linux's tools/testing/selftests/sync ask of sw_sync, written anew: the lifetimes of a timeline and of a
- * fence, waits, merges, and three tests under load. */
+/* The ten tests of Linux's tools/testing/selftests/sync, written anew: the lifetimes of a timeline and of a fence, waits, merges, and
+ * three tests under load. */
 #include "kernel.h"
 #include <pthread.h>
 

@@ -1,5 +1,5 @@
-/* Signal handlers that are set by signal(2) and its like, each in a process of its own; and SIGPIPE, of which no program hears that
- * only makes, increments and closes. */
+/* Signal handlers that are set by signal(2) and its like, each in a process of its own. A program that only makes, increments and
+ * closes gets no SIGPIPE. */
 #include "kernel.h"
 #include <pthread.h>
 #include <signal.h>

@@ -1,5 +1,4 @@
-/* What a program can do to a pipe or a socket, it can't do to a file or a buffer, which is neither: nobody makes one ready, or takes
- * its readiness away. */
+/* Calls of pipes and sockets fail on a file or a buffer, as on a kernel: no process makes one ready, or takes its readiness away. */
 #include "kernel.h"
 #include <sys/sendfile.h>
 #include <sys/uio.h>

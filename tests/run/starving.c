@@ -1,4 +1,4 @@
-/* Threads and processes that ask about a file in a loop until it signals don't keep the others from signalling it. */
+/* Threads and processes that ask about a file in a loop until it signals don't keep others from signalling it. */
 #include "kernel.h"
 #include <pthread.h>
 

@@ -1,4 +1,4 @@
-/* Buffers that /dev/udmabuf makes of memory files: what it takes, what they map, and their fences. */
+/* Buffers that /dev/udmabuf makes of memory files: its arguments, the memory that the buffers map, and their fences. */
 #include "kernel.h"
 #include <linux/udmabuf.h>
 #include <sys/syscall.h>

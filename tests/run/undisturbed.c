@@ -1,7 +1,7 @@
 /* usage: undisturbed signals | tool TEXT
  *
- * A program whose first call comes late, when nobody uses the service yet. Before that, somebody sends signals to the service, or the
- * tool is killed, and the service goes on all the same. With "tool" the result is written to the file TEXT. */
+ * A program whose first call comes late. Before it, the service gets signals, or the tool is killed; the service still serves the
+ * program. With "tool" the result is written to the file TEXT. */
 #include "service.h"
 
 enum { LATE = 500 };
