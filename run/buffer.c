@@ -1,4 +1,4 @@
-/* Buffers: memory that can be mapped, and a socket that polls as the kernel's dma-buf does. */
+/* Buffers: mappable memory, and a socket that polls as the kernel's dma-buf does. */
 #define _GNU_SOURCE
 #include "calls.h"
 #include "registry.h"
@@ -8,11 +8,11 @@
 #include <string.h>
 #include <sys/mman.h>
 
-/* What a poll asks of the device, and what it waits for: a reader for writers, a writer for everybody. */
+/* The usage at which poll asks the device: a reader waits for writers, a writer for all fences. */
 static const int USAGES[ACCESSES] = { [READING] = BIM_WRITE, [WRITING] = BIM_READ };
 static const uint32_t AWAITS[ACCESSES] = { [READING] = BIM_SYNC_READ, [WRITING] = BIM_SYNC_WRITE };
 
-/* The kernel gives no buffer more memory than there is. */
+/* The kernel refuses a buffer larger than the machine's memory. */
 static bool is_too_large(uint64_t size)
 {
     return size / sysconf(_SC_PAGESIZE) > (uint64_t)sysconf(_SC_PHYS_PAGES);
@@ -25,7 +25,8 @@ static int give_up(int memory)
     return -1;
 }
 
-/* Memory of a size, or -1 with errno. What isn't to be written can't be mapped so either, also later. */
+/* Makes memory of `size` bytes. Returns -1 with errno on failure. Read-only memory is sealed, so that it can't be
+ * mapped writable later. */
 static int new_memory(uint64_t size, uint32_t flags)
 {
     int memory = memfd_create("dmabuf", MFD_CLOEXEC), fixed;
@@ -53,7 +54,7 @@ static int make_memory(struct registry *registry, const struct bim_request *requ
     return memory;
 }
 
-/* A descriptor of the registry's for memory that a program has. */
+/* Returns a descriptor of the registry's own for memory that a program passed. */
 static int keep_memory(struct registry *registry, int passed)
 {
     int memory;
@@ -148,7 +149,7 @@ int buffer_name(struct object *buffer, const char *name)
     return 0;
 }
 
-/* The program's poll reports a buffer for this access again. */
+/* Makes the program's poll report the buffer for this access again. */
 void buffer_is_ready(struct object *object, enum access access)
 {
     struct buffer *buffer = &object->buffer;
@@ -162,7 +163,7 @@ void buffer_is_ready(struct object *object, enum access access)
         endpoint_set_writable(object->endpoint);
 }
 
-/* Lets go of what an access has waited for, perhaps as its process ends. */
+/* Releases the file that an access waits for. `with_process` says that its process may be ending. */
 static void stop_awaiting(struct registry *registry, struct buffer *buffer, enum access access, bool with_process)
 {
     struct object *awaited = buffer->awaited[access];
@@ -188,7 +189,7 @@ static struct object *new_readiness(struct object *of, enum access access)
     return awaited;
 }
 
-/* Has the device report when all that the access waits for has signalled, by a file that no program has. */
+/* Has the device report when all fences of the access have signalled, by a file that no program holds. */
 static int await(struct registry *registry, struct object *object, enum access access)
 {
     struct object *awaited = new_readiness(object, access);
@@ -223,7 +224,7 @@ static void await_or_retry(struct registry *registry, struct object *object, enu
     registry->has_unawaited = true;
 }
 
-/* Whether the device says that nothing is pending for an access. */
+/* Returns whether the device says that nothing is pending for an access. */
 static bool is_idle(struct registry *registry, const struct object *object, enum access access)
 {
     int32_t signalled = 0;
@@ -231,7 +232,7 @@ static bool is_idle(struct registry *registry, const struct object *object, enum
     return bim_device_test(&registry->device, object->number, USAGES[access], &signalled) == 0 && signalled;
 }
 
-/* Takes the readiness for an access back if the device says that something is pending. */
+/* Clears the readiness for an access if the device says that a fence is pending. */
 static void refresh(struct registry *registry, struct object *object, enum access access, int theirs)
 {
     if (is_idle(registry, object, access))
@@ -269,7 +270,7 @@ void buffers_retry(struct registry *registry)
     }
 }
 
-/* The program's end comes along, since only that can take readiness back. */
+/* Returns whether the program's end, which is needed to clear readiness, was passed along. */
 static bool is_end_of(const struct object *object, int passed)
 {
     uint64_t inode;
@@ -277,7 +278,7 @@ static bool is_end_of(const struct object *object, int passed)
     return passed >= 0 && endpoint_mark(passed, &inode) == BIM_BUFFER_MARK && inode == object->inode;
 }
 
-/* Once the device has the file, nothing can fail any more: what lacks memory then is tried again. */
+/* Nothing can fail once the device has the file: what lacks memory then is retried later. */
 int buffer_import(struct registry *registry, const struct bim_request *request, struct object *object, int passed)
 {
     struct object *file = registry_find(registry, request->b);

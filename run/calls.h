@@ -1,5 +1,5 @@
-/* System calls as such: in a program whose calls are watched, the service's own are not, and a thread can't be
- * cancelled in one. */
+/* Raw system calls. In a watched program, the service's own calls bypass the library, and none of them is a
+ * cancellation point. */
 #ifndef BIM_RUN_CALLS_H
 #define BIM_RUN_CALLS_H
 
@@ -18,7 +18,7 @@
 #error "only for machines with 64 bits"
 #endif
 
-/* Headers that are older than Linux 5.1, 5.3 and 5.9 lack these; they have the same numbers on all machines. */
+/* Headers older than Linux 5.1, 5.3 and 5.9 lack these numbers, which are equal on all machines. */
 #ifndef SYS_pidfd_send_signal
 #define SYS_pidfd_send_signal 424
 #endif
@@ -66,13 +66,14 @@ static inline ssize_t call_recv(int file, void *bytes, size_t length)
     return syscall(SYS_recvfrom, file, bytes, length, MSG_DONTWAIT, NULL, NULL);
 }
 
-/* A run may be in another, whose library would refuse a timeline. */
+/* Calls the kernel directly: a run may be nested in another run, whose library would refuse to watch a timeline. */
 static inline int call_epoll_ctl(int set, int how, int file, struct epoll_event *event)
 {
     return syscall(SYS_epoll_ctl, set, how, file, event);
 }
 
-/* Opens the file of a descriptor for reading only. Without /proc, or if its owner may not read it, returns -1. */
+/* Opens the file behind a descriptor again, read-only. Returns -1 without /proc, or if the file's owner may not read
+ * it. */
 static inline int call_open_again(int file)
 {
     char path[32];
@@ -81,7 +82,7 @@ static inline int call_open_again(int file)
     return syscall(SYS_openat, AT_FDCWD, path, O_RDONLY | O_CLOEXEC, 0);
 }
 
-/* Another number of a descriptor, the least from `least` on. */
+/* Duplicates `file` to the lowest free descriptor from `least` on. */
 static inline int call_dup_from(int file, int least)
 {
     return syscall(SYS_fcntl, file, F_DUPFD_CLOEXEC, least);

@@ -1,4 +1,5 @@
-/* close(2) and what else closes: the last close of a timeline cancels before it returns, so the service hears of it. */
+/* close(2) and its relatives. The last close of a timeline cancels its fences before it returns, so the service hears
+ * of it first. */
 #define _GNU_SOURCE
 #include "calls.h"
 #include "shim.h"
@@ -7,7 +8,7 @@
 #include <limits.h>
 #include <stdio.h>
 
-/* What is closed, if the service is to hear of it. */
+/* Returns the number of the object that is closed if the service has to be told, or 0. */
 static uint64_t closing(int file)
 {
     uint64_t inode;
@@ -52,7 +53,7 @@ EXPORT int close(int file)
     return result;
 }
 
-/* The C library closes a stream's descriptor by itself. */
+/* The C library closes a stream's descriptor without calling close(2). */
 EXPORT int fclose(FILE *stream)
 {
     NEXT(fclose);
@@ -93,7 +94,7 @@ EXPORT int dup3(int file, int other, int flags)
     return result;
 }
 
-/* Closes a range of numbers, in whatever way the kernel has. */
+/* Closes a range of descriptors by whichever call the kernel has. */
 static int close_numbers(unsigned first, unsigned last, int flags)
 {
     long most = sysconf(_SC_OPEN_MAX);
@@ -107,7 +108,7 @@ static int close_numbers(unsigned first, unsigned last, int flags)
     return 0;
 }
 
-/* Closes a range but for what the service has in this process, and has all closings done. */
+/* Closes a range of descriptors except the service's own in this process, and has all closings done. */
 static int close_around(unsigned first, unsigned last, int flags)
 {
     unsigned begin = first, above = shim_above_own();

@@ -1,5 +1,4 @@
-/* What else programs do with descriptors: Linux's sync files can be neither read nor written, and its dma-bufs can be
- * mapped. */
+/* Other calls on descriptors: Linux's sync files can be neither read nor written, and its dma-bufs can be mapped. */
 #define _GNU_SOURCE
 #include "calls.h"
 #include "shim.h"
@@ -35,7 +34,7 @@ EXPORT ssize_t readv(int file, const struct iovec *parts, int count)
     return is_ours(file) ? shim_result(EINVAL) : next(file, parts, count);
 }
 
-/* What fortified programs call. */
+/* Entry points of programs built with _FORTIFY_SOURCE. */
 ssize_t __read_chk(int file, void *bytes, size_t length, size_t room);
 
 EXPORT ssize_t __read_chk(int file, void *bytes, size_t length, size_t room)
@@ -45,8 +44,8 @@ EXPORT ssize_t __read_chk(int file, void *bytes, size_t length, size_t room)
     return is_ours(file) ? shim_result(EINVAL) : next(file, bytes, length, room);
 }
 
-/* A pipe's read end can't be written to anyhow, nor can a sealed file; but on a kernel, a timeline and a heap are open
- * for writing. */
+/* Corrects the error of a write. A pipe's read end and a sealed file can't be written anyway, but in Linux a timeline
+ * and a heap are open for writing. */
 static ssize_t written(int file, ssize_t result)
 {
     uint64_t inode;
@@ -122,7 +121,8 @@ EXPORT ssize_t sendfile64(int to, int from, off64_t *at, size_t length)
     return is_ours(to) || is_ours(from) ? refuse_sending(to) : next(to, from, at, length);
 }
 
-/* Asks for a part of a buffer's memory, or for no part. Returns an errno: ENODEV for what is no buffer. */
+/* Asks for a part of a buffer's memory, or for its description only. Returns an errno: ENODEV if the file is no
+ * buffer. */
 static int ask_for_memory(int file, uint32_t part, struct bim_answer *buffer, int *memory)
 {
     struct bim_request request = { .op = BIM_OP_MEMORY, .value = part };
@@ -130,8 +130,8 @@ static int ask_for_memory(int file, uint32_t part, struct bim_answer *buffer, in
     return shim_is_buffer(file, &request.a) ? shim_ask(&request, -1, buffer, memory) : ENODEV;
 }
 
-/* What the kernel says of a mapping: 0 or an errno. A heap's driver maps page by page, which can't be done to a private
- * copy of several. */
+/* Returns the kernel's error for a mapping, or 0. A heap's driver maps page by page, which fails for a private copy of
+ * several pages. */
 static int refusal_of_map(const struct bim_answer *buffer, const struct shim_map *map)
 {
     bool is_private = (map->flags & MAP_TYPE) == MAP_PRIVATE;
@@ -145,7 +145,7 @@ static int refusal_of_map(const struct bim_answer *buffer, const struct shim_map
     return is_private && (buffer->is_lent || map->length > (size_t)sysconf(_SC_PAGESIZE)) ? EINVAL : 0;
 }
 
-/* The kernel can't map what stands for a buffer; its memory is another file. */
+/* Maps the memory file of a buffer, since the socket that represents the buffer can't be mapped. */
 static void *map(const struct shim_map *map, int file)
 {
     struct bim_answer buffer;
@@ -172,7 +172,7 @@ static void *map_buffer(void *at, size_t length, int protection, int flags, int 
     return shim_mark(file, &whole.buffer) == BIM_BUFFER_MARK ? map(&whole, file) : MAP_FAILED;
 }
 
-/* A heap's memory is in its buffers. */
+/* A heap has no memory of its own; its buffers have. */
 static bool is_device(int file, int flags)
 {
     uint64_t inode;
@@ -226,7 +226,7 @@ static off_t seek(int file, off_t to, int whence)
 LSEEK(lseek)
 LSEEK(lseek64)
 
-/* What a kernel shows of a buffer's size, and of a device. */
+/* Fills in what Linux shows: the size of a buffer, and the type of a device. */
 static int add_size(int file, struct stat *found)
 {
     struct bim_answer buffer;
@@ -254,7 +254,7 @@ static int add_size(int file, struct stat *found)
 FSTAT(fstat, stat)
 FSTAT(fstat64, stat64)
 
-/* What a link of /proc names. */
+/* Writes the name that a link in /proc shows for a descriptor. */
 static int name_of(int file, char *name, size_t room)
 {
     struct bim_answer buffer = { .name = "" };
@@ -272,7 +272,7 @@ static int name_of(int file, char *name, size_t room)
     }
 }
 
-/* Whether a link that the kernel has read may be that of a descriptor of ours. */
+/* Returns whether a link that the kernel has read may be a link of one of our descriptors. */
 static bool is_of_descriptor(const char *link, ssize_t length)
 {
     static const char *const BEGINNINGS[] = { "pipe:[", "socket:[", "/memfd:device" };
@@ -283,7 +283,7 @@ static bool is_of_descriptor(const char *link, ssize_t length)
     return is;
 }
 
-/* The name of what a path leads to, in place of the kernel's link. */
+/* Replaces the kernel's link text by the name of the object to which the path leads. */
 static ssize_t read_link(int folder, const char *path, char *link, size_t room, ssize_t length)
 {
     char name[64];
@@ -315,7 +315,7 @@ EXPORT ssize_t readlinkat(int folder, const char *path, char *link, size_t room)
     return read_link(folder, path, link, room, next(folder, path, link, room));
 }
 
-/* What fortified programs call. */
+/* Entry points of programs built with _FORTIFY_SOURCE. */
 ssize_t __readlink_chk(const char *path, char *link, size_t room, size_t size);
 ssize_t __readlinkat_chk(int folder, const char *path, char *link, size_t room, size_t size);
 
@@ -333,7 +333,8 @@ EXPORT ssize_t __readlinkat_chk(int folder, const char *path, char *link, size_t
     return read_link(folder, path, link, room, next(folder, path, link, room, size));
 }
 
-/* The mode and the time of ours say what they are. On a kernel, they are those of an inode that many share. */
+/* The mode and the access time of our inodes identify the object, so they must not change. In Linux, they belong to an
+ * inode that many files share. */
 EXPORT int fchmod(int file, mode_t mode)
 {
     NEXT(fchmod);

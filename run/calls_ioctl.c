@@ -1,4 +1,4 @@
-/* ioctl(2) on our descriptors: what Linux's sw_sync, sync files, dma-bufs and heaps take. */
+/* ioctl(2) on our descriptors: the calls of Linux's sw_sync, sync files, dma-bufs and heaps. */
 #define _GNU_SOURCE
 #include "calls.h"
 #include "ioctls.h"
@@ -11,9 +11,9 @@
 #include <string.h>
 #include <sys/ioctl.h>
 
-enum { SOCKET_CALLS = 0x89 }; /* the type of SIOCATMARK and its like */
+enum { SOCKET_CALLS = 0x89 }; /* the type of SIOCATMARK and other socket calls */
 
-/* Asks for a new descriptor, and stores it in the caller's struct. If it can't be stored, it is closed again. */
+/* Asks for a new descriptor, and stores it in the caller's struct. Closes it again if it can't be stored. */
 static int give_file(struct bim_request *request, void *arg, void *data, size_t size, int32_t *field)
 {
     struct bim_answer answer;
@@ -61,13 +61,13 @@ static int merge(uint64_t file, void *arg)
         return EINVAL;
     if (shim_mark(data.fd2, &request.b) != BIM_FILE_MARK)
         request.b = 0;
-    /* The kernel stores the name as it has taken it. */
+    /* Like the kernel, stores the name back as it was read, with its last byte cleared. */
     data.name[sizeof data.name - 1] = 0;
     strcpy(request.name, data.name);
     return give_file(&request, arg, &data, sizeof data, &data.fence);
 }
 
-/* Stores the rows of an answer, which come in a file if there are many. */
+/* Stores the rows of an answer. Many rows come in a memory file. */
 static int put_rows(const struct sync_file_info *data, const struct bim_answer *answer, int rows_file)
 {
     char *to = (char *)(uintptr_t)data->sync_fence_info;
@@ -114,7 +114,7 @@ static int file_info(uint64_t file, void *arg)
         error = put_info(&data, &answer, rows_file, arg);
     if (rows_file >= 0)
         call_close(rows_file);
-    /* Who asks until a file signals leaves the processor to those who are to signal it. */
+    /* A program that asks in a loop until a file signals must yield to the thread that will signal it. */
     if (!error && data.status == 0)
         sched_yield();
     return error;
@@ -156,8 +156,8 @@ static int allocate(void *arg)
     return error;
 }
 
-/* Waits as an interruptible wait of the kernel's does: by a read, which a signal handler interrupts or not, as it asked
- * for. */
+/* Waits as the kernel's interruptible wait does: in a read, which a signal handler interrupts unless it was set with
+ * SA_RESTART. */
 static int wait_for_byte(int file)
 {
     char byte;
@@ -168,7 +168,7 @@ static int wait_for_byte(int file)
     return length < 0 ? errno : 0;
 }
 
-/* Waits until a buffer is ready, or only looks. Returns 0, or EAGAIN if it isn't, or EINTR. */
+/* Waits until a buffer is ready, or only checks. Returns 0, EAGAIN if it isn't ready, or EINTR. */
 static int poll_buffer(int buffer, short event, int milliseconds)
 {
     struct pollfd file = { buffer, event, 0 };
@@ -179,8 +179,8 @@ static int poll_buffer(int buffer, short event, int milliseconds)
     return count < 0 ? errno : file.revents & event ? 0 : EAGAIN;
 }
 
-/* Waits for the fences of an access. A process that has no number left for their file polls the buffer, which a signal
- * handler interrupts in any case. */
+/* Waits for the fences of an access. If the process has no descriptor left for a file of them, polls the buffer, which
+ * any signal handler interrupts. */
 static int wait_for(int buffer, short event, struct bim_request *request)
 {
     int file = shim_ask_for_file(request), error;
@@ -231,7 +231,7 @@ static int export_file(uint64_t buffer, void *arg)
 
     if (error)
         return error;
-    /* The kernel looks at these before it takes a number for the descriptor. */
+    /* The kernel checks these before it takes a number for the descriptor. */
     if (data.flags & ~DMA_BUF_SYNC_RW || !data.flags)
         return EINVAL;
     request.flags = data.flags;
@@ -253,7 +253,7 @@ static int import_file(int file, uint64_t buffer, void *arg)
     return shim_ask(&request, file, &answer, NULL);
 }
 
-/* The kernel takes a number for the new descriptor before it looks at anything else. */
+/* The kernel takes a number for the new descriptor before it checks anything else, so a lack of numbers comes first. */
 static int after_number(int error)
 {
     int number = error ? syscall(SYS_eventfd2, 0, O_CLOEXEC) : -1;
@@ -302,8 +302,8 @@ static int on_heap(unsigned long call, void *arg)
     return call == DMA_HEAP_IOCTL_ALLOC ? allocate(arg) : EINVAL;
 }
 
-/* Whether a call is one of those above, or one that only what stands for our objects takes: pipes and sockets. All
- * others are the kernel's at once. */
+/* Returns whether a call is one of those above, or one that only pipes and sockets take. All others go to the kernel at
+ * once. */
 static bool is_ours(unsigned long call)
 {
     if (call == FIONREAD || call == TIOCOUTQ)
@@ -330,7 +330,7 @@ static int answer(int file, enum bim_mark mark, uint64_t inode, unsigned long ca
     }
 }
 
-/* A heap knows its call by the number, whatever the type, and takes no other. */
+/* A heap recognises its call by the number only, whatever the type, and takes no other. */
 static int after_kernel(int file, int result)
 {
     uint64_t inode;

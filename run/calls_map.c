@@ -1,4 +1,4 @@
-/* mmap(2) of a buffer whose memory has several parts: each is mapped at its place of the whole. */
+/* mmap(2) of a buffer whose memory has several parts: maps each part at its offset in the whole. */
 #define _GNU_SOURCE
 #include "calls.h"
 #include "shim.h"
@@ -11,7 +11,7 @@ static char *map_memory(void *at, size_t length, int protection, int flags, int 
     return (char *)syscall(SYS_mmap, at, length, protection, flags, memory, from);
 }
 
-/* Address space for the whole, in which parts replace what is there. */
+/* Reserves address space for the whole buffer, which the mappings of the parts then replace. */
 static char *reserve(const struct shim_map *map)
 {
     int flags = (map->flags & ~(MAP_TYPE | MAP_POPULATE)) | MAP_PRIVATE | MAP_ANONYMOUS | MAP_NORESERVE;
@@ -19,7 +19,7 @@ static char *reserve(const struct shim_map *map)
     return map_memory(map->at, map->length, PROT_NONE, flags, -1, 0);
 }
 
-/* Maps what a part has of the range. The part begins at `start` of the buffer. */
+/* Maps the intersection of a part and the range. The part begins at offset `start` of the buffer. */
 static int map_part(const struct shim_map *map, char *whole, uint64_t start, const struct bim_answer *part, int memory)
 {
     uint64_t end = start + part->length, last = map->from + map->length;

@@ -16,8 +16,8 @@
 enum { PATH_ROOM = 64 };
 enum path { NOT_OURS, SW_SYNC, SYNC_INFO, DMA_HEAP, UDMABUF };
 
-/* The path is readable, since the kernel has read it, or a copy was made. A call that names a file by its descriptor
- * may have none. */
+/* The path is readable, since the kernel has read it, or it is a copy. A call that names a file by its descriptor may
+ * have no path. */
 static enum path path_of(const char *path)
 {
     if (!shim_is_on() || !path || path[0] != '/')
@@ -31,13 +31,13 @@ static enum path path_of(const char *path)
     return strcmp(path, "/dev/dma_heap/system") == 0 ? DMA_HEAP : NOT_OURS;
 }
 
-/* The path of a call that the kernel has answered. */
+/* Classifies the path of a call that the kernel has already answered. */
 static enum path path_after(const char *path, bool has_failed)
 {
     return has_failed && errno == EFAULT ? NOT_OURS : path_of(path);
 }
 
-/* The path of a call that would make a file, and isn't to be made for ours. */
+/* Classifies the path of a call that would create a file, and must not create one of ours. */
 static enum path path_before(const char *path)
 {
     char copy[PATH_ROOM];
@@ -45,7 +45,7 @@ static enum path path_before(const char *path)
     return shim_is_on() && user_get_text(copy, path, sizeof copy) == 0 ? path_of(copy) : NOT_OURS;
 }
 
-/* A device is a mark: what it makes is the service's. */
+/* Opens a device: a descriptor that only has its mark. The service makes the objects. */
 static int open_device(enum bim_mark mark)
 {
     int file = memfd_create("device", MFD_CLOEXEC | MFD_ALLOW_SEALING);
@@ -65,7 +65,7 @@ static int open_by_service(enum path path)
     return shim_ask_for_file(&request);
 }
 
-/* What the kernel says of flags that don't fit a file: 0 or an errno. */
+/* Returns the kernel's error for flags that don't fit a file, or 0. */
 static int refusal_of_open(enum path path, int flags)
 {
     if (flags & O_CREAT && flags & O_EXCL)
@@ -81,7 +81,7 @@ static int open_path(enum path path, int flags)
 
     if (error)
         return shim_result(error);
-    /* Such a descriptor only says that there is something. */
+    /* An O_PATH descriptor only says that the path exists. */
     if (flags & O_PATH)
         return syscall(SYS_openat, AT_FDCWD, "/dev/null", flags, 0);
     switch (path) {
@@ -94,7 +94,7 @@ static int open_path(enum path path, int flags)
     return file;
 }
 
-/* Opens one of ours in place of what the kernel may have opened. */
+/* Opens one of our files in place of the file that the kernel may have opened. */
 static int replace_file(enum path path, int flags, int opened)
 {
     if (opened >= 0)
@@ -102,7 +102,8 @@ static int replace_file(enum path path, int flags, int opened)
     return open_path(path, flags);
 }
 
-/* Whether a path may name a descriptor of ours. Only root opens one for which its owner has no rights. */
+/* Returns whether a path may name one of our descriptors. If its mode denies the owner access, the kernel's open has
+ * failed with EACCES, except for root. */
 static bool is_of_descriptor(const char *path, int opened)
 {
     if (opened < 0 && errno != EACCES)
@@ -130,8 +131,8 @@ static int refuse_file(int opened)
     return shim_result(ENXIO);
 }
 
-/* What the kernel makes of a descriptor's path below /proc, if the descriptor is ours: a timeline's opens another
- * timeline, and a file's, like a buffer's, can't be opened. */
+/* Does what the kernel does for a path below /proc of a descriptor of ours: opening a timeline's path makes another
+ * timeline; a file's or a buffer's path can't be opened. */
 static int reopen(const char *path, int flags, int opened)
 {
     uint64_t inode;
@@ -150,7 +151,8 @@ static bool makes_files(int flags)
     return flags & (O_CREAT | __O_TMPFILE);
 }
 
-/* What the kernel would make, or would catch as a direct call, isn't to be made. */
+/* Returns whether to check the path before the kernel's open, which would create a file, or be caught as a direct
+ * call. */
 static bool looks_first(int flags)
 {
     return makes_files(flags) || direct_is_on();
@@ -217,7 +219,7 @@ OPENAT(openat64)
 CREAT(creat)
 CREAT(creat64)
 
-/* What fortified programs call. */
+/* Entry points of programs built with _FORTIFY_SOURCE. */
 int __open_2(const char *path, int flags);
 int __open64_2(const char *path, int flags);
 int __openat_2(int folder, const char *path, int flags);
@@ -243,8 +245,8 @@ EXPORT int __openat64_2(int folder, const char *path, int flags)
     return openat64(folder, path, flags);
 }
 
-/* A stream over a descriptor of ours, which nobody reads or writes, but for the text. The C library takes a pipe's read
- * end only for reading. */
+/* Opens a stream over one of our descriptors. Only the text of sync/info is ever read. The C library opens a stream on
+ * a pipe's read end only for reading. */
 static FILE *open_stream(enum path path, const char *mode)
 {
     int flags = strchr(mode, '+') ? O_RDWR : mode[0] == 'r' ? O_RDONLY : O_WRONLY;
@@ -268,7 +270,7 @@ static FILE *open_stream(enum path path, const char *mode)
 FOPEN(fopen)
 FOPEN(fopen64)
 
-/* A file of debugfs, or a device. */
+/* The mode of a file of debugfs, or of a device. */
 static mode_t mode_of(enum path path)
 {
     return path == DMA_HEAP || path == UDMABUF ? S_IFCHR | 0600 : path == SYNC_INFO ? S_IFREG | 0444 : S_IFREG | 0644;
@@ -290,7 +292,7 @@ static int fill_statx(struct statx *found, enum path path)
     return shim_result(user_put(found, &filled, sizeof filled));
 }
 
-/* On machines with 64 bits, both structs are the same. */
+/* On 64-bit machines, both structs have the same layout. */
 #define STAT(name, type)                                                \
     EXPORT int name(const char *path, struct type *found)               \
     {                                                                   \
@@ -319,7 +321,7 @@ STAT(lstat64, stat64)
 FSTATAT(fstatat, stat)
 FSTATAT(fstatat64, stat64)
 
-/* What programs call that were built with an older C library. */
+/* Entry points of programs built with an older C library. */
 #define XSTAT(name, type)                                               \
     int name(int version, const char *path, struct type *found);        \
     EXPORT int name(int version, const char *path, struct type *found)  \
@@ -359,7 +361,7 @@ EXPORT int statx(int folder, const char *path, int flags, unsigned mask, struct 
     return which ? fill_statx(found, which) : result;
 }
 
-/* Everybody may read and write; nobody may execute. */
+/* All users may read and write; none may execute. */
 static int check_access(enum path path, int how)
 {
     return shim_result(how & X_OK || (path == SYNC_INFO && how & W_OK) ? EACCES : 0);

@@ -1,5 +1,5 @@
-/* sigaction(2) and its like: whether the program has signal handlers at all, which may call while a call is
- * interrupted. */
+/* sigaction(2) and its relatives: note whether the program has any signal handler, which may call the library in the
+ * middle of a call. */
 #define _GNU_SOURCE
 #include "direct.h"
 #include "shim.h"

@@ -1,5 +1,5 @@
-/* What stands for a buffer is a socket, and a kernel's buffer is none: nobody shuts it down, or takes what makes it
- * ready. */
+/* Socket calls. A buffer is represented by a socket, and a kernel's buffer isn't one: a program must neither shut it
+ * down nor take the byte that makes it ready. */
 #define _GNU_SOURCE
 #include "shim.h"
 
@@ -52,7 +52,7 @@ ON_SOCKET(int, connect, (int file, TO name, socklen_t size), (file, name, size))
 ON_SOCKET(int, listen, (int file, int waiting), (file, waiting))
 ON_SOCKET(int, accept, (int file, FROM name, socklen_t *restrict size), (file, name, size))
 ON_SOCKET(int, accept4, (int file, FROM name, socklen_t *restrict size, int flags), (file, name, size, flags))
-/* What fortified programs call. */
+/* Entry points of programs built with _FORTIFY_SOURCE. */
 ON_SOCKET(ssize_t, __recv_chk, (int file, void *bytes, size_t length, size_t room, int flags),
           (file, bytes, length, room, flags))
 ON_SOCKET(ssize_t, __recvfrom_chk,

@@ -1,4 +1,4 @@
-/* /dev/udmabuf: dma-bufs of memory files, in the order in which Linux's driver checks what it is given. */
+/* /dev/udmabuf: dma-bufs made of memory files. Arguments are checked in the order of Linux's driver. */
 #define _GNU_SOURCE
 #include "calls.h"
 #include "parts.h"
@@ -11,7 +11,7 @@
 #include <string.h>
 #include <sys/mman.h>
 
-/* What the driver's parameter size_limit_mb is. */
+/* The driver's parameter size_limit_mb. */
 enum { MOST_BYTES = 64 << 20 };
 
 /* Returns 0 or EINVAL. */

@@ -1,5 +1,5 @@
-/* poll(2), select(2) and epoll_wait(2) are the kernel's. In a trace, the waits of the first two are noted. What they
- * report once the service is gone looks like a signal, and isn't believed. */
+/* The kernel serves poll(2), select(2) and epoll_wait(2). The library traces waits of the first two. Once the service
+ * is gone, these calls report what looks like a signal; it must not reach the program. */
 #define _GNU_SOURCE
 #include "calls.h"
 #include "shim.h"
@@ -14,13 +14,13 @@
 
 enum { NOTED = 64 };
 
-/* Whether something is to be done before a wait. */
+/* Returns whether the library has to do anything before a wait. */
 static bool prepares_waits(void)
 {
     return shim_is_traced() || shim_is_local();
 }
 
-/* Notes the waits of a poll that begin, and returns which these are, of the first 64. */
+/* Traces the beginning of a poll's waits. Returns the set of these descriptors, among the first 64. */
 static uint64_t begin_waits(const struct pollfd *files, nfds_t count)
 {
     struct pollfd copy[NOTED];
@@ -50,7 +50,7 @@ static void end_waits(const struct pollfd *files, uint64_t noted)
     errno = before;
 }
 
-/* What a call that waits does after the kernel's answer. */
+/* Does what is due after the kernel has answered a call that waits. */
 static int after_poll(const struct pollfd *files, nfds_t count, uint64_t noted, int result)
 {
     end_waits(files, noted);
@@ -81,14 +81,15 @@ static bool waits(const struct timespec *limit)
 POLL(poll, (struct pollfd *files, nfds_t count, int milliseconds), (files, count, milliseconds), milliseconds != 0)
 POLL(ppoll, (struct pollfd *files, nfds_t count, const struct timespec *limit, const sigset_t *mask),
      (files, count, limit, mask), waits(limit))
-/* What fortified programs call. */
+/* Entry points of programs built with _FORTIFY_SOURCE. */
 POLL(__poll_chk, (struct pollfd *files, nfds_t count, int milliseconds, size_t room),
      (files, count, milliseconds, room), milliseconds != 0)
 POLL(__ppoll_chk,
      (struct pollfd *files, nfds_t count, const struct timespec *limit, const sigset_t *mask, size_t room),
      (files, count, limit, mask, room), waits(limit))
 
-/* The descriptors of a set from one on, as a poll has them. Stores that after the last. */
+/* Fills in the descriptors of a set as pollfds, starting at `*from`, and stores in `*from` where the next batch
+ * starts. */
 static nfds_t files_of(const fd_set *set, int *from, int count, struct pollfd *files)
 {
     nfds_t found = 0;
@@ -99,7 +100,7 @@ static nfds_t files_of(const fd_set *set, int *from, int count, struct pollfd *f
     return found;
 }
 
-/* The same of a set that may be anywhere. */
+/* Fills in the first batch of a set whose memory may be unreadable. */
 static nfds_t files_before(const fd_set *set, int count, struct pollfd *files)
 {
     fd_set copy;
@@ -111,7 +112,7 @@ static nfds_t files_before(const fd_set *set, int count, struct pollfd *files)
     return files_of(&copy, &from, count, files);
 }
 
-/* A select reports no hang-up as such. */
+/* select reports a hang-up as readable, so the descriptors are polled. */
 static void look_at_set(const fd_set *set, int count)
 {
     struct pollfd files[NOTED];
@@ -164,9 +165,9 @@ EXPORT int pselect(int count, fd_set *readable, fd_set *writable, fd_set *others
     return after_select(count, readable, writable, files, noted, next(count, readable, writable, others, limit, mask));
 }
 
-static _Atomic bool is_watched; /* something of ours, by a set of epoll */
+static _Atomic bool is_watched; /* an epoll set watches one of our descriptors */
 
-/* Linux's epoll takes nothing that has no poll of its own, and a timeline has none. */
+/* Linux's epoll refuses a file without a poll operation, as a timeline is. */
 EXPORT int epoll_ctl(int set, int how, int file, struct epoll_event *event)
 {
     NEXT(epoll_ctl);
@@ -183,7 +184,7 @@ EXPORT int epoll_ctl(int set, int how, int file, struct epoll_event *event)
     return next(set, how, file, event);
 }
 
-/* An event doesn't say of which descriptor it is, but /proc says which are in the set. */
+/* An event doesn't say which descriptor it is for, but /proc lists the descriptors in the set. */
 static void look_at_watched(int set)
 {
     char path[64], line[256];

@@ -1,5 +1,5 @@
-/* A channel: memory that a process shares with its server, for requests that take no descriptor along and give none. A
- * channel and a doorbell, which is an eventfd, take half the time of a socket. */
+/* A channel: shared memory between a process and its server, for requests that neither carry nor return a descriptor. A
+ * request by a channel and a doorbell (an eventfd) takes half the time of a request by a socket. */
 #ifndef BIM_RUN_CHANNEL_H
 #define BIM_RUN_CHANNEL_H
 
@@ -16,19 +16,19 @@ struct channel {
     struct bim_answer answer;
 };
 
-/* The server's side: memory that can't be made smaller under it; NULL with errno. */
+/* The server's side. The memory is sealed against shrinking. Returns NULL with errno on failure. */
 struct channel *channel_new(int *memory);
 void channel_close(struct channel *channel);
-/* Takes a request, and returns whether there was one. */
+/* Takes a request. Returns false if there is none. */
 bool channel_take(struct channel *channel, struct bim_request *request);
 void channel_answer(struct channel *channel, const struct bim_answer *answer);
-/* Whether the process hasn't taken the answer yet. */
+/* Returns whether an answer is still waiting for the process to take it. */
 bool channel_is_answered(const struct channel *channel);
 
-/* The process's side, which children don't get. */
+/* The process's side, which children don't inherit. */
 struct channel *channel_open(int memory);
-/* Asks, and waits for the answer. `check` is called from time to time, and doesn't return if the server is lost.
- * Returns whether there is a doorbell of that number. */
+/* Sends a request and waits for its answer. `check` is called from time to time, and doesn't return if the server is
+ * lost. Returns false if `doorbell` isn't open. */
 bool channel_ask(struct channel *channel, int doorbell, const struct bim_request *request, struct bim_answer *answer,
                  void (*check)(void));
 

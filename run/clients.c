@@ -1,4 +1,4 @@
-/* The processes that have connected, and what they ask. */
+/* Serves the processes that have connected. */
 #define _GNU_SOURCE
 #include "clients.h"
 
@@ -10,12 +10,12 @@
 #include <sys/epoll.h>
 #include <sys/eventfd.h>
 
-/* Headers that are older than Linux 6.5 lack this one. */
+/* Headers older than Linux 6.5 lack this option. */
 #ifndef SO_PEERPIDFD
 #define SO_PEERPIDFD 77
 #endif
 
-/* Whether the process at the other end is this user's. */
+/* Returns whether the process at the other end belongs to this user. */
 static bool is_users(int client, struct ucred *peer)
 {
     socklen_t size = sizeof *peer;
@@ -23,14 +23,14 @@ static bool is_users(int client, struct ucred *peer)
     return getsockopt(client, SOL_SOCKET, SO_PEERCRED, peer, &size) == 0 && peer->uid == geteuid();
 }
 
-/* Notes for the guard whether a descriptor is a client's handle. */
+/* Notes for the guard whether a descriptor is a client's pidfd. */
 static void note_handle(const struct server *server, int handle, bool is_client)
 {
     if (handle >= 0 && handle < NOTED_FILES)
         server->setup->shared->is_client[handle] = is_client;
 }
 
-/* A handle on the process at the other end, or -1. Kernels before Linux 6.5 have it by the number. */
+/* Returns a pidfd of the process at the other end, or -1. Kernels before Linux 6.5 need its number for that. */
 static int open_handle(const struct server *server, int client, const struct ucred *peer)
 {
     int handle;
@@ -66,7 +66,7 @@ static bool add_client(struct server *server, int socket)
     return true;
 }
 
-/* Has one that waits to connect see that it can't. */
+/* Accepts and closes one waiting connection, so that the process sees that it can't connect. */
 static void turn_away(struct server *server)
 {
     call_close(server->spare);
@@ -112,7 +112,7 @@ static int give_channel(struct client *client, int *gives)
     return client->channel ? 0 : errno;
 }
 
-/* An edge is enough: nobody reads what was rung. */
+/* An edge-triggered event is enough: the count of the doorbell is never read. */
 static int give_doorbell(struct server *server, struct client *client, int *gives)
 {
     if (!client->channel || client->doorbell >= 0)
@@ -125,7 +125,8 @@ static int give_doorbell(struct server *server, struct client *client, int *give
     return *gives < 0 ? errno : 0;
 }
 
-/* Increments and new points are the same before and after what was closed, and so is a connection. */
+/* Returns whether a request must wait until closings are done. Increments, new points and connections have the same
+ * result before and after. */
 static bool follows_closings(const struct bim_request *request)
 {
     switch (request->op) {
@@ -159,7 +160,8 @@ static bool send_answer(const struct client *client, struct bim_answer *answer, 
     return sendmsg(client->socket, &message, MSG_NOSIGNAL | MSG_DONTWAIT) >= 0;
 }
 
-/* The same; what can't be sent, as when the user has too many descriptors on the way, is an errno for the client. */
+/* Sends an answer. If the kernel lacks memory, or the user has too many descriptors in flight, sends ENOMEM instead.
+ * Returns whether the client took the answer. */
 static bool send_or_refuse(const struct client *client, struct bim_answer *answer, int gives)
 {
     if (send_answer(client, answer, gives))
@@ -170,8 +172,7 @@ static bool send_or_refuse(const struct client *client, struct bim_answer *answe
     return send_answer(client, answer, -1);
 }
 
-/* The first descriptor that came with a message, or -1. All others are closed: there is room for two if one is
- * aligned. */
+/* Returns the first descriptor that came with a message, or -1. Closes all others: alignment leaves room for two. */
 static int passed_by(struct msghdr *message)
 {
     struct cmsghdr *head = CMSG_FIRSTHDR(message);
@@ -224,7 +225,8 @@ static bool serve_request(struct server *server, struct client *client, const st
     return taken;
 }
 
-/* Takes a message of a client. Who sends none of ours, or takes no answer, is parted with. */
+/* Serves a message from a client's socket. Disconnects a client that sends a malformed message or doesn't take its
+ * answer. */
 static void serve_socket(struct server *server, struct client *client)
 {
     union {
@@ -249,7 +251,8 @@ static void serve_socket(struct server *server, struct client *client)
         call_close(passed);
 }
 
-/* The same of its channel. An answer that gives a descriptor is asked for again, by the socket. */
+/* Serves a request from a client's channel. A process repeats a request by the socket if its answer has a
+ * descriptor. */
 static void serve_channel(struct server *server, struct client *client)
 {
     struct bim_request request;

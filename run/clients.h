@@ -1,4 +1,4 @@
-/* What the server's loop and the service of its clients share. */
+/* State shared by the server's loop and the code that serves clients. */
 #ifndef BIM_RUN_CLIENTS_H
 #define BIM_RUN_CLIENTS_H
 
@@ -6,41 +6,41 @@
 #include "channel.h"
 #include "server.h"
 
-/* A process that has connected. */
+/* A connected process. */
 struct client {
     int socket, doorbell; /* doorbell: -1 without a channel */
     struct channel *channel;
-    int process; /* a handle by which the guard can kill it, or -1 */
+    int process; /* a pidfd by which the guard can kill it, or -1 */
 };
 
 struct server {
     struct registry registry;
     const struct server_setup *setup;
     int events;
-    struct channel *incremented; /* that of the last increment, or NULL */
-    int spare;                   /* a descriptor to close when no other is left */
-    struct map clients;          /* by the numbers of their sockets and doorbells, with 1 added */
+    struct channel *incremented; /* the channel of the last increment, or NULL */
+    int spare;                   /* a descriptor to close when no other is free */
+    struct map clients;          /* keyed by their sockets and doorbells, plus 1 */
     size_t client_count;
     bool program_has_ended, tool_has_ended, lacks_guard;
-    bool is_parted;     /* a client has gone since the last closings */
-    uint64_t postponed; /* since when closings wait */
-    bool is_hurried;    /* no event reports what it waits for */
-    uint64_t parting;   /* since when the program has ended */
+    bool is_parted;     /* a client has disconnected since the last closings */
+    uint64_t postponed; /* the time since which closings wait */
+    bool is_hurried;    /* no event reports what the server waits for */
+    uint64_t parting;   /* the time at which the program ended */
 };
 
-/* Has the loop see what a descriptor has to read. Returns 0, or -1 with errno. */
+/* Adds a descriptor to the server's epoll set. Returns 0, or -1 with errno. */
 int server_watch(struct server *server, int file, uint32_t how);
-/* Has the guard look at this number too. Returns it. */
+/* Has the guard check descriptors up to this number too. Returns `file`. */
 int server_note(int file);
-/* Notes all closings so far; and lets go of what was closed. */
+/* Notes all closings so far, and releases the closed objects. */
 void server_see_closings(struct server *server);
 void server_settle(struct server *server);
 
-/* Whether the client that incremented last hasn't taken the answer yet. */
+/* Returns whether the client that incremented last hasn't taken its answer yet. */
 bool client_owes_answer(struct registry *registry);
-/* Takes one that connects. */
+/* Accepts a connection. */
 void client_take(struct server *server);
-/* Takes and answers a request of the client whose socket or doorbell this is. */
+/* Takes and answers a request of the client that has this socket or doorbell. */
 void client_serve(struct server *server, int file);
 
 #endif

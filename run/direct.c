@@ -16,7 +16,7 @@
 #include <sys/prctl.h>
 #include <ucontext.h>
 
-/* Where the words of a call are, and its result. */
+/* The registers of a system call's arguments and result. */
 #if defined(__x86_64__)
 #define MACHINE         AUDIT_ARCH_X86_64
 #define RESULT(context) (context)->uc_mcontext.gregs[REG_RAX]
@@ -28,32 +28,32 @@ static const int WORDS[] = { REG_RDI, REG_RSI, REG_RDX, REG_R10 };
 #define WORD(context, i) (context)->uc_mcontext.regs[i]
 #endif
 
-/* Older headers lack this one: why the kernel sends SIGSYS. */
+/* Older headers lack this code of SIGSYS. */
 #ifndef SYS_SECCOMP
 #define SYS_SECCOMP 1
 #endif
 
-/* Machines that are newer have only the other. */
+/* Newer machines have only openat. */
 #ifndef SYS_open
 #define SYS_open SYS_openat
 #endif
 
-/* The calls that are caught, of objects and devices. */
+/* The ioctls that the filter catches, of objects and devices. */
 static const uint32_t CALLS[] = {
     CREATE_FENCE, INC, SYNC_IOC_MERGE, SYNC_IOC_FILE_INFO, SET_DEADLINE, DMA_BUF_IOCTL_SYNC, DMA_BUF_SET_NAME_A,
     DMA_BUF_SET_NAME_B, EXPORT_SYNC_FILE, IMPORT_SYNC_FILE, DMA_HEAP_IOCTL_ALLOC, UDMABUF_CREATE, UDMABUF_CREATE_LIST
 };
 
-/* The filter lets a call pass that has these in registers which it doesn't use. The filter stays when the process
- * becomes another program, so it can't know an address. */
+/* The filter lets a call pass that has these values in the registers of arguments that it doesn't use. The filter
+ * survives exec, so it can't check the address of the caller. */
 enum { PASS_ONE = 0x62696d70, PASS_TWO = 0x686c6169 };
 
-/* Where the parts of the filter begin. */
+/* Offsets of the filter's parts. */
 enum { COUNT = sizeof CALLS / sizeof CALLS[0], IOCTL = 7, OPENAT = IOCTL + COUNT + 2, OPEN = OPENAT + 4 };
 enum { PASS = OPEN + 4, TRAP = PASS + 5, LENGTH = TRAP + 1 };
 
 static bool is_on;
-static volatile bool is_caught; /* a call was */
+static volatile bool is_caught; /* a call was caught */
 
 bool direct_is_on(void)
 {
@@ -129,13 +129,13 @@ static struct sock_filter answer(uint32_t answer)
     return (struct sock_filter)BPF_STMT(BPF_RET | BPF_K, answer);
 }
 
-/* Goes on at one of two places, seen from `at`. */
+/* Jumps to the instruction `same` or `other`, given as offsets in the filter, from the instruction `at`. */
 static struct sock_filter compare(uint32_t value, int at, int same, int other)
 {
     return (struct sock_filter)BPF_JUMP(BPF_JMP | BPF_JEQ | BPF_K, value, same - at - 1, other - at - 1);
 }
 
-/* Opens that read and write, as programs open devices. The loader only reads, and has no handler yet. */
+/* Catches opens for reading and writing, as programs open devices. The loader, which has no handler yet, only reads. */
 static void add_open(struct sock_filter *filter, int at, int word)
 {
     filter[at] = load_word(word);
@@ -144,7 +144,8 @@ static void add_open(struct sock_filter *filter, int at, int word)
     filter[at + 3] = answer(SECCOMP_RET_ALLOW);
 }
 
-/* The number comes first, so that the kernel passes all other calls without the filter. */
+/* Compares the number of the system call first, so that the kernel can pass all other calls without running the
+ * filter. */
 static void build(struct sock_filter filter[LENGTH])
 {
     filter[0] = load(offsetof(struct seccomp_data, arch));
@@ -178,7 +179,8 @@ static bool set_filter(void)
            syscall(SYS_seccomp, SECCOMP_SET_MODE_FILTER, SECCOMP_FILTER_FLAG_TSYNC, &program) == 0;
 }
 
-/* A process that was another program with this library has the filter already, and its first call is caught. */
+/* A process that ran another program with this library before exec has the filter already, so its first call is
+ * caught. */
 void direct_begin(void)
 {
     struct sigaction action = { .sa_flags = SA_SIGINFO | SA_NODEFER | SA_ONSTACK | SA_RESTART };

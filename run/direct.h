@@ -1,15 +1,15 @@
-/* Direct calls (--direct): what a program asks of the kernel past the C library. A filter of system calls has the
- * kernel send SIGSYS in their place, whose handler serves them. */
+/* Direct calls (--direct): system calls that a program makes without the C library. A seccomp filter turns them into
+ * SIGSYS, and the handler of that signal serves them. */
 #ifndef BIM_RUN_DIRECT_H
 #define BIM_RUN_DIRECT_H
 
 #include <signal.h>
 #include <stdbool.h>
 
-/* Begins to serve direct calls, if the environment says so. */
+/* Starts to serve direct calls if the environment asks for it. */
 void direct_begin(void);
 bool direct_is_on(void);
-/* What of a set of signals a program may block. */
+/* Returns the signals of `wanted` that a program may block, stored in `room` if they differ. */
 const sigset_t *direct_may_block(const sigset_t *wanted, sigset_t *room);
 
 #endif

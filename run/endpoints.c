@@ -12,14 +12,14 @@
 #include <sys/vfs.h>
 #include <unistd.h>
 
-/* What fills the least room that a socket's queue can have, so that it isn't writable. */
+/* Fills the smallest queue that a socket can have, so that the socket isn't writable. */
 enum { QUEUE_BYTES = 2048 };
 
-/* Of a number: the bits that are always 1, and 0. */
+/* The bits of a number that are always 1, and always 0. */
 #define NUMBER_SIGN  ((uint64_t)1 << 63)
 #define NUMBER_SPARE ((uint64_t)3 << 62)
 
-/* Headers that are older than Linux 5.7, and those of C libraries, lack these. */
+/* Headers older than Linux 5.7, and those of C libraries, lack these. */
 #ifndef PIPEFS_MAGIC
 #define PIPEFS_MAGIC 0x50495045
 #endif
@@ -33,7 +33,7 @@ static int give_up(struct endpoints *endpoints, int error)
     return error;
 }
 
-/* Draws a number that nobody guesses, neither 0 nor BIM_ANY. The low bits count, so that the slots of a page fill in
+/* Draws an unpredictable number other than 0 and BIM_ANY. The low bits count up, so that the slots of a page fill in
  * turn. Returns 0 or an errno. */
 static int draw(uint64_t *number)
 {
@@ -46,8 +46,8 @@ static int draw(uint64_t *number)
     return 0;
 }
 
-/* The number of an object is the time of the last access of its inode, which each copy of a descriptor shows. Polls and
- * writes don't change it, and no program reads what is ours. */
+/* Stores the number of an object as the access time of its inode, which each copy of a descriptor shows. Polls and
+ * writes don't change it, and programs never read our pipes. */
 static int mark_endpoints(struct endpoints *endpoints, enum bim_mark mark)
 {
     struct timespec times[2] = { { .tv_nsec = 0 }, { .tv_nsec = UTIME_OMIT } };
@@ -69,12 +69,13 @@ int endpoints_pipe(struct endpoints *endpoints, enum bim_mark mark)
     if (pipe2(pair, O_CLOEXEC))
         return errno;
     *endpoints = (struct endpoints){ pair[0], pair[1], 0 };
-    /* A page is the least. Each counts towards what the user may have, past which all his new pipes are small. */
+    /* One page is the smallest pipe. Pages count towards the user's limit on pipes, beyond which all new pipes of the
+     * user are small. */
     syscall(SYS_fcntl, endpoints->ours, F_SETPIPE_SZ, 1);
     return mark_endpoints(endpoints, mark);
 }
 
-/* The program's end is marked first, so that nobody takes the other for one that somebody has. */
+/* Marks the program's end first, so that the service's end is never taken for an end that a program holds. */
 int endpoints_sockets(struct endpoints *endpoints)
 {
     int pair[2], least = 1, error;
@@ -105,9 +106,9 @@ bool endpoint_is_alone(int ours)
     return call_poll(&end, 1, 0) == 1 && end.revents & (POLLERR | POLLHUP);
 }
 
-/* Whether a descriptor is on the file system of the kernel's own pipes, or sockets: what has a name is on another. The
- * first one tells the device, to which all others are compared before this is called; another thread may have learned
- * it since. */
+/* Returns whether a descriptor is on the kernel's internal file system of pipes or of sockets; a named pipe or socket
+ * is on another. The first descriptor determines the device with which all later ones are compared; another thread may
+ * have stored it meanwhile. */
 __attribute__((cold)) static bool is_nameless(int file, dev_t device, long kind, _Atomic dev_t *known)
 {
     struct statfs found;

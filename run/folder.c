@@ -13,7 +13,8 @@
 
 #define NAME "bimphlai-run."
 
-/* Another user's folder may come with the environment, by su or sudo, and he may put a service of his own there. */
+/* By su or sudo, the environment may name another user's folder, and that user could put a service of their own
+ * there. */
 static bool is_own(const char *path)
 {
     struct stat found;
@@ -28,7 +29,7 @@ static void remove_entries(int in, const char *name, int folder)
     unlinkat(in, name, AT_REMOVEDIR);
 }
 
-/* Removes a folder of this user's whose run has ended. */
+/* Removes one of this user's folders if its run has ended. */
 static void remove_if_left(int in, const char *name)
 {
     int folder = openat(in, name, O_RDONLY | O_DIRECTORY | O_NOFOLLOW | O_CLOEXEC);
@@ -53,7 +54,7 @@ static void remove_left(const char *in)
         closedir(all);
 }
 
-/* Makes a folder and locks it. Returns 0 or an errno: EAGAIN if another run has removed it before it was locked. */
+/* Makes a folder and locks it. Returns 0 or an errno: EAGAIN if another run removed the folder before it was locked. */
 static int make(char *path, int *lock)
 {
     int error;

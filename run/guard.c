@@ -9,7 +9,7 @@
 #include <string.h>
 #include <sys/prctl.h>
 
-/* How often processes are killed that still don't end, and how long they have between. */
+/* How often processes that still run are killed, and the time between. */
 enum { PASSES = 2000, MILLISECONDS_TO_DIE = 1 };
 enum { MILLISECONDS_BETWEEN_LOOKS = 100 };
 
@@ -42,23 +42,23 @@ static void become_guard(void)
     setsid();
     prctl(PR_SET_NAME, GUARD_NAME);
     rename_words();
-    /* Its folder can be removed or unmounted. */
+    /* The current folder stays removable and unmountable. */
     if (chdir("/")) {}
 }
 
 struct guard {
     struct service *service;
-    bool has_tool; /* bimphlai-run goes on */
+    bool has_tool; /* bimphlai-run is running */
 };
 
-/* The streams are bimphlai-run's, so that whoever reads them sees their end once it has ended. */
+/* Closes the streams of bimphlai-run, so that a reader sees their end once bimphlai-run has ended. */
 static void leave_streams(const struct service *service)
 {
     for (int file = STDIN_FILENO; file <= STDERR_FILENO; file++)
         syscall(SYS_dup3, service->nowhere, file, 0);
 }
 
-/* Waits for the end of the process with this handle, of bimphlai-run, or of some milliseconds. */
+/* Waits until the process with this pidfd ends, bimphlai-run ends, or `milliseconds` pass. */
 static void look(struct guard *guard, int handle, int milliseconds)
 {
     const struct process *tool = &guard->service->shared->tool;
@@ -80,14 +80,14 @@ static void watch(struct guard *guard)
         look(guard, shared->server.handle, has_handles ? -1 : MILLISECONDS_BETWEEN_LOOKS);
 }
 
-/* A process that can't end, as in a call of a driver that hangs, sees nothing any more either. */
+/* A process that can't end, as in a call of a driver that hangs, can't observe anything either. */
 static void kill_users(struct guard *guard)
 {
     for (int passes = 0; passes < PASSES && users_kill(guard->service); passes++)
         look(guard, -1, MILLISECONDS_TO_DIE);
 }
 
-/* Whoever can't be killed, or isn't known, waits for good. */
+/* A process that can't be killed, or isn't known, blocks forever. */
 static void hold(struct guard *guard)
 {
     while (service_held_endpoints(guard->service) > 0) {

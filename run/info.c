@@ -1,4 +1,4 @@
-/* What is reported: of a file, and of everything in sync/info. */
+/* Reports on a file, and on everything in sync/info. */
 #define _GNU_SOURCE
 #include "calls.h"
 #include "registry.h"
@@ -34,7 +34,7 @@ static void set_row(struct sync_fence_info *to, const bim_device_fence_info *row
     to->timestamp_ns = row->at;
 }
 
-/* Rows for which the answer has no room come in a file. */
+/* Puts the rows that don't fit into the answer in a memory file. */
 static int rows_in_file(const struct registry *registry, size_t count, int *gives)
 {
     int file = memfd_create("rows", MFD_CLOEXEC);
@@ -67,7 +67,8 @@ static int give_rows(const struct registry *registry, struct bim_answer *answer,
     return 0;
 }
 
-/* Without rows the kernel reports the status of what stands for all fences: while one is pending, it is active. */
+/* Without rows the kernel reports the status of the fence that represents all fences of the file: while one is pending,
+ * it is active. */
 static int status_of_all(struct registry *registry, uint64_t number, int32_t *status)
 {
     int32_t signalled;
@@ -133,7 +134,7 @@ static void print_all(struct registry *registry, FILE *text)
     fputs("fences:\n--------------\n", text);
 }
 
-/* Stores the text in a file that is read from its start, and can't be written. */
+/* Stores the text in a memory file, opened read-only and positioned at its start. */
 static int store(const char *text, size_t length, int *gives)
 {
     int file = memfd_create("info", MFD_CLOEXEC);

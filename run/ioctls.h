@@ -1,4 +1,4 @@
-/* The calls of ioctl(2) that are served. */
+/* The ioctl(2) calls that the library serves. */
 #ifndef BIM_RUN_IOCTLS_H
 #define BIM_RUN_IOCTLS_H
 
@@ -9,7 +9,7 @@
 #include <linux/udmabuf.h>
 #include <stdint.h>
 
-/* Linux has these in no header of its interface. */
+/* No kernel header declares these for user space. */
 struct create_fence {
     uint32_t value;
     char name[32];
@@ -18,7 +18,7 @@ struct create_fence {
 #define CREATE_FENCE _IOWR('W', 0, struct create_fence)
 #define INC          _IOW('W', 1, uint32_t)
 
-/* Headers that are older lack these. */
+/* Older kernel headers lack these. */
 struct set_deadline {
     uint64_t deadline_ns, pad;
 };

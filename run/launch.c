@@ -36,7 +36,7 @@ bool find_beside(const char *const folders[], const char *name, char *path)
     return false;
 }
 
-/* Adds a word to a variable of the environment, before or after what it has. */
+/* Adds a word to an environment variable, before or after its present value. */
 static int add(const char *variable, const char *word, bool is_first)
 {
     const char *had = getenv(variable);
@@ -65,7 +65,7 @@ int launch_prepare(const char *service, const char *trace)
         return fault("a path with a blank or a colon can't be preloaded", EINVAL);
     if (setenv(BIM_SERVICE, service, 1) || (trace ? setenv(BIM_TRACE, trace, 1) : unsetenv(BIM_TRACE)))
         return fault("the environment", errno);
-    /* The sanitizer that gcc links as a library is to be the first; it finds the calls after it all the same. */
+    /* gcc's sanitizer is a shared library that insists on being loaded first; it works behind this library too. */
     if (add("LD_PRELOAD", library, true) || add("ASAN_OPTIONS", "verify_asan_link_order=0", false))
         return fault("the environment", ENOMEM);
     return 0;

@@ -1,4 +1,4 @@
-/* The program's process: its environment, and its end. */
+/* Starts the program's process: sets its environment, and translates its wait status. */
 #ifndef BIM_RUN_LAUNCH_H
 #define BIM_RUN_LAUNCH_H
 
@@ -7,17 +7,17 @@
 
 enum { STATUS_FAULT = 125 };
 
-/* Says on standard error why something can't be done, and returns STATUS_FAULT. */
+/* Prints on standard error why something can't be done, and returns STATUS_FAULT. */
 int fault(const char *what, int error);
-/* The path of a file beside this program, in the first of these folders that has it, as found from its own; false if
- * none has. */
+/* Stores the path of the file `name` in the first of `folders` that has it; the folders are relative to this program's
+ * own. Returns false if none has it. */
 bool find_beside(const char *const folders[], const char *name, char *path);
 
-/* Sets the environment in which programs have the service. Returns 0 or STATUS_FAULT. */
+/* Sets the environment by which programs find the service. Returns 0 or STATUS_FAULT. */
 int launch_prepare(const char *service, const char *trace);
-/* Becomes the program; returns the status with which to end if that fails. */
+/* Becomes the program (exec). Returns the exit status to end with if that fails. */
 int launch_become(char **program);
-/* The status of a process as a shell has it. */
+/* Translates a wait status into an exit status as a shell does. */
 int launch_status(int waited);
 
 #endif

@@ -1,14 +1,15 @@
-/* The limit on the numbers of a process's descriptors, past which the library has its own. Other threads make
- * descriptors meanwhile, and may set the limit. */
+/* RLIMIT_NOFILE. The library keeps its own descriptors above the program's limit. Other threads may open descriptors,
+ * or set the limit, at the same time. */
 #ifndef BIM_RUN_LIMIT_H
 #define BIM_RUN_LIMIT_H
 
 #include <stdbool.h>
 #include <sys/resource.h>
 
-/* Raises the limit as far as it goes, and stores what it was. Returns whether there are more numbers now. */
+/* Raises the soft limit to the hard limit, and stores the old one. Returns whether that makes more numbers
+ * available. */
 bool limit_raise(struct rlimit *was);
-/* Sets it as it was, unless somebody has set it since. */
+/* Restores the limit, unless another thread has changed it since. */
 void limit_restore(const struct rlimit *was);
 
 #endif

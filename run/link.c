@@ -1,4 +1,4 @@
-/* The connection to the server: one for each process, made when it first asks. */
+/* The connection to the server: one for each process, made at its first request. */
 #define _GNU_SOURCE
 #include "calls.h"
 #include "channel.h"
@@ -9,13 +9,13 @@
 #include <string.h>
 #include <sys/un.h>
 
-/* The connection has a high number, so that a process that ends closes it last, and programs don't meet it. The
- * kernel's table grows with the highest. */
+/* The connection has a high number, so that an ending process closes it last and programs don't come across it. The
+ * kernel's table grows with the highest number. */
 enum { HIGHEST = 65536, BELOW_LIMIT = 8 };
 
-/* The process's own connection, for whoever has the lock; others only see whether a number is one of these. */
+/* The process's own connection, used with the lock held. Without the lock, only the numbers are compared. */
 static _Atomic int connection = -1, doorbell = -1;
-static struct channel *channel; /* NULL if there is none: then all goes by the connection */
+static struct channel *channel; /* NULL without a channel: then all requests go by the socket */
 static const struct bim_page *_Atomic page;
 
 static const struct bim_page *get_page(void)
@@ -38,7 +38,7 @@ static void leave(void)
     channel = NULL;
 }
 
-/* Moves a descriptor past the limit of the program's, which is raised for that, so that it takes none of these. */
+/* Moves a descriptor past the program's limit, which is raised meanwhile, so that the program keeps all its numbers. */
 static int move_high(int file)
 {
     struct rlimit limit;
@@ -58,7 +58,7 @@ static int move_high(int file)
     return moved;
 }
 
-/* Another user may serve where this user's service was. */
+/* Another user may serve at the address of this user's former service. */
 static bool is_served_by_user(int file)
 {
     struct ucred server;
@@ -100,7 +100,7 @@ static void set_control(struct msghdr *message, struct cmsghdr *head, int passed
     memcpy(CMSG_DATA(head), &passed, sizeof passed);
 }
 
-/* Returns 0, ENOTCONN if the connection isn't this process's any more, or what the kernel has no room for. */
+/* Returns 0, ENOTCONN if the connection is no longer this process's, or an errno for lack of kernel memory. */
 static int send_request(int socket, const struct bim_request *request, int passed)
 {
     union {
@@ -125,7 +125,7 @@ static int send_request(int socket, const struct bim_request *request, int passe
     return 0;
 }
 
-/* The descriptor of a message, or -1. */
+/* Returns the descriptor of a message, or -1. */
 static int given_by(struct msghdr *message)
 {
     struct cmsghdr *head = CMSG_FIRSTHDR(message);
@@ -164,7 +164,7 @@ static int ask_by_socket(int socket, const struct bim_request *request, int pass
     return error ? error : take_answer(socket, answer, given);
 }
 
-/* Asks for a descriptor that belongs to the own connection; returns -1 if there is none. */
+/* Asks for a descriptor of this connection. Returns -1 if there is none. */
 static int ask_for(enum bim_op op)
 {
     struct bim_request request = { .op = op };
@@ -174,7 +174,7 @@ static int ask_for(enum bim_op op)
     return ask_by_socket(connection, &request, -1, &answer, &given) == 0 ? given : -1;
 }
 
-/* A child sees its parent's page, since both have the same service. */
+/* A child keeps its parent's page, since both have the same service. */
 static void open_page(void)
 {
     int memory = page ? -1 : ask_for(BIM_OP_HELLO);
@@ -235,7 +235,7 @@ static bool gives_none(const struct bim_request *request)
     }
 }
 
-/* Returns ENOTCONN if the program has closed the connection or the doorbell by a call that we don't see. */
+/* Returns ENOTCONN if the program has closed the connection or the doorbell by a call that the library doesn't see. */
 static int try_to_ask(const struct bim_request *request, int passed, struct bim_answer *answer, int *given)
 {
     if (!channel || !gives_none(request))
@@ -256,7 +256,8 @@ static int ask(const struct bim_request *request, int passed, struct bim_answer 
     return error ? error : try_to_ask(request, passed, answer, given);
 }
 
-/* By a connection for this request only: those who have the lock use the own one at the same moment. */
+/* Uses a connection of its own for this request, since the thread with the lock may be using the process's
+ * connection. */
 static int ask_apart(const struct bim_request *request, int passed, struct bim_answer *answer, int *given)
 {
     int socket = join(), error;

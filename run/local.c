@@ -11,13 +11,13 @@
 #include <string.h>
 #include <sys/mman.h>
 
-/* Programs seldom have so many descriptors, and the kernel's table grows with the highest number. */
+/* Programs rarely have that many descriptors. The kernel's table grows with the highest number. */
 enum { HIGH = 512 };
 
 static struct registry registry;
-static const struct own *own_of_registry;   /* which says whether the registry is this process's */
-static struct rlimit limit;                 /* on the program's descriptors */
-static _Atomic int lowest = INT_MAX, above; /* of what the registry holds */
+static const struct own *own_of_registry;   /* says whether the registry is this process's */
+static struct rlimit limit;                 /* the program's limit on descriptors */
+static _Atomic int lowest = INT_MAX, above; /* range of the descriptors that the registry holds */
 static bool is_crowded, is_raised;
 static bool sigpipe_was_pending;
 static sigset_t mask;
@@ -37,7 +37,7 @@ static bool is_trace(int file)
     return registry.trace && file == registry.trace->file;
 }
 
-/* The descriptors that the registry holds are no program's to close. */
+/* Returns whether the registry holds a descriptor, which the program then can't close. */
 static bool is_own(int file)
 {
     uint64_t inode;
@@ -48,8 +48,8 @@ static bool is_own(int file)
            endpoint_mark(file, &inode) == BIM_MEMORY_MARK;
 }
 
-/* What the registry holds has high numbers. Once these are used up, it has numbers past the program's limit, which is
- * raised for a moment: so it takes none of those that the program may have. */
+/* The registry holds descriptors with high numbers. Once these are used up, it gets numbers past the program's limit,
+ * which is raised for a moment, so that the program keeps all its numbers. */
 static void begin_files(void)
 {
     is_raised = is_crowded && limit_raise(&limit);
@@ -66,8 +66,8 @@ static bool may_give(int file)
     return !is_crowded || (rlim_t)file < limit.rlim_cur;
 }
 
-/* What a file or a buffer waits for never comes after an exec, but without our end it would seem to: so our end stays
- * open then. */
+/* After an exec, no fence of a pending file or buffer signals any more. If our end closed, the file would seem
+ * signalled, so our end stays open across the exec. */
 static bool outlasts_exec(int file)
 {
     uint64_t inode;
@@ -103,7 +103,7 @@ static bool make_room(struct registry *all)
     return true;
 }
 
-/* A file's last reader may have gone, of which no signal is to say anything. */
+/* The file's last reader may be gone: suppresses SIGPIPE. */
 static void hold_sigpipe(void)
 {
     sigset_t pipe, pending;
@@ -127,7 +127,7 @@ static void drop_sigpipe(void)
     pthread_sigmask(SIG_SETMASK, &mask, NULL);
 }
 
-/* Whoever asks has the answer before the next is served. */
+/* The asking thread takes its answer before the next request is served. */
 static bool owes_none(struct registry *all)
 {
     (void)all;
@@ -143,13 +143,13 @@ static int prepare(struct own *own)
 
     if (error)
         return error;
-    /* The page is this process's alone. */
+    /* No other process needs the page's descriptor. */
     call_close(registry.page_memory);
     own_of_registry = own;
     return 0;
 }
 
-/* What has our mark and isn't in the registry belongs to another process. */
+/* An object with our mark that isn't in the registry belongs to another process. */
 static bool is_foreign(const struct bim_request *request)
 {
     return request->a != 0 && request->op != BIM_OP_GONE && !registry_find(&registry, request->a);
@@ -162,7 +162,7 @@ static int ask(const struct bim_request *request, int passed, struct bim_answer 
     registry_serve(&registry, request, passed, answer, given);
     if (answer->error == ENOTTY && is_foreign(request))
         shim_lost("--local serves one process, and this descriptor is another's; run it without --local");
-    /* What seems to be pending may be cancelled by a closing that was not seen. */
+    /* A closing that wasn't noticed yet may have cancelled what seems pending. */
     if (request->op == BIM_OP_INFO && !answer->error && answer->status == BIM_IS_ACTIVE &&
         registry_sweep_timelines(&registry))
         registry_serve(&registry, request, passed, answer, given);
@@ -174,7 +174,7 @@ static void before_wait(void)
     registry_sweep_timelines(&registry);
 }
 
-/* The registry may be in the middle of a request. */
+/* The interrupted thread may be in the middle of a request, so the registry can't be used. */
 static int ask_apart(const struct bim_request *request, int passed, struct bim_answer *answer, int *given)
 {
     (void)request, (void)passed, (void)answer, (void)given;

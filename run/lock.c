@@ -9,7 +9,8 @@
 
 enum { SPINS = 100, BITS = 32 };
 
-/* Those who wait are woken by a bit of their turn, all that share it: whose turn it is may be any of them. */
+/* Waiting threads are woken by a bit of their turn. All threads whose turns share the bit wake, since any of them may
+ * be next. */
 static uint32_t bit_of(uint32_t turn)
 {
     return (uint32_t)1 << turn % BITS;

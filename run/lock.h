@@ -1,5 +1,5 @@
-/* A lock that is given in the order in which it was asked for, so that a thread that asks all the time keeps nobody
- * out. It is free if its memory is zero. */
+/* A fair lock: threads get it in the order in which they asked, so that a thread that asks all the time can't starve
+ * others. Zeroed memory is a free lock. */
 #ifndef BIM_RUN_LOCK_H
 #define BIM_RUN_LOCK_H
 

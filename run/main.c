@@ -1,4 +1,4 @@
-/* bimphlai-run: runs a program with a service of fences for it and for all that it starts. */
+/* bimphlai-run: runs a program, and provides a fence service for it and for all its child processes. */
 #define _GNU_SOURCE
 #include "guard.h"
 #include "launch.h"
@@ -16,7 +16,7 @@
 #include <stdlib.h>
 #include <unistd.h>
 
-/* The trace, as a path from the root, since a program may change its folder. Returns 0 or a status. */
+/* Creates the trace. Stores its absolute path, since a program may change its folder. Returns 0 or an exit status. */
 static int begin_trace(const struct options *options, char *path)
 {
     int error;
@@ -34,7 +34,8 @@ static int begin_trace(const struct options *options, char *path)
     return error ? fault("a file for the trace", error) : 0;
 }
 
-/* Sets a variable of the program's, or removes that of a run in which this one is. Returns 0 or a status. */
+/* Sets an environment variable for the program, or removes the variable of an enclosing run. Returns 0 or an exit
+ * status. */
 static int set_variable(const char *name, const char *value)
 {
     return (value ? setenv(name, value, 1) : unsetenv(name)) ? fault("the environment", errno) : 0;
@@ -50,7 +51,8 @@ static int run(const struct options *options, const char *trace)
     return supervise(options, trace);
 }
 
-/* Streams that are closed would be taken for descriptors of the service. The program has them closed again. */
+/* Opens closed standard streams, whose numbers the service's descriptors would get. They are closed again for the
+ * program. */
 static void open_streams(void)
 {
     for (int file = STDIN_FILENO; file <= STDERR_FILENO; file++)

@@ -5,13 +5,13 @@
 
 enum { FIRST_ROOM = 64 };
 
-/* Where a key stands, if nothing else has taken the place. */
+/* The slot of a key if no other key has taken it. */
 static size_t home(const struct map *map, uint64_t key)
 {
     return (key * 0x9e3779b97f4a7c15u >> 32) & (map->room - 1);
 }
 
-/* The place of a key, or the free one in which it would be. */
+/* Returns the slot of a key, or the free slot where it would be inserted. */
 static size_t place(const struct map *map, uint64_t key)
 {
     size_t at = home(map, key);
@@ -50,7 +50,7 @@ int map_add(struct map *map, uint64_t key, void *value)
     return 0;
 }
 
-/* Those that stand after a free place move into it, so that a search that stops there misses nothing. */
+/* Moves later entries back over the freed slot, so that a search that stops at a free slot misses no key. */
 void map_remove(struct map *map, uint64_t key)
 {
     size_t mask = map->room - 1, free_at, at;

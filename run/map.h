@@ -1,4 +1,4 @@
-/* A map from numbers other than 0 to pointers. */
+/* A hash map from nonzero numbers to pointers. */
 #ifndef BIM_RUN_MAP_H
 #define BIM_RUN_MAP_H
 
@@ -7,15 +7,15 @@
 
 struct map {
     struct map_entry {
-        uint64_t key; /* 0 if there is none */
+        uint64_t key; /* 0 in a free slot */
         void *value;
     } * entries;
-    size_t room, count; /* the room is a power of two, or 0 */
+    size_t room, count; /* `room` is a power of two, or 0 */
 };
 
-/* Returns NULL if nothing has the key. */
+/* Returns NULL if the key is missing. */
 void *map_find(const struct map *map, uint64_t key);
-/* The key is new. Returns 0, or ENOMEM and changes nothing. */
+/* Adds a key that the map doesn't have. Returns 0, or ENOMEM, and then the map is unchanged. */
 int map_add(struct map *map, uint64_t key, void *value);
 void map_remove(struct map *map, uint64_t key);
 void map_free(struct map *map);

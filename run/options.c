@@ -26,7 +26,7 @@ static const char HELP[] =
     "start, 126 if the program can't be run with it, and 127 if there is no such program.\n";
 
 enum word { LOCAL = 256, DIRECT, TRACE, REPORT, REQUIRE, SHUFFLE, VERBOSE, HELP_, VERSION };
-enum { SEED_DIGITS = 19 }; /* which fit into 64 bits */
+enum { SEED_DIGITS = 19 }; /* fit into 64 bits */
 
 static const struct option WORDS[] = {
     { "local", no_argument, NULL, LOCAL },     { "direct", no_argument, NULL, DIRECT },
@@ -42,7 +42,7 @@ static int tell_usage(void)
     return STATUS_OPTIONS;
 }
 
-/* Ends with what was printed, or with 125 if standard output can't be written. */
+/* Prints a text. Returns the exit status: 125 if standard output can't be written. */
 static int print(const char *text, const char *more)
 {
     return fputs(text, stdout) < 0 || fputs(more, stdout) < 0 || fflush(stdout) ? 125 : 0;
@@ -79,7 +79,7 @@ int options_read(struct options *options, int count, char **words)
     int word, status = -1;
 
     *options = (struct options){ .program = NULL };
-    words[0] = "bimphlai-run"; /* which getopt_long names in what it says */
+    words[0] = "bimphlai-run"; /* getopt_long prints this name in its messages */
     while (status < 0 && (word = getopt_long(count, words, "+", WORDS, NULL)) >= 0)
         status = take(options, word);
     options->program = words + optind;

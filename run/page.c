@@ -7,7 +7,7 @@
 #include <string.h>
 #include <sys/mman.h>
 
-/* Headers that are older than Linux 5.1 lack this one. */
+/* Headers older than Linux 5.1 lack this seal. */
 #ifndef F_SEAL_FUTURE_WRITE
 #define F_SEAL_FUTURE_WRITE 0x0010
 #endif
@@ -22,7 +22,7 @@ struct bim_page *page_new(int *memory)
     page = MAP_FAILED;
     if (ftruncate(*memory, sizeof *page) == 0 && fcntl(*memory, F_ADD_SEALS, F_SEAL_SHRINK | F_SEAL_GROW) == 0)
         page = mmap(NULL, sizeof *page, PROT_READ | PROT_WRITE, MAP_SHARED, *memory, 0);
-    /* Kernels before Linux 5.1 can't forbid later writers. */
+    /* Kernels before Linux 5.1 can't forbid later writable mappings. */
     if (page != MAP_FAILED && (fcntl(*memory, F_ADD_SEALS, F_SEAL_FUTURE_WRITE | F_SEAL_SEAL) == 0 || errno == EINVAL))
         return page;
     if (page != MAP_FAILED)

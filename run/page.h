@@ -1,6 +1,5 @@
-/* A page that a service shares with its processes, which they only read: whether there ever was a buffer, and what was
- * reported of files that have signalled, since nothing changes that any more. So these are reported again without a
- * request. */
+/* A page that a service shares read-only with its processes. It says whether there ever was a buffer, and caches the
+ * information of signalled files, which never changes again, so that a process can report them without a request. */
 #ifndef BIM_RUN_PAGE_H
 #define BIM_RUN_PAGE_H
 
@@ -12,10 +11,9 @@
 
 enum { PAGE_SLOTS = 4096 };
 
-/* Of a file that has signalled, with one fence. A later file takes the place of an earlier one. No number comes again.
- */
+/* A signalled file with one fence. A later file overwrites an earlier one. Numbers of files are never reused. */
 struct page_slot {
-    _Atomic uint32_t turn; /* odd while it is written */
+    _Atomic uint32_t turn; /* a sequence lock: odd during a write */
     int32_t status;
     uint64_t inode;
     char name[BIM_TEXT_ROOM];
@@ -23,18 +21,18 @@ struct page_slot {
 };
 
 struct bim_page {
-    _Atomic uint32_t buffers; /* whether there ever was one */
+    _Atomic uint32_t buffers; /* nonzero once a buffer was made */
     struct page_slot slots[PAGE_SLOTS];
 };
 
-/* Makes a page, in memory that others can't change; NULL with errno if there is none. */
+/* Makes a page in memory that other processes can't change. Returns NULL with errno on failure. */
 struct bim_page *page_new(int *memory);
-/* Opens the page of a service for reading; NULL with errno. */
+/* Maps a service's page for reading. Returns NULL with errno on failure. */
 const struct bim_page *page_open(int memory);
 void page_close(struct bim_page *page);
 
 void page_put(struct bim_page *page, uint64_t inode, const struct bim_answer *answer);
-/* Stores what was reported of a file, if it is there, and returns whether it is. */
+/* Copies a file's cached information to `answer`. Returns false if the page doesn't have the file. */
 bool page_get(const struct bim_page *page, uint64_t inode, struct bim_answer *answer);
 
 #endif

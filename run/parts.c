@@ -8,14 +8,14 @@
 #include <stdlib.h>
 #include <sys/vfs.h>
 
-/* Headers that are older than Linux 5.1 lack this one. */
+/* Headers older than Linux 5.1 lack this seal. */
 #ifndef F_SEAL_FUTURE_WRITE
 #define F_SEAL_FUTURE_WRITE 0x0010
 #endif
 
 enum { SEALS_WANTED = F_SEAL_SHRINK, SEALS_DENIED = F_SEAL_WRITE | F_SEAL_FUTURE_WRITE };
 
-/* One bit for each number of a descriptor that a part has. Few processes have more descriptors. */
+/* One bit for each descriptor number, set if a part has that descriptor. Few processes have more descriptors. */
 enum { NUMBERS = 65536, BITS = 64 };
 static _Atomic uint64_t held[NUMBERS / BITS];
 
@@ -36,7 +36,7 @@ bool parts_hold(int file)
     return file >= 0 && file < NUMBERS && held[file / BITS] >> file % BITS & 1;
 }
 
-/* The kernel takes single pages of huge ones, which can't be mapped so. */
+/* The kernel takes single pages of huge pages, which can't be mapped one by one. */
 static bool has_huge_pages(int memory)
 {
     struct statfs found;
@@ -44,7 +44,7 @@ static bool has_huge_pages(int memory)
     return syscall(SYS_fstatfs, memory, &found) == 0 && found.f_type == HUGETLBFS_MAGIC;
 }
 
-/* The kernel takes a last page that the file fills in part. */
+/* Returns whether the bytes are within the file. The kernel accepts a last page that the file fills only in part. */
 static bool is_within(int memory, uint64_t from, uint64_t size)
 {
     uint64_t page = sysconf(_SC_PAGESIZE), pages;

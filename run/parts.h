@@ -1,5 +1,5 @@
-/* The memory of a buffer: parts of memory files, one after another. That of a heap's buffer is one file; what
- * /dev/udmabuf makes has parts of files that a program has too. */
+/* The memory of a buffer: a list of parts of memory files. A heap's buffer has one file; a buffer of /dev/udmabuf has
+ * parts of files that the program holds too. */
 #ifndef BIM_RUN_PARTS_H
 #define BIM_RUN_PARTS_H
 
@@ -7,7 +7,7 @@
 #include <stddef.h>
 #include <stdint.h>
 
-/* The driver takes as many at once. */
+/* The udmabuf driver's list_limit. */
 enum { PARTS_MOST = 1024 };
 
 struct part {
@@ -20,16 +20,16 @@ struct parts {
     size_t count;
 };
 
-/* Whether a buffer may be made of these bytes of a file: 0, EBADFD for what is no memory file, or EINVAL for one that
- * may become smaller or can't be written. */
+/* Checks whether a buffer may be made of these bytes of a file. Returns 0, EBADFD for a file that isn't a memory file,
+ * or EINVAL for one that may shrink or can't be written. */
 int parts_check(int memory, uint64_t from, uint64_t size);
 
-/* Adds a part, whose descriptor is kept. Returns 0 or ENOMEM. */
+/* Adds a part, and takes ownership of its descriptor. Returns 0 or ENOMEM. */
 int parts_add(struct parts *parts, int memory, uint64_t from, uint64_t size);
-/* Gives other numbers to all descriptors. */
+/* Moves all descriptors to the numbers that `place` returns. */
 void parts_place(struct parts *parts, int (*place)(int file));
 void parts_close(struct parts *parts);
-/* Whether a descriptor is one of a part, of which its inode says nothing. */
+/* Returns whether a descriptor belongs to a part. Its inode doesn't tell. */
 bool parts_hold(int file);
 
 #endif

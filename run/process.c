@@ -42,7 +42,7 @@ ssize_t process_read(pid_t number, const char *name, char *text, size_t room)
     return length < 0 ? -1 : (ssize_t)all;
 }
 
-/* Without /proc, a process that nobody has waited for goes on. */
+/* Without /proc, a process that wasn't reaped counts as running. */
 static bool number_goes_on(pid_t number)
 {
     char text[STATUS_BYTES + 1] = { 0 };

@@ -15,10 +15,10 @@
 
 enum { HEADER_BYTES = 64, INTERPRETER_BYTES = 256, SCRIPTS = 4 };
 
-/* What is read of a program's file. */
+/* The parts of a program's file that the check needs. */
 struct image {
     bool is_elf;
-    char loader[INTERPRETER_BYTES]; /* of an ELF file, or the interpreter of a script; "" if there is none */
+    char loader[INTERPRETER_BYTES]; /* an ELF file's loader, a script's interpreter, or "" */
 };
 
 static bool is_program(const char *path)
@@ -28,7 +28,7 @@ static bool is_program(const char *path)
     return access(path, X_OK) == 0 && stat(path, &found) == 0 && S_ISREG(found.st_mode);
 }
 
-/* As execvp looks for it. */
+/* Searches PATH like execvp(3). */
 static bool find(const char *program, char *path)
 {
     const char *folders = getenv("PATH");
@@ -47,7 +47,7 @@ static bool find(const char *program, char *path)
     return false;
 }
 
-/* The loader that an ELF file asks for. */
+/* Reads the path of the loader that an ELF file names. */
 static void read_loader(int file, const Elf64_Ehdr *header, struct image *image)
 {
     for (int i = 0; i < header->e_phnum; i++) {
@@ -87,7 +87,8 @@ static bool read_image(const char *path, struct image *image)
     return length >= 0;
 }
 
-/* The loader takes no library from the environment for a program that has more rights than its caller. */
+/* Returns whether a program runs with more rights than its caller. For such a program, the loader ignores
+ * LD_PRELOAD. */
 static bool gains_rights(const char *path)
 {
     struct stat found;

@@ -39,7 +39,7 @@ static bool is_pending(const struct fence *fence)
     return fence->timeline && fence->state == PENDING;
 }
 
-/* Takes a fence off its timeline, if it is there. */
+/* Removes a fence from its timeline's list, if it is there. */
 static void unlink_fence(struct fence *fence)
 {
     struct timeline *timeline = fence->timeline;
@@ -84,7 +84,7 @@ static struct fence *new_fence(struct timeline *timeline, uint32_t seqno, uint64
     return fence;
 }
 
-/* The last fence on a timeline at or below a point; NULL if there is none. */
+/* Returns the last fence on a timeline at or below `value`, or NULL. */
 static struct fence *last_up_to(const struct timeline *timeline, uint64_t value)
 {
     struct fence *fence = timeline->last;
@@ -94,7 +94,7 @@ static struct fence *last_up_to(const struct timeline *timeline, uint64_t value)
     return fence;
 }
 
-/* Puts a new fence on its timeline, or returns the one of its point that is pending there. */
+/* Adds a new fence to its timeline, or returns the pending fence that its point already has. */
 static struct fence *share(struct timeline *timeline, struct fence *fence)
 {
     struct fence *before = last_up_to(timeline, fence->value);
@@ -166,7 +166,7 @@ void record_signal(struct timeline *timeline, uint64_t pending, struct trace *tr
         signal_first(timeline, trace);
 }
 
-/* As in the kernel, what is cancelled stays on its timeline. */
+/* As in the kernel, cancelled fences stay on the timeline. */
 void record_close(struct timeline *timeline, uint64_t value, uint64_t now, struct trace *trace)
 {
     timeline->value = value;
@@ -218,7 +218,7 @@ void record_enable(struct fences *fences, struct trace *trace)
             enable(fences->at[i], trace);
 }
 
-/* Whether a fence is left as it is by the end of the process that would have signalled it. */
+/* Returns whether a fence stays unsignalled when the process that would have signalled it ends. */
 static bool is_left(const struct fence *fence)
 {
     return is_pending(fence) && fence->timeline->ends_with_process;

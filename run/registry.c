@@ -45,7 +45,7 @@ int registry_fences(struct registry *registry, uint64_t file, struct fences *fen
     return error;
 }
 
-/* Opens all but the device. Returns 0 or an errno. */
+/* Opens everything but the device. Returns 0 or an errno. */
 static int open_page_and_trace(struct registry *registry, const char *trace_path)
 {
     int error;
@@ -131,7 +131,7 @@ static void set_maker(struct object *object, const struct bim_request *request)
     object->maker.thread = request->thread;
 }
 
-/* Makes an object and its descriptors, with no number yet. */
+/* Makes an object and its descriptors, without a number yet. */
 int registry_begin(struct registry *registry, enum kind kind, const struct bim_request *request, struct object **made,
                    int *gives)
 {
@@ -171,7 +171,7 @@ static int watch_endpoint(const struct registry *registry, const struct object *
     return call_epoll_ctl(registry->endpoints, EPOLL_CTL_ADD, object->endpoint, &event) ? ENOMEM : 0;
 }
 
-/* Keeps an object that has its number, or undoes it after an error. */
+/* Keeps an object that has its number, or undoes registry_begin after an error. */
 int registry_finish(struct registry *registry, struct object *object, int error, int *gives)
 {
     uint64_t number = object->number;
@@ -208,7 +208,7 @@ static void wake_one(struct registry *registry, struct object *object)
     }
 }
 
-/* Tells whoever polls what the device has signalled. */
+/* Wakes the polls of all files and buffers that the device has signalled. */
 void registry_wake(struct registry *registry)
 {
     uint64_t woken[WOKEN_ROOM];

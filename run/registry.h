@@ -1,5 +1,5 @@
-/* The registry: timelines, files and buffers of one device of libbimphlai, with their descriptors. The device decides
- * everything; the registry carries what it says to those who have the descriptors. */
+/* The registry: the timelines, files and buffers of one libbimphlai device, with their descriptors. The device makes
+ * all decisions; the registry passes the results on to the processes that hold the descriptors. */
 #ifndef BIM_RUN_REGISTRY_H
 #define BIM_RUN_REGISTRY_H
 
@@ -17,7 +17,7 @@
 
 enum kind { TIMELINE, SYNC_FILE, BUFFER, READINESS };
 
-/* The accesses to a buffer for which poll reports it: reading (POLLIN) and writing (POLLOUT). */
+/* The accesses to a buffer that poll reports: reading (POLLIN) and writing (POLLOUT). */
 enum access { READING, WRITING, ACCESSES };
 
 struct buffer {
@@ -27,24 +27,24 @@ struct buffer {
     uint64_t size;
     char name[BIM_TEXT_ROOM];
     bool is_ready[ACCESSES];
-    struct object *awaited[ACCESSES]; /* the device's file of what the access waits for */
+    struct object *awaited[ACCESSES]; /* the device's file of the fences that the access waits for */
 };
 
 struct object {
-    uint64_t number; /* of the device */
+    uint64_t number; /* the device's number */
     uint64_t inode;
     enum kind kind;
-    int endpoint; /* the service's descriptor, or -1 */
+    int endpoint; /* the service's end, or -1 */
     bool is_closing;
-    bool is_told; /* by the process that closed it */
+    bool is_told; /* the process that closed it has said so */
     struct object *next_closing;
     struct who maker;
     union {
-        struct timeline *timeline; /* of a timeline that has its number */
+        struct timeline *timeline; /* of a timeline that has a number */
         struct fences fences;
         struct buffer buffer;
         struct {
-            struct object *of; /* READINESS: a file of the device that no program has */
+            struct object *of; /* READINESS: a file of the device that no program holds */
             enum access access;
             struct fences fences;
         } readiness;
@@ -53,14 +53,14 @@ struct object {
 
 struct registry;
 
-/* What differs when the registry is in a program's own process. */
+/* Hooks that differ when the registry is in the program's own process. */
 struct host {
-    void (*begin_files)(void), (*end_files)(void);     /* around what makes descriptors */
-    int (*place)(int file);                            /* returns another number for one that the registry holds */
-    bool (*make_room)(struct registry *registry);      /* whether there may be numbers now after there were none */
-    bool (*may_give)(int file);                        /* whether the program may have one of this number */
-    void (*begin_signals)(void), (*end_signals)(void); /* around writes that may meet no reader */
-    bool (*owes_answer)(struct registry *registry);    /* whether the last increment's is still on its way */
+    void (*begin_files)(void), (*end_files)(void);     /* called around code that opens descriptors */
+    int (*place)(int file);                            /* moves a descriptor of the registry; returns its new number */
+    bool (*make_room)(struct registry *registry);      /* called when no number is free; returns whether one is now */
+    bool (*may_give)(int file);                        /* whether the program may get a descriptor of this number */
+    void (*begin_signals)(void), (*end_signals)(void); /* called around writes whose reader may be gone */
+    bool (*owes_answer)(struct registry *registry);    /* whether the last increment's answer wasn't taken yet */
 };
 
 struct registry {
@@ -68,62 +68,62 @@ struct registry {
     bim_device device;
     struct map by_inode, by_number;
     struct timelines timelines;
-    struct object *closing; /* what nobody has any more */
+    struct object *closing; /* objects that no process holds any more */
     struct bim_page *page;
     int page_memory;
     struct trace *trace;
-    int endpoints; /* an epoll set that reports whose last copy is closed, or -1 */
+    int endpoints; /* an epoll set that reports objects whose last copy is closed, or -1 */
     bim_device_fence_info *rows;
     size_t rows_room;
     size_t counts[READINESS];
-    bool has_unawaited; /* buffers of which, for want of memory, nothing would report that they are ready again */
+    bool has_unawaited; /* for want of memory, some buffers have no file that would report them ready */
     uint64_t requests;
-    uint64_t now;          /* of the request that is served, or of the closings that are done */
-    uint64_t signalled_at; /* when an increment has last signalled anything, or 0 */
+    uint64_t now;          /* the time of the request that is served, or of the closings */
+    uint64_t signalled_at; /* the time of the last increment that signalled a fence, or 0 */
 };
 
-/* Opens a registry, with no trace unless there is a path. Returns 0 or an errno. */
+/* Opens a registry, without a trace if `trace_path` is NULL. Returns 0 or an errno. */
 int registry_open(struct registry *registry, const struct host *host, const char *trace_path);
 void registry_close(struct registry *registry);
 
-/* Answers a request. `passed` is a descriptor that came along, or -1, and stays the caller's; `gives` becomes one for
- * the asker, or -1. */
+/* Answers a request. `passed` is the descriptor that came with it, or -1, and stays the caller's. `gives` becomes the
+ * descriptor for the asking process, or -1. */
 void registry_serve(struct registry *registry, const struct bim_request *request, int passed, struct bim_answer *answer,
                     int *gives);
-/* Looks whether anybody still has an object; if not, registry_settle lets go of it. */
+/* Marks an object as closing if no process holds it any more; registry_settle then releases it. */
 void registry_look(struct registry *registry, struct object *object, bool is_told);
 void registry_settle(struct registry *registry);
-/* Gives other numbers to all descriptors that the registry holds. */
+/* Moves all descriptors that the registry holds to other numbers. */
 void registry_place_all(struct registry *registry);
-/* Where nothing reports closings: looks at everything, or at the timelines whose closing somebody may wait for. Returns
- * whether any was closed. */
+/* For systems on which nothing reports closings: looks at all objects, or only at timelines whose closing a process may
+ * wait for. Returns whether any was closed. */
 void registry_sweep(struct registry *registry);
 bool registry_sweep_timelines(struct registry *registry);
 
 struct object *registry_find(const struct registry *registry, uint64_t inode);
 uint64_t registry_now(void);
-/* Whether the device says that an increment by n signals anything. The closing of a timeline signals what the greatest
- * increment would. */
+/* Returns whether the device says that an increment by `n` signals a fence. Closing a timeline signals what the
+ * greatest increment would signal. */
 bool registry_signals(struct registry *registry, uint64_t timeline, uint64_t n);
 
-/* For the parts of the registry, each in a file of its own. */
+/* Internal to the registry: its parts are in files of their own. */
 int registry_begin(struct registry *registry, enum kind kind, const struct bim_request *request, struct object **made,
                    int *gives);
 int registry_finish(struct registry *registry, struct object *object, int error, int *gives);
 void registry_wake(struct registry *registry);
 void registry_forget(struct registry *registry, struct object *object);
-/* Makes a list of the fences that the device's file of pending points has. Returns 0 or ENOMEM. */
+/* Lists the fences that a device's file of pending points has. Returns 0 or ENOMEM. */
 int registry_fences(struct registry *registry, uint64_t file, struct fences *fences);
 
 int buffer_name(struct object *buffer, const char *name);
-/* `passed` is the memory of another's, or -1 for new memory. */
+/* `passed` is the caller's memory file, or -1 for new memory. */
 int buffer_make(struct registry *registry, const struct bim_request *request, int passed, int *gives);
 int buffer_extend(struct registry *registry, const struct bim_request *request, struct object *buffer, int passed);
 int buffer_memory(const struct bim_request *request, const struct object *buffer, struct bim_answer *answer,
                   int *gives);
 int buffer_import(struct registry *registry, const struct bim_request *request, struct object *buffer, int passed);
 void buffer_is_ready(struct object *buffer, enum access access);
-/* Tries once more what lacked memory. */
+/* Retries what failed for want of memory. */
 void buffers_retry(struct registry *registry);
 void buffer_drop(struct registry *registry, struct object *buffer);
 

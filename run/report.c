@@ -29,7 +29,8 @@ int report_temporary(char *path)
     return trace_begin(path);
 }
 
-/* Becomes fencectl, whose report goes to standard error or nowhere, and which signals end as usual. */
+/* Becomes fencectl (exec), whose report goes to standard error or is discarded. Resets the signals that bimphlai-run
+ * handles. */
 static void become_fencectl(const char *trace, bool reports)
 {
     static const char *const FOLDERS[] = { "", "../crates/fencectl/out/", NULL };
@@ -51,7 +52,7 @@ static void become_fencectl(const char *trace, bool reports)
     _exit(STATUS_FAULT);
 }
 
-/* Whether a trace has any event, which fencectl asks for. */
+/* Returns whether a trace has any event, as fencectl requires. */
 static bool has_events(const char *trace)
 {
     FILE *text = fopen(trace, "re");

@@ -1,13 +1,13 @@
-/* What `fencectl trace` says of a run. */
+/* Runs `fencectl trace` on the trace of a run. */
 #ifndef BIM_RUN_REPORT_H
 #define BIM_RUN_REPORT_H
 
 #include "options.h"
 
-/* Makes an empty file for a trace that nobody asked to keep. Returns 0 or an errno. */
+/* Makes an empty temporary file for a trace that isn't to be kept. Returns 0 or an errno. */
 int report_temporary(char *path);
-/* Reports on standard error if that is asked for. Returns the status with which to end: that of the program, or 1 if
- * it is 0 and a fence hangs or a rule was broken, if that is required. */
+/* Prints the report on standard error under --report. Returns the exit status: the program's, but 1 under --require if
+ * the program ended with 0 and a fence hangs or a rule was broken. */
 int report(const struct options *options, const char *trace, int status);
 
 #endif

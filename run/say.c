@@ -5,7 +5,7 @@
 #include <stdarg.h>
 #include <stdio.h>
 
-/* A pipe that is ready takes as much as a page at once. */
+/* A pipe that polls writable takes up to a page at once. */
 enum { LINE_BYTES = 1024, MILLISECONDS_TO_TAKE = 1000 };
 
 void say(const char *format, ...)

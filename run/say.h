@@ -1,8 +1,9 @@
-/* What bimphlai-run says on standard error. */
+/* Messages of bimphlai-run on standard error. */
 #ifndef BIM_RUN_SAY_H
 #define BIM_RUN_SAY_H
 
-/* Says a line, as printf prints it. It is left out if nobody takes it for some time: that can't hold bimphlai-run. */
+/* Prints a line, as printf does. The line is dropped if standard error takes none for some time, so that it can't block
+ * bimphlai-run. */
 void say(const char *format, ...) __attribute__((format(printf, 1, 2)));
 
 #endif

@@ -1,11 +1,11 @@
-/* What the registry answers to each request. */
+/* Serves each kind of request. */
 #include "calls.h"
 #include "registry.h"
 
 #include <errno.h>
 #include <string.h>
 
-/* A new file is readable at once if it has signalled. If it isn't kept, neither is what it holds. */
+/* A new file is readable at once if it has signalled. If the file isn't kept, its fences are released too. */
 static int finish_file(struct registry *registry, struct object *file, int error, int *gives)
 {
     struct fences fences;
@@ -24,7 +24,7 @@ static int finish_file(struct registry *registry, struct object *file, int error
     return error;
 }
 
-/* Finishes a file of pending points, as a merge or an export makes it. */
+/* Finishes a file of pending points, made by a merge or an export. */
 static int finish_pending(struct registry *registry, struct object *file, int error, int *gives)
 {
     if (!error)
@@ -47,7 +47,7 @@ static int serve_timeline(struct registry *registry, const struct bim_request *r
         object->timeline = record_timeline(&registry->timelines, object->number, request->name, length);
         error = object->timeline ? 0 : ENOMEM;
     }
-    /* The kernel's has no poll of its own, so it is always readable. */
+    /* The kernel's timeline has no poll operation, so it is always readable. */
     endpoint_signal(object->endpoint);
     return registry_finish(registry, object, error, gives);
 }
@@ -69,7 +69,7 @@ static int serve_fence(struct registry *registry, const struct bim_request *requ
     return finish_file(registry, file, error, gives);
 }
 
-/* Records what an increment has signalled: all below the first point that is still pending. */
+/* Records the fences that an increment has signalled: all below the first point that is still pending. */
 static void record_signalled(struct registry *registry, struct object *object)
 {
     uint64_t pending;
@@ -117,7 +117,7 @@ static int serve_export(struct registry *registry, const struct bim_request *req
     return finish_pending(registry, file, error, gives);
 }
 
-/* The beginning and the end of a wait; the answer's status is 1 if there is something to wait for. */
+/* Traces the beginning or end of a wait. The answer's status is 1 if the file is pending. */
 static int serve_wait(struct registry *registry, const struct bim_request *request, struct object *file,
                       struct bim_answer *answer)
 {
@@ -137,7 +137,7 @@ static int serve_wait(struct registry *registry, const struct bim_request *reque
     return 0;
 }
 
-/* What is asked of an object that the request names first. */
+/* Serves a request on the object `a`. */
 static int serve_object(struct registry *registry, const struct bim_request *request, int passed,
                         struct bim_answer *answer, int *gives)
 {
@@ -192,7 +192,7 @@ void registry_serve(struct registry *registry, const struct bim_request *request
     *gives = -1;
     memset(answer, 0, offsetof(struct bim_answer, row));
     registry->requests++;
-    /* An increment that signals nothing happens at no time. */
+    /* An increment that signals nothing needs no time, so the clock isn't read. */
     if (request->op != BIM_OP_INC || registry->trace)
         registry->now = registry_now();
     set_who(registry, request);

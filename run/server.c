@@ -1,5 +1,5 @@
-/* One loop serves all processes. Closings are seen on a set of their own, so that all that came before a request are
- * done before it is answered. */
+/* One loop serves all processes. Closings are reported by an epoll set of their own, so that all closings before a
+ * request are done before it is answered. */
 #define _GNU_SOURCE
 #include "server.h"
 
@@ -20,7 +20,7 @@ static void nothing(void)
 {
 }
 
-static struct shared_state *shared; /* the one of the setup */
+static struct shared_state *shared; /* the setup's */
 
 int server_note(int file)
 {
@@ -40,7 +40,7 @@ static bool no_room(struct registry *registry)
     return false;
 }
 
-/* The server has its descriptors for itself, and blocks all signals. */
+/* The server has its descriptors to itself, and blocks all signals. */
 static const struct host HOST = { nothing, nothing, server_note, no_room, any, nothing, nothing, client_owes_answer };
 
 int server_watch(struct server *server, int file, uint32_t how)
@@ -50,7 +50,7 @@ int server_watch(struct server *server, int file, uint32_t how)
     return epoll_ctl(server->events, EPOLL_CTL_ADD, file, &event);
 }
 
-/* Looks at all that the set of endpoints reports. */
+/* Looks at all objects that the set of endpoints reports. */
 void server_see_closings(struct server *server)
 {
     struct epoll_event events[EVENTS];
@@ -76,8 +76,8 @@ void server_settle(struct server *server)
     server->is_parted = false;
 }
 
-/* In a trace, closings wait a moment for those of the same process: its connection is closed last, as it has a high
- * number. */
+/* In a trace, closings are held back briefly for other closings of the same process, which closes its connection last,
+ * as that has a high number. */
 static void settle_in_time(struct server *server)
 {
     if (!server->registry.closing)
@@ -95,14 +95,14 @@ static void take_order(struct server *server)
         server->program_has_ended = true;
 }
 
-/* Once bimphlai-run has ended, nobody else starts another guard for one that was killed. */
+/* Restarts a guard that was killed. Once bimphlai-run has ended, only the server does. */
 static void keep_guard(struct server *server)
 {
     server->lacks_guard = !process_goes_on(&shared->guard) && server->setup->start_guard() != 0;
     server_watch(server, shared->guard.handle, EPOLLONESHOT);
 }
 
-/* bimphlai-run was killed, or it has ended and leaves the service to those who still use it. */
+/* bimphlai-run was killed; or it has ended, and leaves the service to the processes that still use it. */
 static void take_end_of_tool(struct server *server)
 {
     epoll_ctl(server->events, EPOLL_CTL_DEL, shared->tool.handle, NULL);
@@ -110,7 +110,7 @@ static void take_end_of_tool(struct server *server)
     keep_guard(server);
 }
 
-/* What no event reports: processes without handles, and a guard that couldn't be started. */
+/* Checks what no event reports: processes without pidfds, and a guard that couldn't be started. */
 static void look_at_processes(struct server *server)
 {
     if (server->lacks_guard)
@@ -154,7 +154,7 @@ static void fill_statistics(struct server *server)
     statistics->buffers = server->registry.counts[BUFFER];
 }
 
-/* Says that the service is ready, or whether it goes on after the program, since others still use it. */
+/* Writes that the service is ready, or whether it stays after the program because processes still use it. */
 static void say(struct server *server, char what)
 {
     fill_statistics(server);
@@ -185,7 +185,7 @@ static bool program_goes_on(const struct server *server)
     return !server->program_has_ended;
 }
 
-/* The program's other processes, if they end with it, get a moment to do so. */
+/* The program's other processes get a moment to end with it. */
 static bool others_part(const struct server *server)
 {
     return is_used(server) && registry_now() - server->parting < MILLISECONDS_TO_PART * NANOSECONDS;

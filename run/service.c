@@ -15,10 +15,10 @@
 #include <sys/socket.h>
 #include <sys/un.h>
 
-/* How many may wait to connect; and how many descriptors a server that was killed may have had that it hadn't noted. */
+/* The backlog of connections; and how many descriptors a killed server may have had above the last that it noted. */
 enum { WAITING = 128, NOT_NOTED = 64 };
 
-/* Its name is in a folder that only this user may enter, and only this user may connect. */
+/* The socket is in a folder that only this user may enter, and only this user may connect. */
 static int make_socket(struct service *service)
 {
     struct sockaddr_un at = { .sun_family = AF_UNIX };
@@ -112,7 +112,7 @@ pid_t service_share(void)
 #endif
 }
 
-/* Where the server finds it, which starts a guard once nobody else does. */
+/* The service of which the server restarts the guard once bimphlai-run has ended. */
 static struct service *guarded;
 
 static int start_guard(void)
@@ -144,7 +144,8 @@ void service_end(const struct service *service)
     while (call_write(service->orders, "", 1) < 0 && errno == EINTR) {}
 }
 
-/* Calls for each descriptor of the server's, and adds what that returns. This takes neither /proc nor a descriptor. */
+/* Calls `call` for each descriptor of the server's, and returns the sum of the results. Uses neither /proc nor a new
+ * descriptor. */
 static size_t for_each_file(size_t (*call)(const struct service *, int), const struct service *service)
 {
     size_t sum = 0;
@@ -175,7 +176,7 @@ static bool is_connection(const struct service *service, int file)
            strcmp(name.sun_path, service->socket) == 0;
 }
 
-/* What the server was about to give, and connections, which may carry what was passed to it. */
+/* Closes descriptors that the server was about to give, and connections, which may hold descriptors passed to it. */
 static size_t close_theirs(const struct service *service, int file)
 {
     uint64_t inode;

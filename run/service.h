@@ -1,4 +1,4 @@
-/* The service of a run: its folder, its socket, and the process of the server. */
+/* The service of a run: its folder, its socket, and its server process. */
 #ifndef BIM_RUN_SERVICE_H
 #define BIM_RUN_SERVICE_H
 
@@ -8,15 +8,15 @@
 #include <stdbool.h>
 #include <sys/types.h>
 
-/* For the guard, when no other descriptor is free: a folder, a file in it, and a handle. */
+/* Descriptors that the guard frees when no other is free: for a folder, a file in it, and a pidfd. */
 enum { SPARES = 3 };
 
 struct service {
     char folder[64], socket[80];
-    int lock; /* on the folder */
+    int lock; /* holds the lock of the folder */
     int listener;
-    int said, hears;   /* the words of the server and of the guard go through this pipe */
-    int orders, obeys; /* and that the program has ended through this one, to the server */
+    int said, hears;   /* the pipe for the words of the server and of the guard */
+    int orders, obeys; /* the pipe that tells the server that the program has ended */
     int nowhere;       /* /dev/null */
     int spares[SPARES];
     struct shared_state *shared;
@@ -24,33 +24,33 @@ struct service {
 
 #define NO_SPARES { -1, -1, -1 }
 
-/* Nothing is open. */
+/* A service with nothing open. */
 #define SERVICE_CLOSED                                                                                      \
     {                                                                                                       \
         .lock = -1, .listener = -1, .said = -1, .hears = -1, .orders = -1, .obeys = -1, .nowhere = -1,      \
         .spares = NO_SPARES                                                                                 \
     }
 
-/* Makes the folder, with the socket in it. Returns 0 or an errno. */
+/* Makes the folder and the socket in it. Returns 0 or an errno. */
 int service_open(struct service *service);
 /* Starts the server and its guard. Returns 0 or an errno. */
 int service_start(struct service *service, const char *trace);
 /* Tells the server that the program has ended. */
 void service_end(const struct service *service);
-/* Removes the folder, and closes what service_open opened. To be called when the server serves no longer. */
+/* Removes the folder, and closes what service_open opened. Call it once the server has ended. */
 void service_remove(struct service *service);
 
-/* Forks a process that shares this one's descriptors: what either opens stays open, whatever becomes of the other. With
- * BIM_PLAIN_FORK it shares none, since valgrind knows no process that does; then the loss of the server ends nobody
- * safely. */
+/* Forks a process that shares this one's table of descriptors: a descriptor that either opens stays open when the other
+ * ends. Under BIM_PLAIN_FORK the table isn't shared, since valgrind doesn't support that; losing the server is then
+ * unsafe. */
 pid_t service_share(void);
 
-/* How many endpoints the service holds, which are open here too. */
+/* Returns how many endpoints the service holds. They are open in this process too. */
 size_t service_endpoints(const struct service *service);
-/* After the server and its clients were ended: closes what isn't the service's own, and returns for how many of its
- * endpoints somebody has the other. */
+/* Closes everything but the service's own descriptors, after the server and its clients have ended. Returns how many of
+ * the service's endpoints have an open other end. */
 size_t service_held_endpoints(const struct service *service);
-/* Closes what was opened for a time when no other descriptor is free. */
+/* Closes the spare descriptors, for use when no other descriptor is free. */
 void service_free_spares(struct service *service);
 
 #endif

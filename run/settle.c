@@ -1,4 +1,4 @@
-/* Closings: what nobody has any more is let go. */
+/* Closings: releases objects that no process holds any more. */
 #include "calls.h"
 #include "registry.h"
 
@@ -9,12 +9,12 @@
 #include <string.h>
 #include <time.h>
 
-/* How many endpoints are polled at once; how often processes that end are looked at, a millisecond apart; and their
- * flag in /proc/N/stat, PF_EXITING. */
+/* How many endpoints are polled at once; how often an ending process is checked, once a millisecond; and the flag
+ * PF_EXITING in /proc/N/stat. */
 enum { AT_ONCE = 64, LOOKS = 200, IS_ENDING = 4 };
 
-/* How long a closing waits for a thread that has incremented just before: to take the answer, and then to look at what
- * it has to look at. */
+/* How long a closing waits for a thread that has just incremented: to take its answer, and then to read the points that
+ * it will read next. */
 enum { NANOSECONDS_TO_TAKE = 10000000, NANOSECONDS_TO_GO_ON = 500000 };
 
 static void note_teller(struct object *object, bool is_told)
@@ -26,7 +26,7 @@ static void note_teller(struct object *object, bool is_told)
 
 void registry_look(struct registry *registry, struct object *object, bool is_told)
 {
-    /* It may have been seen before it was told. */
+    /* The closing may have been seen before the process reported it. */
     if (object->is_closing)
         note_teller(object, is_told);
     if (object->is_closing || object->endpoint < 0 || !endpoint_is_alone(object->endpoint))
@@ -37,7 +37,7 @@ void registry_look(struct registry *registry, struct object *object, bool is_tol
     note_teller(object, is_told);
 }
 
-/* Who closes it: whoever said so, or else whoever made it, as far as the trace knows. */
+/* Attributes the close, in the trace, to the process that reported it, or else to the object's maker. */
 static void set_closer(struct registry *registry, const struct object *object, const struct who *teller)
 {
     if (!registry->trace)
@@ -46,7 +46,7 @@ static void set_closer(struct registry *registry, const struct object *object, c
     registry->trace->now = registry->now;
 }
 
-/* Returns ENOMEM for a timeline that can't be released yet. */
+/* Releases a closed object. Returns ENOMEM for a timeline that can't be released yet. */
 static int let_go(struct registry *registry, struct object *object, const struct who *teller)
 {
     uint64_t value = 0;
@@ -71,7 +71,7 @@ static int let_go(struct registry *registry, struct object *object, const struct
     return 0;
 }
 
-/* Lets go of those that are timelines, or of those that aren't. What can't be released stays for another time. */
+/* Releases the closed timelines, or all other closed objects. Objects that can't be released yet stay in the list. */
 static void settle(struct registry *registry, bool timelines, const struct who *teller)
 {
     struct object *left = registry->closing;
@@ -88,7 +88,7 @@ static void settle(struct registry *registry, bool timelines, const struct who *
     }
 }
 
-/* Whether a process is ending, and may have closed only some of its descriptors. */
+/* Returns whether a process is ending. It may have closed only some of its descriptors. */
 static bool is_ending(int process)
 {
     char path[32], text[512] = { 0 }, state = 'X';
@@ -108,7 +108,8 @@ static bool is_ending(int process)
 
 static void look_at_all(struct registry *registry, bool timelines);
 
-/* The trace tells what a process leaves at its end by all of its closings, which come one after another. */
+/* In a trace, waits until ending processes have closed all their descriptors, which they do one by one, since only all
+ * closings together show what a process leaves. */
 static void await_ends(struct registry *registry)
 {
     int looks = 0;
@@ -122,7 +123,7 @@ static void await_ends(struct registry *registry)
     look_at_all(registry, true);
 }
 
-/* Whether what is closed cancels any point. */
+/* Returns whether any closing cancels a point. */
 static bool cancels(struct registry *registry)
 {
     for (const struct object *object = registry->closing; object; object = object->next_closing)
@@ -139,8 +140,8 @@ static void sleep_for(uint64_t nanoseconds)
     syscall(SYS_nanosleep, &time, NULL);
 }
 
-/* On a kernel whoever increments goes on at once, and looks at other points long before a thread that it woke can close
- * the timeline. Here its answer is on the way meanwhile. */
+/* In Linux, a thread that increments continues at once, and reads other points long before a thread that it woke can
+ * close the timeline. Here its answer is still under way then, so the closing waits for it. */
 static void let_go_on(struct registry *registry)
 {
     uint64_t now = registry_now(), last = now + NANOSECONDS_TO_TAKE;
@@ -159,7 +160,7 @@ static void let_go_on(struct registry *registry)
     registry->now = now;
 }
 
-/* Files go first: a timeline that is closed with them cancels nothing that only they held. */
+/* Releases files first: a timeline that is closed with them then doesn't cancel points that only they held. */
 void registry_settle(struct registry *registry)
 {
     struct who teller = { .task = "" };
@@ -193,7 +194,7 @@ void registry_place_all(struct registry *registry)
         registry->trace->file = registry->host->place(registry->trace->file);
 }
 
-/* Looks at all but timelines, or at timelines. */
+/* Looks at all timelines, or at all other objects. */
 static void look_at_all(struct registry *registry, bool timelines)
 {
     for (size_t i = 0; i < registry->by_number.room; i++) {
@@ -211,7 +212,8 @@ void registry_sweep(struct registry *registry)
     registry_settle(registry);
 }
 
-/* Fills in the endpoints of timelines with pending fences, from one on. Returns that after the last. */
+/* Fills in the endpoints of timelines with pending fences, starting at `timeline`. Returns the timeline where the next
+ * batch starts. */
 static const struct timeline *endpoints_of(struct registry *registry, const struct timeline *timeline,
                                            struct pollfd *endpoints, nfds_t *count)
 {
@@ -251,7 +253,7 @@ static void free_one(struct registry *registry, struct object *object)
     registry_forget(registry, object);
 }
 
-/* Another takes the place of one that is freed. */
+/* Freeing an object moves another one into its slot. */
 static void free_all(struct registry *registry, bool timelines)
 {
     for (size_t i = 0; i < registry->by_number.room;) {

@@ -19,17 +19,17 @@
 #include <sys/single_threaded.h>
 #endif
 
-/* How a thread has come to ask. */
+/* The state of a thread that enters a request. */
 struct entry {
     bool is_alone, locks, blocks;
-    int cancel; /* whether it could be cancelled */
+    int cancel; /* the thread's cancellation state */
     sigset_t mask;
 };
 
 enum { UNBEGUN, BEGINNING, BEGUN };
 
-static struct own *own, spare; /* `spare` if there is no page to be wiped */
-static bool is_wiped;          /* in a child, by the kernel */
+static struct own *own, spare; /* `spare` if no page can be wiped */
+static bool is_wiped;          /* the kernel wipes it in a child */
 static char service[PATH_MAX];
 static const struct way *way;
 static bool is_traced;
@@ -39,10 +39,10 @@ static sigset_t mask; /* of the thread that forks */
 
 #define OF_THREAD static __thread __attribute__((tls_model("initial-exec")))
 OF_THREAD bool is_inside;
-OF_THREAD bool forks; /* has the lock until it has forked, and may ask meanwhile, as other libraries' handlers do */
+OF_THREAD bool forks; /* has the lock until it has forked, but handlers of other libraries may ask meanwhile */
 OF_THREAD bool begins;
 
-/* Blocks all signals but those of faults, which can't wait. */
+/* Blocks all signals except those of faults, which can't be deferred. */
 static void block_signals(sigset_t *before)
 {
     static const int FAULTS[] = { SIGSEGV, SIGBUS, SIGFPE, SIGILL, SIGTRAP, SIGSYS, SIGABRT };
@@ -54,7 +54,7 @@ static void block_signals(sigset_t *before)
     pthread_sigmask(SIG_BLOCK, &signals, before);
 }
 
-/* A signal handler of the thread that forks isn't to meet its lock. */
+/* Takes the lock for the fork, with signals blocked: a handler on this thread would deadlock on the lock. */
 static void before_fork(void)
 {
     sigset_t before;
@@ -78,7 +78,7 @@ static void after_fork(void)
     pthread_sigmask(SIG_SETMASK, &before, NULL);
 }
 
-/* Another library's handler may have asked in the child already, which then has a connection of its own. */
+/* In the child, another library's handler may have asked before; then the child already has a connection of its own. */
 static void in_child(void)
 {
     if (!is_wiped)
@@ -100,7 +100,7 @@ static void make_own(void)
     pthread_atfork(before_fork, after_fork, in_child);
 }
 
-/* The first and the end of what NEXT has put there. */
+/* The bounds of the section that NEXT fills. */
 extern const struct next_call __start_bim_next[] __attribute__((visibility("hidden")));
 extern const struct next_call __stop_bim_next[] __attribute__((visibility("hidden")));
 
@@ -124,8 +124,8 @@ static void choose_way(void)
     way = strcmp(service, BIM_LOCAL) == 0 ? &LOCAL : &LINK;
 }
 
-/* Other libraries may call before this is called as a constructor, several threads at once, and what this calls may
- * call too: to that, there is no service yet. */
+/* Other libraries may call before this constructor runs, several threads at once, and so may the functions called here:
+ * these find no service yet. */
 __attribute__((constructor, cold)) static void begin(void)
 {
     int none = UNBEGUN;
@@ -167,7 +167,7 @@ static void set_who(struct bim_request *request)
     request->processor = sched_getcpu();
 }
 
-/* A lone thread needs no lock. */
+/* A single thread needs no lock. */
 static bool is_alone(void)
 {
 #if __has_include(<sys/single_threaded.h>)
@@ -195,8 +195,8 @@ void shim_note_handler(void)
     has_handlers = true;
 }
 
-/* Takes the lock. As in a call of the kernel's, no other thread cancels this one meanwhile, and no handler of the
- * program is called, which could ask too, fork, or never return. */
+/* Takes the lock. As during a system call, the thread can't be cancelled, and no handler of the program runs, which
+ * could ask too, fork, or never return. */
 static void enter(struct entry *entry)
 {
     entry->is_alone = is_alone();
@@ -222,8 +222,8 @@ static void leave(const struct entry *entry)
         pthread_setcancelstate(entry->cancel, NULL);
 }
 
-/* The program doesn't know that these calls take a descriptor for a moment. If there is no number left, they have one
- * past its limit. */
+/* Returns whether a request opens a descriptor that the program doesn't know of. If no number is left, the descriptor
+ * gets one past the program's limit. */
 static bool hides_file(const struct bim_request *request)
 {
     return request->op == BIM_OP_MEMORY || request->op == BIM_OP_INFO;
@@ -262,7 +262,7 @@ int shim_ask(struct bim_request *request, int passed, struct bim_answer *answer,
     }
     leave(&entry);
     shuffle_pause();
-    /* A process in another root, say, may well close what it has. */
+    /* A process that can't reach the service, as after chroot, may still close its descriptors. */
     if (error == ENOTCONN && request->op != BIM_OP_GONE)
         shim_lost("the service can't be reached, since it has ended or its socket is out of reach");
     return error;
@@ -299,7 +299,7 @@ bool shim_is_buffer(int file, uint64_t *inode)
     return shim_has_buffers() && shim_mark(file, inode) == BIM_BUFFER_MARK;
 }
 
-/* The service of this process itself sees no closing by itself, and knows nothing that it hasn't made. */
+/* A local service doesn't notice closings by itself, and knows only the objects that it made. */
 bool shim_hears_closing(bool of_timeline)
 {
     return way->sees_closings ? of_timeline || is_traced : own->is_ready;

@@ -1,4 +1,4 @@
-/* What the preloaded library has in common: how it asks the service, and which descriptors are of it. */
+/* Common parts of the preloaded library: how it asks the service, and which descriptors belong to the service. */
 #ifndef BIM_RUN_SHIM_H
 #define BIM_RUN_SHIM_H
 
@@ -12,8 +12,8 @@
 #include <stdbool.h>
 #include <stddef.h>
 
-/* The call that ours stands before, as the next library has it. All are looked up as the library is loaded, since a
- * signal handler can't look one up; what calls before that looks up its own. */
+/* The next library's definition of a function that this library overrides. All are looked up when the library is
+ * loaded, since a signal handler can't look one up. A call before that looks up its own. */
 #define NEXT(name)                                                                        \
     static __typeof__(&name) next;                                                        \
     static const struct next_call looked_up                                               \
@@ -28,68 +28,71 @@ struct next_call {
 
 #define EXPORT __attribute__((visibility("default")))
 
-/* Whether this process has a service at all. */
+/* Returns whether this process has a service. */
 bool shim_is_on(void);
-/* Asks the service, one thread after another. Returns the answer's errno, which is 0 if it did what was asked. `passed`
- * is sent along, or is -1; `given`, unless it is NULL, becomes the descriptor that was sent back, or -1. */
+/* Asks the service, one thread at a time. Returns the answer's errno, or 0 on success. `passed` is a descriptor to send
+ * along, or -1. `given`, unless it is NULL, becomes the descriptor that was sent back, or -1. */
 int shim_ask(struct bim_request *request, int passed, struct bim_answer *answer, int *given);
-/* The same, if only a descriptor is wanted; returns it, or -1 with errno. */
+/* Asks for a descriptor only. Returns it, or -1 with errno. */
 int shim_ask_for_file(struct bim_request *request);
 bool shim_is_traced(void);
 bool shim_is_local(void);
-/* Whether there may be a buffer. */
+/* Returns whether there may be a buffer. */
 bool shim_has_buffers(void);
 bool shim_is_buffer(int file, uint64_t *inode);
-/* Whether the service is to hear of a closing. That of a file changes nothing that a program sees, but the trace. */
+/* Returns whether the service has to hear of a closing. The closing of a file affects only the trace. */
 bool shim_hears_closing(bool of_timeline);
-/* Closes what a call has made that is no cancellation point. */
+/* Closes a descriptor on behalf of a call that isn't a cancellation point. */
 void shim_close(int file);
-/* The program has a signal handler. */
+/* Notes that the program has a signal handler. */
 void shim_note_handler(void);
-/* To be called before a call that may wait: what was closed unseen is let go. */
+/* Call it before a call that may wait. Releases what was closed unnoticed. */
 void shim_before_wait(void);
-/* Notes in a trace that a wait on a file begins, if it is pending, or has ended. Returns whether it is pending. */
+/* Traces the beginning or the end of a wait on a file, if the file is pending. Returns whether it is pending. */
 bool shim_wait(int file, bool begins);
-/* What was reported of a file that has signalled. */
+/* Stores the cached information of a file that has signalled. */
 bool shim_recall(uint64_t inode, struct bim_answer *answer);
-/* Whether a descriptor of this process is the service's, and a number above all of these. */
+/* Returns whether a descriptor of this process is the service's. shim_above_own returns a number above all of these. */
 bool shim_is_own(int file);
 int shim_above_own(void);
 
-/* Says why the process ends, which would otherwise believe what isn't so. */
+/* Ends the process with a message, rather than let it continue on state known to be wrong. */
 _Noreturn void shim_lost(const char *why);
-/* Nobody but the service has the other end of a descriptor of ours: once that is closed, the service is gone. */
+/* Called when the other end of one of our descriptors is closed. Only the service has that end, so the service is
+ * gone. */
 _Noreturn void shim_lose_service(void);
-/* To be called after a poll, before the program takes a hang-up for a signal. */
+/* Call it after a poll, before the program sees a hang-up, which it would take for a signal. */
 void shim_look_for_loss(const struct pollfd *files, nfds_t count);
 
-/* What is this process's alone: a child begins with zeros, as the kernel wipes it. */
+/* State of this process only: the kernel zeroes it in a child. */
 struct own {
     struct lock lock;
-    _Atomic bool is_ready; /* it has a connection, or a registry of its own */
+    _Atomic bool is_ready; /* has a connection, or a registry of its own */
 };
 
-/* How a service is asked: that of a server (link.c), or of this process itself (local.c). All but those that say so are
- * called with the lock. */
+/* How the service is asked: a server (link.c), or this process itself (local.c). Called with the lock held unless
+ * stated otherwise. */
 struct way {
     int (*prepare)(struct own *own); /* returns 0 or an errno */
     int (*ask)(const struct bim_request *request, int passed, struct bim_answer *answer, int *given);
-    /* In a signal handler that the library doesn't know of, whose thread may be in a request; without the lock. */
+    /* Called without the lock in a signal handler that the library doesn't know of, whose thread may be in a request.
+     */
     int (*ask_apart)(const struct bim_request *request, int passed, struct bim_answer *answer, int *given);
-    void (*leave)(void);          /* in a new process, whose parent's it was */
-    bool (*is_own)(int file); /* these two without the lock */
+    void (*leave)(void);          /* called in a new process: drops what is the parent's */
+    bool (*is_own)(int file); /* these two are called without the lock */
     int (*above_own)(void);
     bool sees_closings;
     void (*before_wait)(void); /* or NULL */
     const struct bim_page *(*page)(void);
 };
 extern const struct way LINK, LOCAL;
-/* What the environment says of the service. */
+/* Returns the value of the environment variable that names the service. */
 const char *shim_service(void);
 
-/* Opens a path, if it is one of ours; `file` becomes its descriptor, or -1 with errno. Returns whether it is ours. */
+/* Opens a path if it is one of ours; `file` becomes its descriptor, or -1 with errno. Returns whether the path is
+ * ours. */
 bool shim_open(const char *path, int flags, int *file);
-/* A call of mmap(2) on a buffer, whose first part was answered. */
+/* A call of mmap(2) on a buffer. The service has already answered for the first part. */
 struct shim_map {
     uint64_t buffer, from;
     void *at;
@@ -97,12 +100,12 @@ struct shim_map {
     int protection, flags;
 };
 void *shim_map(const struct shim_map *map, const struct bim_answer *first, int memory);
-/* A call of ioctl(2) on /dev/udmabuf. */
+/* Serves an ioctl(2) on /dev/udmabuf. */
 int shim_udmabuf(unsigned long call, const void *arg);
 
-/* The mark of a descriptor, or 0 if there is no service. */
+/* Returns the mark of a descriptor, or 0 if there is no service. */
 enum bim_mark shim_mark(int file, uint64_t *inode);
-/* Sets errno, and returns -1, or 0 if there is no error. */
+/* Returns -1 with errno set to `error`, or 0 if `error` is 0. */
 int shim_result(int error);
 
 #endif

@@ -10,13 +10,13 @@
 #include <stdlib.h>
 #include <time.h>
 
-/* One moment in MOMENTS is a pause of 1 us, 2 us, 4 us and so on: of each of the SCALES as often. The longest are those
- * that a busy machine takes. */
+/* One moment in MOMENTS is a pause. Its length is 1 us, 2 us, 4 us and so on, each of the SCALES with equal
+ * probability. The longest are delays that a busy machine causes. */
 enum { MOMENTS = 4, SCALES = 16, NANOSECONDS = 1000 };
 
 static bool is_on;
 static uint64_t seed;
-static _Atomic uint64_t strangers; /* threads that pthread_create has not begun */
+static _Atomic uint64_t strangers; /* threads that weren't started by pthread_create */
 static __thread uint64_t stream __attribute__((tls_model("initial-exec"))); /* 0 until the thread's first moment */
 
 /* The output function of SplitMix64. */
@@ -69,8 +69,8 @@ void shuffle_fork(void)
     stream = is_on ? drawn() : 0;
 }
 
-/* What a new thread begins with. Its stream is drawn by the thread that makes it, so that it is the same whatever
- * thread runs first. */
+/* The start of a new thread. The creating thread draws the new thread's stream, so that the stream doesn't depend on
+ * which thread runs first. */
 struct beginning {
     void *(*run)(void *);
     void *given;

@@ -21,8 +21,8 @@ static struct service service = SERVICE_CLOSED;
 /* The run: which of its processes have ended, and how. */
 struct run {
     int signals;
-    sigset_t mask;           /* of the program, as bimphlai-run was started */
-    struct sigaction childs; /* what the program does about SIGCHLD */
+    sigset_t mask;           /* the program's: bimphlai-run's own at its start */
+    struct sigaction childs; /* the program's action for SIGCHLD */
     pid_t program;
     int waited, server_waited;
     bool program_has_ended, server_has_ended, lacks_guard;
@@ -31,7 +31,7 @@ struct run {
     bool users_are_killed; /* by the guard, since the server is lost */
 };
 
-/* All signals but those of faults, and of a terminal that stops and continues a job. */
+/* All signals except those of faults, and those by which a terminal stops and continues a job. */
 static void handled_signals(sigset_t *signals)
 {
     static const int OTHERS[] = { SIGSEGV, SIGBUS,  SIGFPE,  SIGILL,  SIGTRAP, SIGSYS,
@@ -42,8 +42,8 @@ static void handled_signals(sigset_t *signals)
         sigdelset(signals, OTHERS[i]);
 }
 
-/* Has the handled signals wait to be read. If bimphlai-run was started to ignore SIGCHLD, it would never see an end.
- * Returns 0 or an errno. */
+/* Blocks the handled signals, so that they can be read. Resets SIGCHLD, since bimphlai-run would see no end if it was
+ * started to ignore SIGCHLD. Returns 0 or an errno. */
 static int block_signals(struct run *run)
 {
     const struct sigaction usual = { .sa_handler = SIG_DFL };
@@ -56,7 +56,7 @@ static int block_signals(struct run *run)
     return run->signals < 0 ? errno : 0;
 }
 
-/* Starts the program, in the environment that is prepared. Returns 0 or an errno. */
+/* Starts the program in the prepared environment. Returns 0 or an errno. */
 static int start_program(struct run *run, char **program)
 {
     if (service.shared)
@@ -77,7 +77,7 @@ static int start_program(struct run *run, char **program)
     return 0;
 }
 
-/* Takes note of all processes that have ended, orphans of the program's among them. */
+/* Reaps all processes that have ended, orphans of the program included. */
 static void reap(struct run *run)
 {
     pid_t ended;
@@ -96,8 +96,8 @@ static void reap(struct run *run)
     }
 }
 
-/* What another process sends goes to the program. What the terminal sends, the program has got itself; and a write that
- * meets no reader sends SIGPIPE in our own name. */
+/* Forwards signals from other processes to the program. The program gets the terminal's signals itself; and the kernel
+ * sends SIGPIPE in our own name when a write finds no reader. */
 static void take_signals(struct run *run)
 {
     struct signalfd_siginfo signal;
@@ -121,7 +121,7 @@ static void take_words(struct run *run)
         }
 }
 
-/* Waits for signals and words. After a guard that was killed comes another, unless all is over. */
+/* Waits for signals and words. Restarts a guard that was killed, unless the run is over. */
 static void wait_for_events(struct run *run)
 {
     struct pollfd files[] = { { run->signals, POLLIN, 0 }, { service.hears, POLLIN, 0 } };
@@ -151,7 +151,8 @@ static char hear(struct run *run)
     return said;
 }
 
-/* The guard has killed those who wait before anything is said: whoever reads that may not read on. */
+/* Waits until the guard has killed the processes of the run before it prints the reason, since standard error may
+ * block. */
 static int lose(struct run *run)
 {
     while (!run->users_are_killed)
@@ -174,7 +175,7 @@ static void tell_left(void)
         (unsigned long long)statistics->buffers, service_endpoints(&service), (unsigned long long)statistics->requests);
 }
 
-/* Whoever goes on to use the service has it from the server and the guard. */
+/* The server and the guard keep the service for the processes that still use it. */
 static int leave(struct run *run)
 {
     while (!run->server_has_ended || !(run->lacks_guard || run->users_are_killed))
@@ -219,7 +220,7 @@ static int start_service(struct run *run, const struct options *options, const c
     return status;
 }
 
-/* Starts everything. Returns 0, or the status with which to end. */
+/* Starts everything. Returns 0, or the exit status. */
 static int start(struct run *run, const struct options *options, const char *trace)
 {
     int error = block_signals(run), status;
@@ -233,7 +234,7 @@ static int start(struct run *run, const struct options *options, const char *tra
     return error ? fault("the program can't start", error) : 0;
 }
 
-/* What was started ends, if the program can't be. */
+/* Ends the service if the program can't be started. */
 static void give_up(void)
 {
     if (service.shared) {

@@ -85,7 +85,7 @@ void trace_event(struct trace *trace, const char *event, const struct fence *fen
                  fence->timeline_name, (unsigned)fence->context, fence->seqno);
 }
 
-/* A trace that can't be written, as on a full disk, is given up: what was traced goes on. */
+/* Gives up a trace that can't be written, as on a full disk; the program continues. */
 void trace_flush(struct trace *trace)
 {
     int error;

@@ -1,4 +1,4 @@
-/* The trace: events of fences, as ftrace prints those of Linux. */
+/* The trace: fence events in ftrace's text format. */
 #ifndef BIM_RUN_TRACE_H
 #define BIM_RUN_TRACE_H
 
@@ -6,7 +6,7 @@
 
 #include <stdint.h>
 
-/* Who does what is written, and when in nanoseconds. */
+/* The thread that an event is attributed to, and the time in nanoseconds. */
 struct who {
     char task[BIM_TASK_ROOM];
     int32_t thread, processor;
@@ -24,12 +24,12 @@ struct trace {
 
 struct fence;
 
-/* Opens a file for the lines of a trace, which are added to it; NULL with errno if it can't be opened. */
+/* Opens a file to append trace lines to. Returns NULL with errno on failure. */
 struct trace *trace_open(const char *path);
 void trace_close(struct trace *trace);
-/* Empties the file, or makes it, and writes the lines with which ftrace begins. Returns 0 or an errno. */
+/* Creates or truncates the file, and writes ftrace's header lines. Returns 0 or an errno. */
 int trace_begin(const char *path);
-/* Adds a line. All events of a request are written at once, by trace_flush. Without a trace these do nothing. */
+/* Add a line. trace_flush writes all events of a request at once. These do nothing if `trace` is NULL. */
 void trace_event(struct trace *trace, const char *event, const struct fence *fence);
 void trace_flush(struct trace *trace);
 

@@ -8,7 +8,7 @@
 
 enum { PAGE = 4096 };
 
-/* Has the kernel copy, which fails if we would fault. */
+/* Has the kernel copy, which fails where our own access would fault. */
 static int copy(long call, void *here, const void *there, size_t length)
 {
     struct iovec local = { here, length }, remote = { (void *)there, length };
@@ -23,7 +23,7 @@ int user_get_far(void *to, const void *from, size_t length)
 {
     int error = copy(SYS_process_vm_readv, to, from, length);
 
-    /* A filter of system calls may refuse the copy. */
+    /* A seccomp filter may refuse the copy. */
     if (error && error != EFAULT)
         memcpy(to, from, length);
     return error == EFAULT ? EFAULT : 0;
@@ -33,12 +33,12 @@ int user_put_far(void *to, const void *from, size_t length)
 {
     if (copy(SYS_process_vm_writev, (void *)from, to, length) == EFAULT)
         return EFAULT;
-    /* Done once more, so that tools which watch the program's memory see it. */
+    /* Copied once more by our own code, so that tools which watch the program's memory see the access. */
     memcpy(to, from, length);
     return 0;
 }
 
-/* Reads byte by byte, as nothing is known of what comes after the end. */
+/* Reads byte by byte, since the memory after the string's end may be unmapped. */
 static int read_text(char *to, const char *from, size_t room)
 {
     for (size_t i = 0; i < room; i++) {
@@ -49,7 +49,7 @@ static int read_text(char *to, const char *from, size_t room)
     return EINVAL;
 }
 
-/* The same by copies of the kernel, which cross no page at once. */
+/* Reads by copies of the kernel, none of which crosses a page. */
 static int copy_text(char *to, const char *from, size_t room)
 {
     for (size_t length = 0, part; length < room; length += part) {

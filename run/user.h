@@ -1,4 +1,4 @@
-/* What ioctls read and write of their caller's memory: EFAULT if there is none. */
+/* Copies between an ioctl and its caller's memory. EFAULT says that the memory isn't mapped. */
 #ifndef BIM_RUN_USER_H
 #define BIM_RUN_USER_H
 
@@ -9,7 +9,7 @@
 
 enum { USER_NEAR_BYTES = 16384 };
 
-/* Callers mostly pass what is on their stack, just above this frame. That needs no look. */
+/* Fast path: callers mostly pass memory on their stack, just above this frame, which is readable without a check. */
 static inline bool user_is_near(const void *at, size_t length)
 {
     uintptr_t here = (uintptr_t)__builtin_frame_address(0), begin = (uintptr_t)at;
@@ -17,7 +17,7 @@ static inline bool user_is_near(const void *at, size_t length)
     return begin >= here && begin - here < USER_NEAR_BYTES && length < USER_NEAR_BYTES;
 }
 
-/* These have the kernel copy. Return 0 or EFAULT. */
+/* Have the kernel copy the bytes. Return 0 or EFAULT. */
 int user_get_far(void *to, const void *from, size_t length);
 int user_put_far(void *to, const void *from, size_t length);
 

@@ -1,4 +1,4 @@
-/* It may run when there is little memory and no free descriptor, so it uses neither streams nor the heap. */
+/* This may run when there is little memory and no free descriptor, so it uses neither streams nor the heap. */
 #define _GNU_SOURCE
 #include "users.h"
 
@@ -11,13 +11,13 @@
 #include <stdlib.h>
 #include <string.h>
 
-/* What is read at once of /proc, of a process's state, and of its environment, of which the first part has to do. */
+/* How much is read of /proc at once, of a process's state, and of its environment. Longer environments are cut. */
 enum { LIST_BYTES = 8192, STATE_BYTES = 512, ENVIRONMENT_BYTES = 1 << 17 };
 
-/* The number of a process that only its handle names. */
+/* The number of a process that only its pidfd names. */
 enum { HAS_HANDLE = 1 };
 
-/* Whether its environment names this service. */
+/* Returns whether a process's environment names this service. */
 static bool is_served(const struct service *service, pid_t number)
 {
     static char text[ENVIRONMENT_BYTES];
@@ -28,7 +28,7 @@ static bool is_served(const struct service *service, pid_t number)
     return found > 0 && memmem(text, found, variable, length + 1);
 }
 
-/* Guards of other runs in this one end by themselves, with those that they guard. */
+/* Guards of runs nested in this one end by themselves, with the processes that they guard. */
 static bool is_guard(const char *name, const char *after)
 {
     return after - name == (ptrdiff_t)strlen(GUARD_NAME) && memcmp(name, GUARD_NAME, after - name) == 0;
@@ -51,7 +51,7 @@ static bool is_user(const struct service *service, pid_t number)
     return (parent == shared->tool.number && process_goes_on(&shared->tool)) || is_served(service, number);
 }
 
-/* The number may have come to mean another process before the handle was opened, so it is looked at again. */
+/* The process's number may have been reused before the pidfd was opened, so the process is checked again. */
 static bool kill_user(const struct service *service, pid_t number)
 {
     struct process process;
