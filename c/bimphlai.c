@@ -1,4 +1,5 @@
-/* What libbimphlai has in C: names that end with a NUL, and texts. All else is proved code, which this calls. */
+/* The part of libbimphlai that is written in C: names that end with a NUL, and texts. All else is proved code, which
+ * these functions call. */
 #include "bimphlai.h"
 
 #include <string.h>
