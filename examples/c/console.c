@@ -1,5 +1,5 @@
-/* A debug console of a desk: each line of standard input is answered, and what it fired follows its answer, so that what
- * is written is what `fencectl` writes for the same lines. */
+/* A debug console of a desk: answers each line of standard input, and then prints the cookies that it fired, so that
+ * the output is what `fencectl` prints for these lines. */
 #define _POSIX_C_SOURCE 200809L
 #include <bimphlai.h>
 #include <inttypes.h>
@@ -22,7 +22,8 @@ static void make_room(struct text *text, size_t room)
     }
 }
 
-/* Answers a line. A table that found too little room has changed nothing, and is asked for again. */
+/* Answers a line. If the room is too small for a table, the call has changed nothing, and is repeated with more
+ * room. */
 static void answer(bim_desk *desk, const char *line, size_t line_length, struct text *text)
 {
     size_t length = 0;
@@ -35,7 +36,7 @@ static void answer(bim_desk *desk, const char *line, size_t line_length, struct 
     fputs(text->bytes, stdout);
 }
 
-/* The cookies are the program's: an emulator would resume here what waited for them. */
+/* Prints the fired cookies. An emulator would resume the jobs that wait for them here. */
 static void tell_fired(bim_desk *desk)
 {
     uint64_t cookies[16];

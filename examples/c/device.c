@@ -1,5 +1,5 @@
-/* Frames on a device: a client's frames have fences of their own, and what has signalled is shown and released, so memory
- * stays as it is however many frames there are.
+/* Frames on a device: each frame of a client has a fence of its own. Signalled frames are shown and released, so memory
+ * use doesn't grow with the number of frames.
  *
  * cc device.c $(pkg-config --cflags --libs bimphlai) -o device
  */
@@ -11,7 +11,7 @@
 
 enum { FRAMES = 3 };
 
-/* Ends the program when a call is refused. */
+/* Ends the program if a call is refused. */
 static void check(int error, const char *call)
 {
     if (error == 0)
@@ -48,11 +48,11 @@ int main(void)
     for (uint32_t frame = 1; frame <= FRAMES; frame++)
         CHECK(bim_device_fence(&device, timeline, frame, 10, &file));
 
-    /* The renderer ends the jobs of two frames. */
+    /* The renderer finishes the jobs of two frames. */
     CHECK(bim_device_inc(&device, timeline, 2, 20));
     show(&device, 21);
 
-    /* The client is killed before the third ends. */
+    /* The client is killed before the third is finished. */
     CHECK(bim_device_release(&device, timeline, 30));
     show(&device, 31);
 

@@ -1,5 +1,5 @@
-/* A main loop on poll(2): a worker thread increments a timeline and then writes an eventfd, and the loop takes the
- * cookies of the frames that this has signalled.
+/* A main loop on poll(2): a worker thread increments a timeline and then writes to an eventfd, and the loop takes the
+ * cookies of the frames that the increment signalled.
  *
  * cc -pthread eventfd.c $(pkg-config --cflags --libs bimphlai) -o eventfd
  */
@@ -14,7 +14,7 @@
 
 enum { FRAMES = 3 };
 
-/* A desk that threads share, behind a lock, and what wakes the loop after it has changed. */
+/* A desk that threads share under a lock, and the eventfd that wakes the loop after a change. */
 struct service {
     bim_desk desk;
     pthread_mutex_t lock;
@@ -27,7 +27,7 @@ static void fail(const char *what)
     exit(1);
 }
 
-/* Ends the program when a call is refused. */
+/* Ends the program if a call is refused. */
 static void check(int refusal, const char *call)
 {
     if (refusal == BIM_OK)
@@ -49,7 +49,7 @@ static void advance(struct service *service, const char *timeline)
         fail("write");
 }
 
-/* Takes fired cookies, and returns how many. */
+/* Takes fired cookies. Returns how many. */
 static size_t take(struct service *service, uint64_t *cookies, size_t room)
 {
     pthread_mutex_lock(&service->lock);
@@ -67,8 +67,8 @@ static void *gpu(void *given)
     return NULL;
 }
 
-/* Watches each frame of the timeline: its cookie is its number. The files are closed again, since a watch needs
- * none. */
+/* Watches each frame of the timeline; its cookie is its number. The files are closed again, since a watch doesn't need
+ * them. */
 static void watch_frames(bim_desk *desk)
 {
     for (uint64_t frame = 1; frame <= FRAMES; frame++) {

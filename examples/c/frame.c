@@ -1,4 +1,4 @@
-/* A frame on a desk: a renderer draws into a buffer, and a display shows it once it is drawn.
+/* A frame on a desk: a renderer draws into a buffer, and a display shows the buffer once it is drawn.
  *
  * cc frame.c $(pkg-config --cflags --libs bimphlai) -o frame
  */
@@ -7,7 +7,7 @@
 #include <stdio.h>
 #include <stdlib.h>
 
-/* Ends the program when a call is refused. */
+/* Ends the program if a call is refused. */
 static void check(int refusal, const char *call)
 {
     if (refusal == BIM_OK)
@@ -17,7 +17,7 @@ static void check(int refusal, const char *call)
 }
 #define CHECK(call) check(call, #call)
 
-/* The display's side: a frame is shown when its file is signalled. */
+/* The display shows a frame once its file is signalled. */
 static void refresh(bim_desk *desk, const char *file)
 {
     int refusal = bim_wait(desk, file);
@@ -30,7 +30,7 @@ static void refresh(bim_desk *desk, const char *file)
     printf("%s is shown\n", file);
 }
 
-/* What a file waits for. */
+/* Prints the fences of a file. */
 static void print_fences(bim_desk *desk, const char *file)
 {
     bim_fence_info rows[BIM_CONTEXTS];
@@ -53,11 +53,11 @@ int main(void)
     CHECK(bim_timeline(&desk, "copy", &context));
     CHECK(bim_buffer(&desk, "window"));
 
-    /* Two jobs write the buffer: they end at points 1 of their timelines. */
+    /* Two jobs write to the buffer. They end at point 1 of their timelines. */
     CHECK(bim_add(&desk, "window", "gpu", 1, BIM_WRITE));
     CHECK(bim_add(&desk, "window", "copy", 1, BIM_WRITE));
 
-    /* The display gets a file of what a reader has to wait for. */
+    /* The display gets a file of the fences for which a reader has to wait. */
     CHECK(bim_export(&desk, "frame", "window", BIM_SYNC_READ));
     refresh(&desk, "frame");
 

@@ -1,5 +1,4 @@
-/* The calls of libsync.h over one desk behind a lock, so that tests which are written for the kernel's sw_sync link
- * with it.
+/* The calls of libsync.h, over one desk behind a lock: tests written for the kernel's sw_sync link with this file.
  *
  * cc -pthread test.c libsync.c $(pkg-config --cflags --libs bimphlai)
  *
@@ -16,7 +15,7 @@
 #include <stdio.h>
 #include <time.h>
 
-/* Descriptors start after those of standard input, output and error. */
+/* Descriptors start after standard input, output and error. */
 enum { FIRST = 3, END = FIRST + BIM_CONTEXTS + BIM_FILES };
 
 enum kind { FREE, TIMELINE, FENCE };
@@ -45,7 +44,7 @@ static int errno_of(int refusal)
     }
 }
 
-/* Returns the value if nothing was refused, else -1 with errno. */
+/* Returns `value` if nothing was refused, else -1 with errno. */
 static int answer(int refusal, int value)
 {
     if (refusal == BIM_OK)
@@ -59,14 +58,14 @@ static bool is_open(int at, enum kind kind)
     return at >= FIRST && at < END && table[at].kind == kind;
 }
 
-/* As the kernel does with what is no such descriptor. */
+/* Fails as the kernel does for a bad descriptor. */
 static int bad_descriptor(void)
 {
     errno = EBADF;
     return -1;
 }
 
-/* The least free descriptor, or -1 with errno. */
+/* Returns the least free descriptor, or -1 with errno. */
 static int free_descriptor(void)
 {
     for (int at = FIRST; at < END; at++)
@@ -140,7 +139,7 @@ static int merge(int a, int b)
     return take(at, FENCE, bim_merge(&desk, table[at].name, table[a].name, table[b].name));
 }
 
-/* How many fences of a file have the status, or how many it has at all. */
+/* Returns how many fences of a file have the status, or how many it has in all. */
 static int count_fences(int fence, bool all, int status)
 {
     bim_fence_info rows[BIM_CONTEXTS];
@@ -172,7 +171,7 @@ static struct timespec after(int milliseconds)
     return end;
 }
 
-/* Waits, under the lock, until timelines have changed or the time is over. */
+/* Waits, with the lock released meanwhile, until timelines have changed or the time is over. */
 static bool wait_for_raise(int timeout, const struct timespec *end)
 {
     if (timeout < 0)
@@ -186,7 +185,7 @@ static int wait_for(int fence, int timeout)
     bool in_time = true;
     int refusal;
 
-    /* The last look comes when the time is over. */
+    /* The last check is made when the time is over. */
     for (;;) {
         if (!is_open(fence, FENCE))
             return bad_descriptor();
@@ -230,7 +229,7 @@ static void close_fence(int fence)
     release(fence);
 }
 
-/* Each call takes the lock for one of the functions above. */
+/* Each call takes the lock around one of the functions above. */
 static int unlock(int result)
 {
     pthread_mutex_unlock(&lock);
@@ -264,7 +263,7 @@ void sw_sync_timeline_destroy(int timeline)
 
 int sw_sync_fence_create(int timeline, const char *name, unsigned value)
 {
-    (void)name; /* the kernel shows it in debugfs, and nothing else */
+    (void)name; /* the kernel shows the name in debugfs only */
     pthread_mutex_lock(&lock);
     return unlock(create_fence(timeline, value));
 }

@@ -1,5 +1,5 @@
-/* Two threads that share words, each with a seat of its own: one draws frames and drives a timeline, the other polls
- * until the last frame is drawn.
+/* Two threads that share words, each with a seat of its own: one draws frames and drives a timeline, and the other
+ * polls until the last frame is drawn.
  *
  * cc -pthread threads.c $(pkg-config --cflags --libs bimphlai) -o threads
  */
@@ -12,7 +12,7 @@
 
 enum { GPU = 1, TIMELINES = 1, FRAMES = 1000, POLLS = 100 };
 
-/* Ends the program when a call is refused. */
+/* Ends the program if a call is refused. */
 static void check(int refusal, const char *call)
 {
     if (refusal == BIM_OK)
@@ -41,7 +41,7 @@ static void *display(void *given)
     int refusal;
 
     CHECK(bim_file_plain(&last, GPU, FRAMES));
-    /* Nothing in the library sleeps: between the polls the others have their turn. */
+    /* The library never sleeps: this thread yields between polls. */
     while ((refusal = bim_file_wait(&last, seat, POLLS)) == BIM_TIMED_OUT)
         sched_yield();
     CHECK(refusal);

@@ -1,5 +1,5 @@
-/* Calls every function of the header with good and bad arguments. A refused call leaves its out-parameters as they
- * were. */
+/* Calls every function of the header with valid and invalid arguments. A refused call must not change its
+ * out-parameters. */
 #include <bimphlai.h>
 
 #include "expect.h"
@@ -8,7 +8,7 @@
 
 #define LONGEST "a234567890123456789012345678901"
 #define TOO_LONG LONGEST "2"
-/* What out-parameters hold where a refusal has to leave them. */
+/* The initial value of out-parameters that a refused call must not change. */
 enum { KEPT = 77 };
 
 static void texts(void)
@@ -152,7 +152,7 @@ static void file_infos(bim_desk *desk)
     HOLDS(rows[2].timeline[0] == KEPT);
 }
 
-/* The same desk, where b is at 3, so that its file g is signalled. */
+/* The desk of file_infos, but b is at 3, so its file g is signalled. */
 static void waits_and_closes(bim_desk *desk)
 {
     bim_fence_info rows[3];
@@ -195,7 +195,7 @@ static void buffers(bim_desk *desk)
     EXPECT(bim_import(desk, "?", "m", BIM_SYNC_RW), BIM_SYNTAX);
 }
 
-/* The same desk with buffer B, into which m was imported for writing. */
+/* The desk of `buffers` with buffer B, into which m was imported for writing. */
 static void buffer_tests(bim_desk *desk)
 {
     int flag = KEPT;
@@ -247,7 +247,7 @@ static void shows(bim_desk *desk)
     EXPECT(bim_trim(desk, "?"), BIM_SYNTAX);
 }
 
-/* The same desk, where file f waits for point 6 of a. */
+/* The desk of buffer_tests, with file f at point 6 of a. */
 static void watches(bim_desk *desk)
 {
     uint64_t cookies[4] = { KEPT, KEPT, KEPT, KEPT }, number;
@@ -266,7 +266,7 @@ static void watches(bim_desk *desk)
     EXPECT(bim_take_fired(desk, cookies, 4), 0);
     EXPECT(bim_inc(desk, "a", 1, &number), BIM_OK);
 
-    /* Whatever the room is, each cookie comes once, in order. */
+    /* Whatever the room, each cookie comes once, in order. */
     EXPECT(bim_take_fired(desk, cookies, 0), 0);
     EXPECT(cookies[0], KEPT);
     EXPECT(bim_take_fired(desk, cookies, 2), 2);
@@ -282,7 +282,8 @@ static void watches(bim_desk *desk)
     EXPECT(bim_info(desk, "last", &(int32_t){ 0 }, &(bim_fence_info){ .point = 0 }, 1, &(size_t){ 0 }), BIM_OK);
 }
 
-/* A report of a desk of its own: each room is filled, whatever the others are, and every row is counted. */
+/* Reports a desk with objects of each kind. Each array is filled independently of the others, and all rows are
+ * counted. */
 static void reports(void)
 {
     bim_desk desk = BIM_DESK_INIT;
@@ -321,7 +322,7 @@ static void reports(void)
     bim_desk_close(&desk);
 }
 
-/* Answers a line, and expects a number and a text. */
+/* Runs a line, and expects a number and a text. */
 static void expect_line(bim_desk *desk, int at, const char *line, int wanted, const char *answer)
 {
     char out[BIM_ANSWER_ROOM];
@@ -362,7 +363,7 @@ static void lines(void)
     longest[BIM_LINE_BYTES] = ' ';
     LINE(longest, BIM_LONG_LINE, "err 12 LongLine line 1\n");
 
-    /* What fires waits in the queue, and is told there alone. */
+    /* A cookie that fires goes to the queue, and nowhere else. */
     LINE("fence f a 3", BIM_OK, "ok\n");
     LINE("watch f 7", BIM_OK, "ok\n");
     LINE("watch f 8", BIM_OK, "ok\n");
@@ -375,7 +376,7 @@ static void lines(void)
     bim_desk_close(&desk);
 }
 
-/* Too little room for an answer changes nothing, and what there is room for is the beginning of the text. */
+/* A call with too little room for the answer changes nothing, and stores the part of the text that fits. */
 static void rooms(void)
 {
     bim_desk desk = BIM_DESK_INIT;
@@ -402,7 +403,7 @@ static void rooms(void)
     bim_desk_close(&desk);
 }
 
-/* One more than each limit. */
+/* Exceeds each limit by one. */
 static void limits(void)
 {
     bim_desk desk = BIM_DESK_INIT;
@@ -429,7 +430,7 @@ static void limits(void)
     HOLDS(desk.at == NULL);
 }
 
-/* A name is so many bytes and no more, whatever stands after them. */
+/* A name is exactly `length` bytes; the bytes after it don't matter. */
 static void names_with_lengths(bim_desk *desk)
 {
     bim_fence_info info;
@@ -615,7 +616,7 @@ static void running_files(bim_seat *seat)
     bim_file_close(&far);
 }
 
-/* The same, by the drivers of both. */
+/* The timelines of running_files, advanced by both drivers. */
 static void running_waits(bim_seat *seat, bim_seat *other)
 {
     bim_file a = BIM_FILE_INIT, b = BIM_FILE_INIT, both = BIM_FILE_INIT, same = BIM_FILE_INIT;
@@ -670,8 +671,8 @@ static void closings(bim_seat *seat, bim_seat *other)
     bim_file_close(&file);
 }
 
-/* Both timelines are closed, timeline 1 at 6, so its later points are no longer pending; timeline 3 is at 0. What a look has
- * to wait for depends on its usage. */
+/* Both timelines are closed, timeline 1 at 6, so its later points are no longer pending; timeline 3 is at 0. An export
+ * has the points of its usage and the stronger ones. */
 static void boards(bim_seat *seat, bim_seat *other)
 {
     bim_file writes = BIM_FILE_INIT, all = BIM_FILE_INIT, idle = BIM_FILE_INIT;
@@ -735,7 +736,7 @@ static void words(void)
     HOLDS(seat.at == NULL && other.at == NULL);
 }
 
-/* Files of other words have values that these never had. */
+/* Files of other words record values that these words never had. */
 static void other_words(void)
 {
     bim_seat seat = BIM_SEAT_INIT, strange = BIM_SEAT_INIT;
@@ -757,7 +758,7 @@ static void other_words(void)
     bim_seat_close(&strange);
 }
 
-/* A seat can be parted as often as the header says. */
+/* A seat can be divided as often as the header says. */
 static void partings(void)
 {
     enum { OF_FIRST = 1000, OF_NEXT = 10 };

@@ -1,16 +1,16 @@
-/* Carries scripts of conformance/ out on a device, and compares its answers with those of a real kernel, the notes
- * `#= TEXT` after each command.
+/* Runs scripts of conformance/ on a device, and compares its answers with the answers of a real kernel, which are the
+ * notes `#= TEXT` after each command.
  *
- * Names become numbers by a table. What a device has no call for is made of calls that it has:
+ * A table maps names to numbers. A command for which a device has no call is composed of calls that it has:
  *
- * - the value of a timeline is read off two fences: one at it has signalled, and one after it is pending;
- * - a watch is a file of its own, merged of the watched one with itself, and fires when it is among the woken;
- * - `add` is a fence, which is imported and released;
- * - `show` is what readers and writers would have to wait for by an export, and tests at the other two usages.
+ * - the value of a timeline is found by two fences: one at the value has signalled, and one after it is pending;
+ * - a watch is a merge of the watched file with itself, and fires when this new file is woken;
+ * - `add` makes a fence, imports it and releases it;
+ * - `show` exports the fences for which readers and writers have to wait, and tests the other two usages.
  *
- * A point is compared where the name of a file has it: where the file has one fence and was given no name. The status
- * of a file is the kernel's, that of the first fence that is pending or has an error. What can't be carried out leaves
- * the rest of its script out.
+ * A point is compared if the name of a file contains it: if the file has one fence and was given no name. The status of
+ * a file is the kernel's: the status of the first fence that is pending or has an error. After a command that can't be
+ * run, the rest of the script is left out.
  */
 #include <bimphlai.h>
 
@@ -60,7 +60,7 @@ static const struct {
     [REST] = { "what can't be carried out, and the rest of the script", LEFT_OUT },
 };
 
-/* A command of a script, and the lines that are expected of its answer. */
+/* A command of a script, and the lines of its expected answer. */
 struct command {
     const char *path;
     size_t line;
@@ -71,7 +71,7 @@ struct command {
     size_t wanted_count;
 };
 
-/* A fence that is expected of a file. */
+/* An expected fence of a file. */
 struct row {
     char timeline[BIM_NAME_ROOM];
     char driver[BIM_DRIVER_ROOM];
@@ -81,7 +81,7 @@ struct row {
 
 enum kind { TIMELINE, FILE_OF, BUFFER, WATCH };
 
-/* What a name of the script means: a number of the device. */
+/* The number of the device that a name of the script stands for. */
 struct named {
     enum kind kind;
     char name[BIM_NAME_ROOM];
@@ -110,7 +110,7 @@ static struct named *find(enum kind kind, const char *name)
     return NULL;
 }
 
-/* The number that a name means, or 0, which nothing has. */
+/* Returns the number that a name stands for, or 0, which no object has. */
 static uint64_t number_of(enum kind kind, const char *name)
 {
     struct named *named = find(kind, name);
@@ -157,7 +157,7 @@ static const char *wanted_line(const struct command *c, size_t i)
     return i < c->wanted_count ? c->wanted[i] : "nothing";
 }
 
-/* The number after `ok` of the answer. */
+/* Returns the number after `ok` of the answer. */
 static uint64_t wanted_number(const struct command *c)
 {
     const char *line = wanted_line(c, 0);
@@ -165,7 +165,7 @@ static uint64_t wanted_number(const struct command *c)
     return strncmp(line, "ok ", 3) == 0 ? strtoull(line + 3, NULL, 10) : UINT64_MAX;
 }
 
-/* Compares a refusal with that of the answer. Returns whether there is none. */
+/* Compares a refusal with the refusal of the answer. Returns whether the call was accepted. */
 static bool is_accepted(const struct command *c, int refusal)
 {
     static const struct {
@@ -174,7 +174,7 @@ static bool is_accepted(const struct command *c, int refusal)
     } refusals[] = {
         { "err 2 NoEntry", BIM_ENOENT },
         { "err 4 Overflow", BIM_EOVERFLOW },
-        { "err 15 Cancelled", BIM_ENOENT }, /* a timeline that is closed is gone */
+        { "err 15 Cancelled", BIM_ENOENT }, /* a closed timeline no longer exists */
     };
     int wanted = 0;
 
@@ -185,14 +185,14 @@ static bool is_accepted(const struct command *c, int refusal)
     return refusal == 0;
 }
 
-/* Numbers rise. */
+/* Expects that numbers rise. */
 static void compare_number(const struct command *c, uint64_t number)
 {
     same(c, "a number above all others", 1, number > last_number);
     last_number = number;
 }
 
-/* Compares the answer of a call that makes a file, and gives the file the name of the second word. */
+/* Compares the answer of a call that creates a file, and gives the file the name in the second word. */
 static void compare_made(const struct command *c, int refusal, uint64_t file, bool is_given)
 {
     if (!is_accepted(c, refusal))
@@ -201,7 +201,7 @@ static void compare_made(const struct command *c, int refusal, uint64_t file, bo
     enter(FILE_OF, c->words[1], file, is_given);
 }
 
-/* Whether a new fence at a point has signalled; -1 if it can't be made. */
+/* Returns whether a new fence at a point has signalled; -1 if it can't be made. */
 static int is_reached(uint64_t timeline, uint64_t point)
 {
     int32_t signalled;
@@ -227,7 +227,7 @@ static struct named *watch_of(uint64_t file)
     return NULL;
 }
 
-/* Compares the watches among the woken with the lines after the first. What fires is gone. */
+/* Compares the woken watches with the lines after the first. A watch that fires is removed. */
 static void compare_fired(const struct command *c)
 {
     uint64_t woken[WOKEN];
@@ -250,7 +250,7 @@ static void compare_fired(const struct command *c)
         same_text(c, c->wanted[fired], "nothing");
 }
 
-/* The status of a file as the kernel has it. */
+/* Returns the status that the kernel reports for a file. */
 static int32_t kernel_status(const struct row *rows, size_t count)
 {
     for (size_t i = 0; i < count; i++)
@@ -259,7 +259,7 @@ static int32_t kernel_status(const struct row *rows, size_t count)
     return BIM_IS_SIGNALLED;
 }
 
-/* The name that the kernel gives a file of these fences, cut as the kernel cuts it. */
+/* Writes the name that the kernel gives a file with these fences, cut as the kernel cuts it. */
 static void write_name(char name[NAME_IN_FULL], uint64_t file, const struct row *rows, size_t count)
 {
     if (count > 1)
@@ -278,7 +278,7 @@ static void compare_row(const struct command *c, const struct row *wanted, const
     same(c, "whether a fence has a time", wanted->status != BIM_IS_ACTIVE, came->at != 0);
 }
 
-/* Compares what is reported of a file with the rows. The name is the given one or, where it is NULL, the kernel's. */
+/* Compares the information of a file with the rows. The expected name is `given`, or the kernel's if that is NULL. */
 static enum outcome compare_file(const struct command *c, uint64_t file, const char *given, const struct row *rows,
                                  size_t count)
 {
@@ -302,7 +302,7 @@ static enum outcome compare_file(const struct command *c, uint64_t file, const c
 
 /* ---- Commands ---- */
 
-/* Reads a word as a number of 32 bits. */
+/* Reads a word as a 32-bit number. */
 static bool read_u32(const char *word, uint32_t *number)
 {
     char *end;
@@ -332,7 +332,7 @@ static int usage_of(const char *word)
     return usage;
 }
 
-/* timeline T. Contexts are counted, as the numbers rise. */
+/* timeline T. Contexts are counted up, as the numbers are. */
 static enum outcome timeline(const struct command *c)
 {
     uint64_t number;
@@ -360,7 +360,7 @@ static enum outcome inc(const struct command *c)
     return WHOLE;
 }
 
-/* value T: an increment of 0 is refused where there is no value. */
+/* value T: an increment of 0 is refused if there is no value. */
 static enum outcome value(const struct command *c)
 {
     uint64_t number = number_of(TIMELINE, c->words[1]);
@@ -370,7 +370,7 @@ static enum outcome value(const struct command *c)
     return WHOLE;
 }
 
-/* shut T: the last close of a timeline. The value is looked at before. */
+/* shut T: the last close of a timeline. The value is read before. */
 static enum outcome shut(const struct command *c)
 {
     uint64_t number = number_of(TIMELINE, c->words[1]);
@@ -457,7 +457,7 @@ static enum outcome buffer(const struct command *c)
     return WHOLE;
 }
 
-/* add B T P U: a usage that an import has. */
+/* add B T P U, for usages that an import can have. */
 static enum outcome add(const struct command *c)
 {
     int usage = usage_of(c->words[4]);
@@ -505,7 +505,8 @@ static enum outcome test(const struct command *c)
     return WHOLE;
 }
 
-/* The rows of show at a usage; none of them is reached. Returns how many there are, and stores the stub for none. */
+/* Stores the rows of show at a usage, none of them reached, or the stub's row if there are none. Returns how many it
+ * stores. */
 static size_t rows_at(const struct command *c, int usage, struct row rows[ROWS])
 {
     size_t count = 0;
@@ -522,7 +523,7 @@ static size_t rows_at(const struct command *c, int usage, struct row rows[ROWS])
     return count;
 }
 
-/* Compares what an access to a buffer would wait for with the rows of show at the usage that it asks for. */
+/* Compares the fences for which an access to a buffer would wait with the rows of show at the access's usage. */
 static void compare_access(const struct command *c, uint64_t buffer, uint32_t flags, int usage)
 {
     struct row rows[ROWS];
@@ -572,7 +573,7 @@ static enum outcome watch(const struct command *c)
     return WHOLE;
 }
 
-/* unwatch COOKIE: whether there is such a watch is known by the table. */
+/* unwatch COOKIE: the table knows whether the watch exists. */
 static enum outcome unwatch(const struct command *c)
 {
     struct named *watch = find(WATCH, c->words[1]);
@@ -630,7 +631,7 @@ static enum outcome carry_out(const struct command *c)
 
 /* ---- Scripts ---- */
 
-/* Reads a script into lines that end with a NUL. Returns how many there are. */
+/* Splits a script into NUL-terminated lines. Returns their number. */
 static size_t read_lines(const char *path, char *bytes, char **lines)
 {
     FILE *file = fopen(path, "r");
@@ -664,7 +665,7 @@ static bool is_note(const char *line)
     return *line == '#' || *line == '\0';
 }
 
-/* Takes a line apart. */
+/* Splits a line into words. */
 static void read_words(struct command *c, char *line)
 {
     snprintf(c->text, sizeof c->text, "%s", line);
@@ -673,7 +674,7 @@ static void read_words(struct command *c, char *line)
         c->words[c->word_count++] = word;
 }
 
-/* Takes what is expected of the command above, up to the next one. Returns where that is. */
+/* Takes the lines that are expected of the command above, up to the next command. Returns the index of that command. */
 static size_t read_expected(struct command *c, char **lines, size_t at, size_t count)
 {
     c->wanted_count = 0;
@@ -687,7 +688,7 @@ static size_t read_expected(struct command *c, char **lines, size_t at, size_t c
     return at;
 }
 
-/* Carries a script out on a device of its own, and counts how much of each answer was compared. */
+/* Runs a script on a device of its own, and counts how much of each answer was compared. */
 static void run_script(const char *path, size_t tally[OUTCOMES])
 {
     static char bytes[SCRIPT_BYTES];
@@ -722,7 +723,7 @@ static size_t sum_of(const size_t tally[OUTCOMES], enum measure measure)
     return sum;
 }
 
-/* The counts of a script or of all, and what was not compared whole, and why. */
+/* Writes the counts of a script or of all scripts, and says what was not fully compared, and why. */
 static void write_counts(const char *name, const size_t tally[OUTCOMES])
 {
     printf("%s: compared %zu, in part %zu, left out %zu\n", name, sum_of(tally, COMPARED), sum_of(tally, IN_PART),

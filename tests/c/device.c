@@ -1,5 +1,5 @@
-/* Calls every function of a device with good and bad arguments. A refused call leaves its out-parameters as they
- * were. */
+/* Calls every function of a device with valid and invalid arguments. A refused call must not change its
+ * out-parameters. */
 #include <bimphlai.h>
 
 #include "expect.h"
@@ -8,7 +8,7 @@
 #include <string.h>
 
 #define LONGEST "a234567890123456789012345678901"
-/* What out-parameters hold where a refusal has to leave them, and a number that nothing has. */
+/* The initial value of out-parameters that a refused call must not change; and a number that no object has. */
 enum { KEPT = 77, NOTHING = 1000000 };
 
 static void errnos(void)
@@ -23,8 +23,8 @@ static void errnos(void)
     EXPECT(BIM_EOVERFLOW, EOVERFLOW);
 }
 
-/* Each call fails with one errno, and stores nothing: the device is closed, or the number is not that of an object of
- * the kind. */
+/* Expects that each call fails with one errno, and stores nothing: the device is closed, or each number belongs to an
+ * object of another kind or to none. */
 static void refused(bim_device *device, uint64_t no_timeline, uint64_t no_file, uint64_t no_buffer, int wanted)
 {
     uint64_t number = KEPT;
@@ -76,7 +76,7 @@ static void closed_device(void)
     HOLDS(device.at == NULL);
 }
 
-/* Numbers rise from 1, whatever they are of, and a refused call takes none. */
+/* Numbers rise from 1 over all kinds of objects, and a refused call uses none. */
 static void numbers(bim_device *device)
 {
     uint64_t timeline, file, buffer, merged, number = KEPT;
@@ -122,7 +122,7 @@ static void numbers(bim_device *device)
     EXPECT(number, KEPT);
 }
 
-/* The first files that were woken are taken, as many as there is room for, and the others stay. */
+/* Takes the first woken files, as many as there is room for. The others stay. */
 static void takes(bim_device *device, size_t room, const uint64_t *wanted, size_t count)
 {
     uint64_t files[8] = { KEPT, KEPT, KEPT, KEPT, KEPT, KEPT, KEPT, KEPT };
@@ -132,7 +132,7 @@ static void takes(bim_device *device, size_t room, const uint64_t *wanted, size_
         EXPECT(files[i], i < count ? wanted[i] : KEPT);
 }
 
-/* The least point that an increment by n signals. */
+/* Expects the least point that an increment by n signals. */
 static void is_due(bim_device *device, uint64_t timeline, uint64_t n, uint64_t wanted)
 {
     uint64_t point = KEPT;
@@ -166,7 +166,7 @@ static void woken(bim_device *device)
     EXPECT(signalled, 0);
     takes(device, 8, NULL, 0);
 
-    /* By request, and by rising number within one: points 1, then 2 and 3. */
+    /* In order of the calls, and by rising number within one call: points 1, then 2 and 3. */
     EXPECT(bim_device_inc(device, timeline, 1, 10), 0);
     EXPECT(bim_device_is_signalled(device, files[5], &signalled), 0);
     EXPECT(signalled, 1);
@@ -192,7 +192,7 @@ static void woken(bim_device *device)
     takes(device, 8, NULL, 0);
 }
 
-/* What is reported of a file of one timeline that is at value 4, and then closed. */
+/* Expects the information of a file of one timeline, which is at value 4, and then closed. */
 static void infos(bim_device *device)
 {
     uint64_t timeline, pending, reached, merged;
@@ -218,7 +218,7 @@ static void infos(bim_device *device)
     EXPECT(bim_device_info_n(device, reached, &info, rows, 1), 0);
     HOLDS(rows[0].at == 61 && rows[0].status == BIM_IS_SIGNALLED);
 
-    /* A closed timeline cancels what is pending, and leaves what is reached. */
+    /* Closing a timeline cancels its pending fences, and doesn't change signalled ones. */
     EXPECT(bim_device_release(device, timeline, 70), 0);
     EXPECT(bim_device_status(device, pending, &status), 0);
     EXPECT(status, BIM_IS_CANCELLED);
@@ -229,7 +229,7 @@ static void infos(bim_device *device)
     EXPECT(bim_device_info(device, reached, &info, rows, 3), 0);
     HOLDS(rows[0].status == BIM_IS_SIGNALLED && rows[0].at == 61);
 
-    /* A merge of what has signalled is a stub of the latest time. */
+    /* A merge of signalled files is a stub with the latest time. */
     EXPECT(bim_device_merge(device, pending, reached, "", &merged), 0);
     EXPECT(bim_device_info(device, merged, &info, rows, 3), 0);
     HOLDS(strcmp(info.name, "stub-stub0-0") == 0 && info.fences == 1 && info.status == BIM_IS_SIGNALLED);
@@ -239,7 +239,7 @@ static void infos(bim_device *device)
     EXPECT(merged, pending);
 }
 
-/* A file has a row for each timeline, as many as there is room for, by rising number. */
+/* A file has a row for each timeline, by rising number; as many are stored as there is room for. */
 static void rows_and_rooms(bim_device *device)
 {
     enum { MANY = 5 };
@@ -298,7 +298,7 @@ static void names(bim_device *device)
     HOLDS(strcmp(info.name, "frame") == 0);
 }
 
-/* Points of 32 bits wrap: the nearest to the value is meant. Values of 64 bits end. */
+/* 32-bit points wrap: each stands for the 64-bit point nearest to the value. 64-bit values don't wrap. */
 static void points(bim_device *device)
 {
     uint64_t timeline, file, before, number = KEPT;
@@ -329,7 +329,7 @@ static void points(bim_device *device)
     EXPECT(number, before);
 }
 
-/* An access waits for the writers, and one that writes for the readers too. */
+/* A read waits for writers; a write waits for readers too. */
 static void buffers(bim_device *device)
 {
     uint64_t timeline, write, read, buffer, idle, reads, writes;
@@ -366,7 +366,7 @@ static void buffers(bim_device *device)
     takes(device, 8, (uint64_t[]){ read, writes }, 2);
 }
 
-/* What an increment would signal, and the fences of a file, are what the calls make of them. */
+/* bim_device_first_due and bim_device_fence_of report what the calls then do. */
 static void looks(bim_device *device)
 {
     uint64_t timeline, other, files[3], both, last, value = KEPT, point = KEPT;
@@ -412,8 +412,8 @@ static void looks(bim_device *device)
     takes(device, 8, (uint64_t[]){ files[1], files[2], both }, 3);
 }
 
-/* There are as many objects as memory holds. What is never taken is not lost, and what is released is no longer there to
- * be taken. */
+/* Only memory limits the number of objects. A woken file that is never taken isn't lost, and a released one can't be
+ * taken any more. */
 static void many(bim_device *device)
 {
     enum { MANY = 5000 };

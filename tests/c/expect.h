@@ -1,4 +1,4 @@
-/* What the programs here share: expectations, whose failures are reported with their place and counted. */
+/* Expectations, shared by the programs here. Failures are counted, and reported with file and line. */
 #ifndef EXPECT_H
 #define EXPECT_H
 
@@ -14,13 +14,13 @@ static void expect(const char *file, int line, const char *what, long long came,
     printf("%s:%d: %s: expected %lld, came %lld\n", file, line, what, wanted, came);
 }
 
-/* Expects a number. */
+/* Expects that a call returns a number. */
 #define EXPECT(call, wanted) expect(__FILE__, __LINE__, #call, (long long)(call), (long long)(wanted))
 
-/* Expects that something holds. */
+/* Expects that a condition holds. */
 #define HOLDS(what) EXPECT(!!(what), 1)
 
-/* Reports the failures, as the program's status. */
+/* Reports failures, and returns the program's exit status. */
 static int report(const char *name)
 {
     if (failures == 0)

@@ -1,6 +1,7 @@
-/* The memory of a device follows what is alive: however much it has had, what is released leaves nothing behind.
+/* A device's memory depends only on the objects that are alive: released objects leave nothing behind, however many
+ * there were.
  *
- * It is linked with --wrap=malloc, --wrap=realloc and --wrap=free.
+ * Link with --wrap=malloc, --wrap=realloc and --wrap=free.
  */
 #include <bimphlai.h>
 
@@ -9,17 +10,18 @@
 #include <stddef.h>
 #include <stdlib.h>
 
-/* Rounds of each kind, of which the first take as much as any others; and how many of each kind are alive at once. */
+/* Rounds of each kind, the first of which need as much memory as any later ones; and how many objects of each kind are
+ * alive at once. */
 enum { ROUNDS = 200000, FIRST = 2000, ALIVE = 50000 };
 
-/* The fences of a large file, the files of a large wake, and the bytes that a few fences take at most. */
+/* The fences of a large file, the files of a large wake, and a bound on the bytes that a few fences need. */
 enum { FENCES = 1000, WOKEN = 20000, FEW_BYTES = 1000 };
 
 void *__real_malloc(size_t size);
 void *__real_realloc(void *block, size_t size);
 void __real_free(void *block);
 
-/* The bytes that are taken, and the most that were. */
+/* The bytes that are allocated, and their maximum so far. */
 static long long bytes, most;
 
 static void count(void *block, int sign)
@@ -63,7 +65,7 @@ static void one_timeline(void)
     EXPECT(bim_device_release(&device, number, 1), 0);
 }
 
-/* The file waits until its timeline is closed, and is among the woken. */
+/* The file waits until its timeline is closed, and is then among the woken. */
 static void cancelled_file(void)
 {
     uint64_t number, waiting, woken;
@@ -75,7 +77,7 @@ static void cancelled_file(void)
     EXPECT(bim_device_release(&device, waiting, 3), 0);
 }
 
-/* The file that signals is released before it is taken. */
+/* A file that signals is released before it is taken. */
 static void signalled_merge(void)
 {
     static uint32_t point;
@@ -88,7 +90,7 @@ static void signalled_merge(void)
     EXPECT(bim_device_release(&device, merged, 3), 0);
 }
 
-/* The buffer stays, and what is put into it signals. */
+/* The buffer stays, and the fences put into it signal. */
 static void signalled_import(void)
 {
     static uint32_t point;
@@ -118,7 +120,7 @@ static void make_rounds(void (*round)(void), int rounds)
         round();
 }
 
-/* Expects that the first rounds take as much at a time as all others. */
+/* Expects that the first rounds need as much memory at a time as all later ones. */
 static void stays_flat(void (*round)(void))
 {
     most = bytes;
@@ -129,7 +131,8 @@ static void stays_flat(void (*round)(void))
     EXPECT(most, first);
 }
 
-/* Expects that many objects of each kind give back most of what they took: what stays is the room of the tables. */
+/* Expects that many objects of each kind, once released, give back most of their memory; only the room of the tables
+ * stays. */
 static void gives_all_back(void)
 {
     static uint64_t numbers[4 * ALIVE];
@@ -149,7 +152,7 @@ static void gives_all_back(void)
     HOLDS(bytes - before < (alive - before) / 2);
 }
 
-/* Expects that a buffer keeps no room for fences of a file that have signalled: of FENCES fences one is pending. */
+/* Expects that a buffer keeps no room for a file's signalled fences: one of FENCES fences is pending. */
 static void keeps_room_for_what_is_pending(void)
 {
     static uint64_t timelines[FENCES];
@@ -175,7 +178,7 @@ static void keeps_room_for_what_is_pending(void)
     EXPECT(bim_device_release(&device, all, 4), 0);
 }
 
-/* Expects that a device keeps less than a byte for each file of a large wake once all are taken and released. */
+/* Expects that a device keeps less than a byte for each file of a large wake, once all are taken and released. */
 static void keeps_no_room_for_what_was_woken(void)
 {
     static uint64_t files[WOKEN], woken[WOKEN];

@@ -1,7 +1,7 @@
-/* What the library has taken of memory it gives back: with each handle that is closed something, and with the last all. A
- * desk keeps the memory of a closed file for the next one.
+/* The library frees the memory that it allocates: some of it with each handle that is closed, and all of it with the
+ * last. A desk keeps the memory of a closed file for the next file.
  *
- * It is linked with --wrap=malloc, --wrap=realloc and --wrap=free.
+ * Link with --wrap=malloc, --wrap=realloc and --wrap=free.
  */
 #include <bimphlai.h>
 
@@ -12,7 +12,7 @@ void *__real_malloc(size_t size);
 void *__real_realloc(void *block, size_t size);
 void __real_free(void *block);
 
-/* The blocks that are taken. */
+/* The number of allocated blocks. */
 static long long blocks;
 
 void *__wrap_malloc(size_t size)
@@ -37,7 +37,7 @@ void __wrap_free(void *block)
     __real_free(block);
 }
 
-/* Expects that a call gives some blocks back. */
+/* Expects that a call frees some blocks. */
 #define GIVES_BACK(call) \
     do { \
         long long taken = blocks; \
@@ -45,7 +45,7 @@ void __wrap_free(void *block)
         HOLDS(blocks < taken); \
     } while (0)
 
-/* Expects that a call takes no block. */
+/* Expects that a call allocates no block. */
 #define TAKES_NONE(call) \
     do { \
         long long taken = blocks; \
@@ -122,7 +122,7 @@ static void close_files_and_seats(void)
     GIVES_BACK(bim_file_close(&export));
     GIVES_BACK(bim_seat_close(&other));
     GIVES_BACK(bim_seat_close(&seat));
-    /* A closed handle has nothing more to give. */
+    /* A closed handle has nothing left to free. */
     long long taken = blocks;
     bim_file_close(&file);
     bim_seat_close(&seat);

@@ -1,5 +1,5 @@
-/* What the kernel's selftests of sync files expect of sw_sync, of ../../examples/c/libsync.c: allocation, fences of
- * one timeline and of several, merges, waits that threads end, and timelines that are destroyed. */
+/* The kernel's selftests of sync files, run on the sw_sync of ../../examples/c/libsync.c: allocation, fences of one
+ * timeline and of several, merges, waits that other threads end, and timelines that are destroyed. */
 #include "../../examples/c/libsync.h"
 
 #include "expect.h"
@@ -92,7 +92,7 @@ enum { STEPS = 500 };
 
 static int turns[2];
 
-/* Each of two threads advances its timeline, and waits for the other's fence of the same step. */
+/* Each of two threads advances its own timeline, and waits for the other's fence of the same step. */
 static void *take_turns(void *given)
 {
     int me = *(int *)given;
@@ -125,7 +125,7 @@ static void threads(void)
         sw_sync_timeline_destroy(turns[i]);
 }
 
-/* More timelines, one after another, than a desk has. */
+/* More timelines in sequence than a desk can hold at once. */
 static void many_timelines(void)
 {
     for (int i = 0; i < 1000; i++) {

@@ -1,8 +1,8 @@
-/* Refuses each allocation of the library in turn. The call that it is refused to answers BIM_MEMORY, or BIM_ENOMEM if it
- * is of a device, changes nothing, and succeeds when it is made again; so whichever is refused, the calls' end is the
- * same.
+/* Refuses each allocation of the library in turn. The call whose allocation fails must return BIM_MEMORY, or BIM_ENOMEM
+ * for a device, change nothing, and succeed when it is repeated. So the calls end in the same state, whichever
+ * allocation fails.
  *
- * It is linked with --wrap=malloc and --wrap=realloc.
+ * Link with --wrap=malloc and --wrap=realloc.
  */
 #include <bimphlai.h>
 
@@ -13,16 +13,16 @@
 #include <stdlib.h>
 #include <string.h>
 
-/* What out-parameters hold where a refusal has to leave them. */
+/* The initial value of out-parameters that a refused call must not change. */
 enum { KEPT = 77 };
 
 /* How many objects a device has here. */
 enum { OBJECTS = 16 };
 
-/* Of `refused`: each allocation is. */
+/* A value of `refused` that fails each allocation. */
 #define EVERY SIZE_MAX
 
-/* Which allocation is refused, how many there were, and whether they count now. */
+/* The index of the allocation that fails, the number of allocations so far, and whether they are counted now. */
 static size_t refused, allocations;
 static bool counting;
 
@@ -44,7 +44,7 @@ void *__wrap_realloc(void *block, size_t size)
     return is_refused() ? NULL : __real_realloc(block, size);
 }
 
-/* What was found, as text. */
+/* The state of the service, as text. */
 struct text {
     char bytes[8192];
     size_t length;
@@ -85,7 +85,7 @@ static void write_buffer(struct text *text, bim_desk *desk, const char *buffer)
         write_text(text, "%" PRId32 " %s %" PRIu64 "\n", rows[i].usage, rows[i].timeline, rows[i].point);
 }
 
-/* What the calls share: handles, and out-parameters. */
+/* Handles and out-parameters that the calls share. */
 static struct {
     bim_desk desk;
     bim_device device;
@@ -123,7 +123,7 @@ static void write_object(struct text *text, bim_device *device, uint64_t object)
                    rows[i].status);
 }
 
-/* All that can be asked of the service. */
+/* Writes all that the service can be asked. */
 static void write_service(struct text *text)
 {
     static const char *const timelines[] = { "a", "b" };
@@ -156,13 +156,13 @@ static void write_service(struct text *text)
 static struct text before, after;
 static size_t allocations_before, refusals_met;
 
-/* What a call answers without memory. */
+/* What a call returns for want of memory. */
 static int no_memory = BIM_MEMORY;
 
-/* Whether the call may go on without memory: an increment does if that was for a watch to move on to its next point. The
- * watch then stays where it is, and the next increment asks it. */
+/* Whether the call may succeed though the allocation failed: an increment does if the allocation was for moving a watch
+ * to its next point. The watch then stays, and the next increment checks it. */
 static bool may_go_on;
-static size_t stays; /* how often that was so */
+static size_t stays; /* how often that happened */
 
 static void begin_call(void)
 {
@@ -175,9 +175,9 @@ static void begin_call(void)
     counting = true;
 }
 
-/* Whether the call is to be made again: memory was refused to it. It must have changed nothing. A list that was refused a
- * block as large as it likes to grow to asks for just what it needs, and then the call goes on. Every other cause of
- * refusal comes before the want of memory. */
+/* Returns whether the call has to be repeated because its allocation failed. Then it must have changed nothing. A list
+ * whose growth with slack fails asks for just the bytes that it needs, and then the call succeeds. Every other cause of
+ * refusal is returned before the lack of memory. */
 static bool is_to_call_again(int came, int wanted, const char *call, int line)
 {
     bool was_refused = allocations_before < refused && refused <= allocations;
@@ -205,14 +205,14 @@ static bool is_to_call_again(int came, int wanted, const char *call, int line)
         begin_call(); \
     while (is_to_call_again((call), (wanted), #call, __LINE__))
 
-/* The same of a line, whose refusal has a text too. */
+/* MEMORY for bim_line, whose refusal has a text too. */
 #define LINE(line, text) \
     do { \
         CALL(bim_line(&it.desk, line, strlen(line), it.answer, sizeof it.answer, &it.length), BIM_OK); \
         HOLDS(strcmp(it.answer, text) == 0 && it.length == strlen(text)); \
     } while (0)
 
-/* Each command of a desk. */
+/* Makes each call of a desk. */
 static void run_desk(void)
 {
     CALL(bim_desk_open(&it.desk), BIM_OK);
@@ -244,7 +244,7 @@ static void run_desk(void)
     CALL(bim_report(&it.desk, &it.timeline, 1, &it.made, 1, &it.buffer, 1, &it.counts), BIM_OK);
 }
 
-/* Lines, of which some make something, and others have rows. */
+/* Runs lines: some create objects, others have rows. */
 static void run_lines(void)
 {
     LINE("timeline c", "ok 3\n");
@@ -255,14 +255,14 @@ static void run_lines(void)
     LINE("inc c 2", "ok 2\n");
 }
 
-/* A call of a device that makes an object, and its number. */
+/* Makes a call of a device that creates an object, and stores its number. */
 #define MAKES(call, object) \
     do { \
         CALL(call, 0); \
         EXPECT(it.number, object); \
     } while (0)
 
-/* Each call of a device. Timelines 1 and 2 have files 3 and 4. */
+/* Makes each call of a device. Timelines 1 and 2 have files 3 and 4. */
 static void run_device(void)
 {
     no_memory = BIM_ENOMEM;
@@ -317,7 +317,7 @@ static void run_words(void)
     CALL(bim_seat_shut(&it.seat, &it.number), BIM_OK);
 }
 
-/* What takes no memory, and the end. */
+/* Makes the calls that don't allocate, and closes everything. */
 static void finish(struct text *text)
 {
     uint64_t cookies[2];
@@ -355,7 +355,7 @@ static void run(struct text *text, size_t which)
     finish(text);
 }
 
-/* Without memory for the queue of cookies, a watch is refused with what the desk refuses it for, before BIM_MEMORY. */
+/* If the queue of cookies can't grow, a watch is refused for the desk's own reasons first, and then with BIM_MEMORY. */
 static void watch_without_memory(void)
 {
     bim_desk desk = BIM_DESK_INIT;
@@ -385,8 +385,8 @@ static void watch_without_memory(void)
     bim_desk_close(&desk);
 }
 
-/* Without memory for the files that wait to be taken, a call of a device is refused with what else it is refused for,
- * before BIM_ENOMEM. What takes no memory goes on. */
+/* If the list of woken files can't grow, a call of a device fails for its other reasons first, and then with
+ * BIM_ENOMEM. Calls that don't allocate still succeed. */
 static void device_without_memory(void)
 {
     bim_device device = BIM_DEVICE_INIT;

@@ -1,4 +1,4 @@
-/* Eight threads with a seat each drive, merge, poll, put, export and set flags beside each other, and end with the settled
+/* Eight threads with a seat each concurrently drive, merge, poll, put, export and set flags, and then check the final
  * values.
  *
  * usage: threads MILLISECONDS
@@ -12,13 +12,13 @@
 
 enum { THREADS = 8, FLAGS = 4096 };
 
-/* What one thread does, and what it has found. */
+/* The work of one thread, and its results. */
 struct worker {
     bim_seat seat;
     uint32_t context;
     double end;
-    uint64_t value;      /* of its timeline, as it has added it up */
-    uint64_t won;        /* flags that it was the first to set */
+    uint64_t value;      /* its timeline's value, as the thread added it up */
+    uint64_t won;        /* number of flags that it was the first to set */
     const char *wrong;
 };
 
@@ -38,7 +38,8 @@ static double now(void)
         } \
     } while (0)
 
-/* Merges the next step of its own timeline with that of another: its own is pending until it is made. */
+/* Merges the next step of this thread's timeline with the next step of another: this thread's is pending until it makes
+ * it. */
 static int merge(struct worker *worker, uint32_t other, uint64_t point)
 {
     bim_file theirs = BIM_FILE_INIT, own = BIM_FILE_INIT, copy = BIM_FILE_INIT, both = BIM_FILE_INIT;
@@ -58,7 +59,8 @@ static int merge(struct worker *worker, uint32_t other, uint64_t point)
     return 1;
 }
 
-/* Puts the next step of its own timeline into the buffer that all share: an export then has it, whatever the others do. */
+/* Puts the next step of this thread's timeline into the shared buffer: an export must then have it, whatever other
+ * threads do. */
 static int put(struct worker *worker)
 {
     bim_file file = BIM_FILE_INIT;
@@ -72,7 +74,7 @@ static int put(struct worker *worker)
     return 1;
 }
 
-/* One round: merges of what is to come, and then the timeline goes a step. */
+/* Makes one round: merges of coming steps, and then the timeline advances by one step. */
 static int step(struct worker *worker)
 {
     uint32_t other = worker->context % THREADS + 1;
@@ -103,8 +105,8 @@ static void *work(void *given)
     return NULL;
 }
 
-/* Each timeline is where its thread left it, each flag was won once, nothing that was put is pending, and a file of the next
- * step of all timelines is signalled when the last is made. */
+/* Expects that each timeline has the value that its thread left, each flag was won once, nothing that was put is
+ * pending, and a file of the next step of all timelines is signalled when the last step is made. */
 static void settle(struct worker *workers)
 {
     bim_file all = BIM_FILE_INIT, next = BIM_FILE_INIT, merged = BIM_FILE_INIT;

@@ -1,5 +1,5 @@
-/* The calls whose names end with a NUL pass on each argument as it comes, and each name with its length. Their exports have
- * stand-ins here, which keep what they are given. */
+/* The calls with NUL-terminated names must pass on each argument unchanged, and each name with its length. Stand-ins
+ * for their exports record the arguments. */
 #include "expect.h"
 
 #include <bimphlai.h>
@@ -35,7 +35,7 @@ static void keep_name(const char *name, size_t length)
     keep(length);
 }
 
-/* A stand-in: what it is called, its parameters, and what it keeps of them. */
+/* Defines a stand-in: its name, its parameters, and what it records of them. */
 #define STAND_IN(name, parameters, keeps) \
     int name parameters \
     { \
@@ -84,7 +84,7 @@ STAND_IN(bim_device_info_n, (bim_device *handle, uint64_t file, bim_device_file_
                              size_t room),
          keep(file); keep(PLACE(info)); keep(PLACE(rows)); keep(room))
 
-/* A value that is kept where a pointer stands for no rows: any, but not NULL. */
+/* Recorded for a pointer to no rows, which may be any but NULL. */
 #define ANY UINT64_MAX
 
 static void compare(const char *file, int line, const char *call, const char *name, const uint64_t *wanted, size_t length)
@@ -186,7 +186,7 @@ static void devices(bim_device *device)
     PASSES(bim_device_info, (device, GREATEST, &info, NULL, 0), PLACE(device), GREATEST, PLACE(&info), ANY, 0);
 }
 
-/* The names of refusals are compared with the crate's; what is no refusal has none. */
+/* All names of refusals are compared with the crate's elsewhere. An unknown number has the name "?". */
 static void texts(void)
 {
     HOLDS(strcmp(bim_refusal_name(BIM_OK), "Ok") == 0);
