@@ -1,5 +1,5 @@
-/* Ten million calls of each kind, and what one takes, beside getppid: a system call, the least that the kernel's way
- * costs. */
+/* Times ten million calls of each kind, beside getppid, a system call, which is the least cost of a call into the
+ * kernel. */
 #include <bimphlai.h>
 #include <inttypes.h>
 #include <stdio.h>
@@ -57,7 +57,7 @@ static double seconds(void)
     return (double)now.tv_sec + (double)now.tv_nsec / 1e9;
 }
 
-/* The lesser of what a try took and the best so far, in nanoseconds a call. */
+/* Returns the lesser of the best time so far and an attempt's, in nanoseconds a call. */
 static double better(double best, int attempt, double took)
 {
     double each = took * 1e9 / CALLS;
@@ -65,7 +65,7 @@ static double better(double best, int attempt, double took)
     return attempt == 0 || each < best ? each : best;
 }
 
-/* The best of some tries, in nanoseconds. */
+/* Returns the best of some attempts, in nanoseconds. */
 static double cost(void (*call)(void))
 {
     double best = 0;
@@ -79,8 +79,8 @@ static double cost(void (*call)(void))
     return best;
 }
 
-/* The same of merges of two files of one point each, of two timelines, into some names one after another, and of the
- * closes that make these free again. */
+/* Times merges of two files with one point each, on two timelines, into a sequence of names, and the closes that free
+ * these names again. Stores the best of some attempts. */
 static void merge_costs(double *merges, double *closes)
 {
     char names[NAMES][8];

@@ -1,11 +1,11 @@
-/* What the calls of a device take while ten, a thousand and a hundred thousand files wait, and the memory of each
+/* Times the calls of a device while ten, a thousand and a hundred thousand files wait, and measures the memory of each
  * object. `bench/device` runs it.
  *
- * usage: device times                 a row for each call and number of files: name, files, nanoseconds and goal
- *        device counted NAME FILES    makes a few such calls within `measured`, and prints how many
- *        device memory                resident bytes of each object, and what a million timelines in turn leave
+ * usage: device times                 prints a row for each call and number of files: name, files, nanoseconds, goal
+ *        device counted NAME FILES    makes a few calls NAME within `measured`, and prints how many
+ *        device memory                prints the bytes of each object, and of a million timelines made one by one
  *
- * A row's columns have tabs between them.
+ * Columns of a row are separated by tabs.
  */
 #include <bimphlai.h>
 #include <inttypes.h>
@@ -38,7 +38,7 @@ static void check(int refusal, const char *call)
 }
 #define CHECK(call) check(call, #call)
 
-/* ---- What is timed ---- */
+/* ---- Timed calls ---- */
 
 static void inc(void)
 {
@@ -86,7 +86,7 @@ static void is_signalled(void)
     CHECK(bim_device_is_signalled(&device, one, &signalled));
 }
 
-/* ---- What is not timed: files that so many increments wake, and their release. `value` is that after these. ---- */
+/* ---- Untimed: the files that `calls` increments wake, and their release. `value` is the value after them. ---- */
 
 static void follow(int calls)
 {
@@ -117,8 +117,8 @@ static void release(int files)
 
 /* ---- Rows ---- */
 
-/* A call, how many there are in a round, and how many rounds; and what is done before each round, so that a call wakes so
- * many files. */
+/* A call, the number of calls in a round, and the number of rounds; and what is done before each round, so that a call
+ * wakes this number of files. */
 static const struct row {
     const char *name;
     void (*call)(void);
@@ -151,7 +151,7 @@ __attribute__((noinline)) static void measured(void (*call)(void), int calls)
         call();
 }
 
-/* What so many rounds of a row take, in seconds. */
+/* Returns the seconds that `rounds` rounds of a row take. */
 static double time_of(const struct row *row, int calls, int rounds)
 {
     double took = 0;
@@ -168,7 +168,7 @@ static double time_of(const struct row *row, int calls, int rounds)
     return took;
 }
 
-/* Opens a device in which so many files wait. */
+/* Opens a device in which `files` files wait. */
 static void open_device(int files)
 {
     uint64_t file;
@@ -222,7 +222,7 @@ static int write_counted(const char *name, int files)
 
 /* ---- Memory ---- */
 
-/* The resident bytes of the process. */
+/* Returns the process's resident bytes. */
 static long long resident(void)
 {
     FILE *file = fopen("/proc/self/statm", "r");
@@ -270,7 +270,7 @@ static void make_buffer(void)
     CHECK(bim_device_import(&device, number, one, BIM_SYNC_WRITE));
 }
 
-/* Makes objects in a process of their own, which prints what each of them takes. */
+/* Makes objects in a process of their own, which prints the bytes of each. */
 static void write_memory(const char *name, void (*make)(void), int count)
 {
     fflush(stdout);

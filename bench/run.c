@@ -1,8 +1,8 @@
-/* usage: run                 what each call takes, in nanoseconds: the least of some tries
- *        run CALL COUNT      that call COUNT times, for strace
+/* usage: run                 prints the time of each call in nanoseconds: the least of some tries
+ *        run CALL COUNT      makes the call COUNT times, for strace
  *
- * The calls of sw_sync and sync files, beside getppid, the least of a system call, and a pipe with two closes, which is what a file
- * costs at least. */
+ * The calls of sw_sync and sync files, beside getppid, the least cost of a system call, and a pipe with two closes, the
+ * least cost of a file. */
 #include "../tests/run/kernel.h"
 #include <sys/syscall.h>
 
@@ -15,7 +15,7 @@ static void get_parent(void)
     getppid();
 }
 
-/* By system calls, which the tool doesn't see. */
+/* Uses bare system calls, which the library doesn't see. */
 static void bare_pipe(void)
 {
     int ends[2];

@@ -1,10 +1,10 @@
-/* A library to preload: a program's reads and writes go piece by piece, and fail.
+/* A library to preload: it splits a program's reads and writes into pieces, and makes them fail.
  *
- * PIECES_READ and PIECES_WRITTEN are the most bytes of a read and of a write, where they are set. Once as many bytes were read
- * as PIECES_READABLE says, a read fails, and once as many were written to the file of number PIECES_FILE as PIECES_ROOM says, a
- * write there does: where PIECES_HALTS is set it takes none, and where PIECES_RECOVERS is, those after it are well again. Where
- * PIECES_UNSYNCED is set, each fsync fails. The file COUNTS holds a struct counts, of reads and of writes to the file of that
- * number, and of their bytes. A program that does not end within SECONDS is ended by SIGALRM.
+ * PIECES_READ and PIECES_WRITTEN, if set, limit the bytes of a read and of a write. After PIECES_READABLE bytes were
+ * read, a read fails. After PIECES_ROOM bytes were written to descriptor PIECES_FILE, a write there fails: if
+ * PIECES_HALTS is set it writes 0 bytes, and if PIECES_RECOVERS is set, later writes succeed again. If PIECES_UNSYNCED
+ * is set, each fsync fails. The file COUNTS holds a struct counts: of reads, of writes to that descriptor, and of their
+ * bytes. SIGALRM ends a program that runs longer than SECONDS.
  */
 #define _GNU_SOURCE
 #include <errno.h>
@@ -24,7 +24,7 @@ static size_t readable, room, most_read, most_written;
 static int limited;
 static bool halts, recovers, unsynced;
 
-/* The number that a variable has, or the greatest. */
+/* Returns the number in a variable, or the greatest number. */
 static size_t number_of(const char *name)
 {
     const char *text = getenv(name);

@@ -1,9 +1,9 @@
 /* A library to preload: it refuses a program memory and threads.
  *
- * Each malloc, calloc, realloc, posix_memalign, aligned_alloc, mmap and pthread_create of the program is a growth, and they are
- * numbered from 1; where REFUSE_READING is 1, from the first read on. Those from REFUSE_FIRST to REFUSE_LAST are refused. The
- * file COUNTS holds a struct counts: how many growths there were, how many of them were refused, and how many threads were
- * started and have ended. A program that does not end within SECONDS is ended by SIGALRM.
+ * Each malloc, calloc, realloc, posix_memalign, aligned_alloc, mmap and pthread_create of the program is a growth.
+ * Growths are numbered from 1, or from the first read on if REFUSE_READING is 1. Growths REFUSE_FIRST to REFUSE_LAST
+ * are refused. The file COUNTS holds a struct counts: the number of growths, of refused ones, and of threads that were
+ * started and have ended. SIGALRM ends a program that runs longer than SECONDS.
  */
 #define _GNU_SOURCE
 #include <dlfcn.h>
@@ -59,7 +59,7 @@ ssize_t read(int file, void *bytes, size_t size)
     return syscall(SYS_read, file, bytes, size);
 }
 
-/* Counts a growth, and says whether it is refused. Growths of the loader, before the program, are not counted. */
+/* Counts a growth, and returns whether it is refused. The loader's growths, before the program, aren't counted. */
 static bool is_refused(void)
 {
     if (!counting)

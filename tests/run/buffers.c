@@ -87,7 +87,7 @@ static int since(__u64 begun)
     return (int)((now() - begun) / 1000000);
 }
 
-/* A buffer that is open as the flags say. */
+/* Makes a buffer, opened with `flags`. */
 static int buffer_of(__u32 flags)
 {
     struct dma_heap_allocation_data data = { .len = 2 * PAGE, .fd_flags = flags | O_CLOEXEC };
@@ -108,7 +108,8 @@ static int fails_to_map(size_t length, int protection, int flags, int fd, off_t 
     return 0;
 }
 
-/* What can't be mapped: past the end, more than a buffer is open for, and private copies of several pages. */
+/* Mappings that fail: past the end, with more access than the buffer is open for, and private copies of several
+ * pages. */
 static void wrong_maps(void)
 {
     int b = buffer_of(O_RDWR), written = buffer_of(O_WRONLY), fixed = buffer_of(O_RDONLY);
@@ -143,7 +144,7 @@ static void wrong_maps(void)
     close(fixed);
 }
 
-/* A process that has no number left can do all that needs none on a kernel. */
+/* A process without free descriptors can make all calls that need none in Linux. */
 static void without_numbers(void)
 {
     int t = timeline(), f = fence(t, 1), b = buffer(PAGE), last = dup(0);
@@ -232,7 +233,7 @@ static void names(void)
     close(b);
 }
 
-/* Readers that come after a writer wait for the writer alone. */
+/* Readers after a writer wait only for the writer. */
 static void readers_of_written(void)
 {
     int t = timeline(), writer = fence(t, 1), reader = fence(t, 2), b = buffer(PAGE);
@@ -242,7 +243,7 @@ static void readers_of_written(void)
     EXPECT(ready(b, POLLIN | POLLOUT, 0), 0);
     inc(t, 1);
     EXPECT(ready(b, POLLIN | POLLOUT, 0), POLLIN);
-    /* A later writer holds off readers again. */
+    /* A later writer makes readers wait again. */
     int later = fence(t, 3);
     EXPECT(import(b, later, DMA_BUF_SYNC_RW), 0);
     EXPECT(ready(b, POLLIN | POLLOUT, 0), 0);
@@ -255,7 +256,7 @@ static void readers_of_written(void)
         close(files[i]);
 }
 
-/* A writer's fence holds off all, and a reader's only writers. */
+/* A writer's fence makes all accesses wait, and a reader's fence only writers. */
 static void usages(void)
 {
     int t = timeline(), writer = fence(t, 2), reader = fence(t, 1), b = buffer(PAGE);
@@ -279,7 +280,7 @@ static void usages(void)
     close(b);
 }
 
-/* Who wants to read gets the writers' fences, and who wants to write gets all. */
+/* An export for reading has the writers' fences, and an export for writing has all. */
 static void exports(void)
 {
     int t = timeline(), u = timeline(), v = timeline(), b = buffer(PAGE);
@@ -315,7 +316,7 @@ static void exports(void)
 }
 
 
-/* An access waits for what holds it off, and a poll of several is woken by any. */
+/* An access waits for its fences, and any of several fences wakes a poll. */
 static void waits(void)
 {
     int t = timeline(), b = buffer(PAGE), other = buffer(PAGE), pipes[2], reader = fence(t, 1), writer = fence(t, 2), never = fence(t, 9);
@@ -382,7 +383,7 @@ static void note(int signal)
 
 static volatile int was_interrupted;
 
-/* Sends a signal until it comes within the wait. */
+/* Sends signals until one arrives during the wait. */
 static void *interrupt_later(void *given)
 {
     while (!was_interrupted) {
@@ -412,7 +413,7 @@ static void interrupted(void)
 
 static volatile int was_accessed, goes_on;
 
-/* Sends signals, until one has ended the wait, or else some, before the fence signals. */
+/* Sends signals until one has ended the wait, or else a fixed number of them, before the fence signals. */
 static void *interrupt_access(void *given)
 {
     for (int left = 3; goes_on ? left > 0 : !was_accessed; left--) {
@@ -423,7 +424,7 @@ static void *interrupt_access(void *given)
     return NULL;
 }
 
-/* A signal ends a wait for an access with EINTR, unless its handler asked that it goes on. */
+/* A signal ends a wait for an access with EINTR, unless its handler was set with SA_RESTART. */
 static void interrupted_access(int flags)
 {
     struct sigaction action = { .sa_handler = note, .sa_flags = flags };

@@ -1,4 +1,5 @@
-/* An ioctl is no cancellation point: a cancelled thread finishes its call, and leaves neither a lock nor a descriptor behind. */
+/* An ioctl is no cancellation point: a cancelled thread finishes its call, and leaves neither a lock nor a descriptor
+ * behind. */
 #include "kernel.h"
 #include <pthread.h>
 #include <sys/syscall.h>
@@ -8,11 +9,11 @@ enum { THREADS = 60, MORE = 3 };
 struct worker {
     pthread_t thread;
     int line, buffer;
-    const struct sw_sync_create_fence_data *fixed; /* can't be written */
+    const struct sw_sync_create_fence_data *fixed; /* read-only memory */
     volatile int rounds, is_cancelled;
 };
 
-/* Calls none of which Linux has as a cancellation point. */
+/* Makes calls that aren't cancellation points in Linux. */
 static void *call(void *given)
 {
     struct worker *worker = given;
@@ -37,8 +38,8 @@ static void await_rounds(const struct worker *worker, int count)
     HOLDS(worker->rounds >= count);
 }
 
-/* Cancels a thread somewhere in its calls, and sees that it goes on until it asks whether it is cancelled, and that others can call
- * then. */
+/* Cancels a thread somewhere in its calls. Expects that it continues up to pthread_testcancel, and that other threads
+ * can call then. */
 static void cancel(struct worker *worker, int microseconds)
 {
     void *result = NULL;
@@ -74,7 +75,7 @@ int main(void)
     int files[] = { f, t, worker.buffer };
     for (int i = 0; i < 3; i++)
         close(files[i]);
-    /* Who asks about all sees what was closed by a system call. */
+    /* A report on everything notices closings by system calls. */
     close(open(SYNC_INFO, O_RDONLY));
     EXPECT(lowest(), before);
     return report("cancelled");

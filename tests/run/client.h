@@ -1,4 +1,4 @@
-/* What programs share that speak to the service themselves, past the preloaded library. */
+/* Shared by programs that speak to the service themselves, without the preloaded library. */
 #ifndef CLIENT_H
 #define CLIENT_H
 
@@ -7,7 +7,7 @@
 #include <sys/syscall.h>
 #include <sys/un.h>
 
-/* A connection to the service, or -1. */
+/* Returns a connection to the service, or -1. */
 static inline int connected(void)
 {
     struct sockaddr_un to = { .sun_family = AF_UNIX };
@@ -23,7 +23,7 @@ static inline int connected(void)
     return -1;
 }
 
-/* What the service knows a descriptor by. */
+/* Returns the number by which the service knows a descriptor. */
 static inline __u64 number_of(int fd)
 {
     struct stat status;

@@ -20,7 +20,7 @@ static int play(int rounds)
     return went_wrong || close(t);
 }
 
-/* Neither child nor parent is served by what the other asks. */
+/* Neither child nor parent gets the answer to a request of the other. */
 static void by_system_calls(void)
 {
     pid_t children[CHILDREN];
@@ -60,7 +60,7 @@ static void call_in_child(void)
     wrong += play(2);
 }
 
-/* Called before all constructors, so that its handlers are called last before a fork, and first after it. */
+/* Runs before all constructors, so that its handlers run last before a fork, and first after it. */
 static void begin_early(void)
 {
     pthread_atfork(call_before, call_before, call_in_child);
@@ -73,7 +73,7 @@ static void *wait_for_end(void *file)
     return (void *)(intptr_t)(ready(*(int *)file, POLLIN, -1) != POLLIN);
 }
 
-/* With a second thread, calls have a lock. */
+/* With a second thread, calls take a lock. */
 static void with_handlers(void)
 {
     int f;

@@ -50,7 +50,7 @@ static void with_copies(void)
     close(last);
 }
 
-/* Another descriptor takes the number of the last. */
+/* Another descriptor takes the number of the last descriptor. */
 static void taken_over(void)
 {
     int t = timeline(), u = timeline(), v = timeline(), f = fence(t, 1), g = fence(u, 1), h = fence(v, 1);
@@ -59,7 +59,8 @@ static void taken_over(void)
     HOLDS(is_cancelled(f));
     EXPECT(dup3(1, u, O_CLOEXEC), u);
     HOLDS(is_cancelled(g));
-    /* By another of ours, which has two then; and by itself, which closes nothing. */
+    /* Another of our descriptors takes the number, and then has two; a descriptor duplicated onto itself closes
+     * nothing. */
     int w = timeline(), k = fence(w, 1);
     EXPECT(dup2(v, v), v);
     EXPECT(is_signalled(h), 0);
@@ -74,7 +75,7 @@ static void taken_over(void)
         close(files[i]);
 }
 
-/* A close that failed, and one of something else, change nothing. */
+/* A close that fails, and a close of another file, change nothing. */
 static void in_vain(void)
 {
     int t = timeline(), f = fence(t, 1), other = dup(1);
@@ -91,7 +92,7 @@ static void in_vain(void)
     close(t);
 }
 
-/* Closings that no call of close shows: they are seen soon. */
+/* Closings without a call of close are noticed soon. */
 static void unseen(void)
 {
     int t = timeline(), f = fence(t, 1), u = timeline(), g = fence(u, 1);
@@ -109,7 +110,7 @@ static void unseen(void)
     close(g);
 }
 
-/* Many at once. */
+/* Closes many at once. */
 static void ranges(void)
 {
     int t = timeline(), u = timeline(), f = fence(t, 1), g = fence(u, 1);
@@ -131,7 +132,7 @@ static void ranges(void)
     close(g);
 }
 
-/* A program that closes all numbers, used or not, has nothing of its own left, and can go on. */
+/* A program that closes all numbers, used or not, has no descriptor left, and can continue. */
 static void all_numbers(void)
 {
     int first = lowest(), t = timeline(), f = fence(t, 1), kept = dup2(f, 1000);
@@ -148,7 +149,7 @@ static void all_numbers(void)
     close(t);
 }
 
-/* The same by the C library, which may have it: what was closed is cancelled before it returns. */
+/* Closes ranges through the C library, if it has the call: what was closed is cancelled before it returns. */
 static void ranges_by_library(void)
 {
     int (*close_numbers)(unsigned first, unsigned last, int flags);
@@ -182,7 +183,7 @@ static void ranges_by_library(void)
     close(v);
 }
 
-/* The descriptors of a process beside those of the program, as bits. */
+/* Stores, as bits, which descriptors a process has besides the program's own. */
 static int others_of(unsigned char *others, int count, int own)
 {
     DIR *folder = opendir("/proc/self/fd");
@@ -200,7 +201,7 @@ static int others_of(unsigned char *others, int count, int own)
     return found;
 }
 
-/* A program can neither close what it hasn't opened nor take its number. */
+/* A program can neither close a descriptor that it hasn't opened nor take its number. */
 static void others_numbers(void)
 {
     enum { NUMBERS = 1 << 17 };
@@ -221,7 +222,7 @@ static void others_numbers(void)
     close(t);
 }
 
-/* Whoever closes all that there is past the C library is served anew. */
+/* A program that closes all descriptors without the C library gets a new connection. */
 static void all_at_once(void)
 {
     int t = timeline(), f = fence(t, 1), most = f;
@@ -244,7 +245,7 @@ static void all_at_once(void)
         close(files[i]);
 }
 
-/* Files outlive what they are made of, and timelines outlive files. */
+/* Files outlive their source files, and timelines outlive files. */
 static void in_any_order(void)
 {
     int t = timeline(), a = fence(t, 1), b = fence(t, 2), both = merge("both", a, b), again = merge("again", both, both);
@@ -262,7 +263,7 @@ static void in_any_order(void)
     close(late);
     EXPECT(inc(t, 1), 0);
     close(t);
-    /* The number is used again, and knows nothing of what had it. */
+    /* The number is reused, and shows nothing of the former object. */
     int u = timeline(), f = fence(u, 1);
     EXPECT(is_signalled(f), 0);
     EXPECT(size(f), 1);

@@ -75,7 +75,8 @@ static void buffers(void)
         close(all[i]);
 }
 
-/* What isn't ours is the kernel's, with its errors, and errno is the call's only. */
+/* A call on other descriptors goes to the kernel, and fails with the kernel's errors; errno is set only by the call
+ * itself. */
 static void others(void)
 {
     int pipes[2], nowhere = open_directly("/dev/null", O_RDWR | O_CLOEXEC), t = timeline(), before = lowest();
@@ -93,7 +94,7 @@ static void others(void)
     errno = 77;
     EXPECT(advance(t, 0), 0);
     EXPECT(errno, 77);
-    /* By the C library. */
+    /* Through the C library. */
     FAILS(ioctl(pipes[0], SYNC_IOC_FILE_INFO, &info), ENOTTY);
     int again = open("/dev/null", O_RDWR | O_CLOEXEC);
     HOLDS(again >= 0);
@@ -111,7 +112,7 @@ static void handle(int signal)
     files();
 }
 
-/* A program may neither block nor take the signal by which its calls are caught. */
+/* A program can neither block nor handle the signal that catches its calls. */
 static void with_signals(void)
 {
     struct sigaction action = { .sa_handler = handle };
@@ -148,7 +149,7 @@ static void in_threads(void)
         pthread_join(threads[i], NULL);
 }
 
-/* A child, and the same program once more, which has the filter already. */
+/* Tries a child, and the same program executed again, which has the filter already. */
 static void in_children(void)
 {
     fflush(stdout);

@@ -7,7 +7,7 @@ enum { PAGE = 4096, MANY = 20 };
 
 static int lines[MANY];
 
-/* Where memory ends: a page that nobody may touch, after one that may be read, or written too. */
+/* Returns the end of a page with this protection; the page after it can't be accessed. */
 static char *edge(int protection)
 {
     char *pages = mmap(NULL, 2 * PAGE, PROT_READ | PROT_WRITE, MAP_PRIVATE | MAP_ANONYMOUS, -1, 0);
@@ -17,7 +17,7 @@ static char *edge(int protection)
     return pages + PAGE;
 }
 
-/* A copy that can be read only. */
+/* Makes a read-only copy. */
 static void *fixed(const void *from, size_t bytes)
 {
     char *end = edge(PROT_READ | PROT_WRITE);
@@ -77,7 +77,7 @@ static void bad_pointers_of_timelines(void)
     FAILS(ioctl(t, SW_SYNC_IOC_CREATE_FENCE, fixed(&create, sizeof create)), EFAULT);
     EXPECT(lowest(), before);
     EXPECT(is_signalled(f), 0);
-    /* As long as what is needed is there, it may end anywhere and begin at any address. */
+    /* Memory need only have the fields that are used: it may end right after them, and begin at any address. */
     memcpy(end - sizeof create, &create, sizeof create);
     EXPECT(ioctl(t, SW_SYNC_IOC_CREATE_FENCE, end - sizeof create), 0);
     memcpy(&create, end - sizeof create, sizeof create);
@@ -109,7 +109,7 @@ static void bad_pointers_of_files(void)
     info.num_fences = 0;
     FAILS(ioctl(f, SYNC_IOC_FILE_INFO, fixed(&info, sizeof info)), EFAULT);
     EXPECT(lowest(), before);
-    /* Structures that stand at odd addresses. */
+    /* Structures at odd addresses. */
     memcpy(end - sizeof join - 1, &join, sizeof join);
     EXPECT(ioctl(f, SYNC_IOC_MERGE, end - sizeof join - 1), 0);
     memcpy(&join, end - sizeof join - 1, sizeof join);
@@ -166,7 +166,7 @@ static void bad_reports(void)
     info.pad = 1;
     FAILS(ioctl(f, SYNC_IOC_FILE_INFO, &info), EINVAL);
     info.pad = 0;
-    /* Without rows it counts them; with too many it leaves the others. */
+    /* Without rows the call counts them; with room for too many it leaves the rest unchanged. */
     EXPECT(ioctl(f, SYNC_IOC_FILE_INFO, &info), 0);
     EXPECT(info.num_fences, 2);
     EXPECT(rows[0].obj_name[0], 7);
@@ -182,7 +182,7 @@ static void bad_reports(void)
     close(u);
 }
 
-/* Nobody reads or writes a sync file or a timeline; and whoever tries leaves it as it was. */
+/* A sync file or a timeline can be neither read nor written, and a try changes nothing. */
 static void reads(void)
 {
     int t = timeline(), f = fence(t, 1), pipes[2], count;
@@ -213,7 +213,7 @@ static void reads(void)
     close(t);
 }
 
-/* Opens what a descriptor is, by its path. */
+/* Opens a descriptor's own path. */
 static int open_again(const char *folder, int fd)
 {
     char path[64];
@@ -222,7 +222,7 @@ static int open_again(const char *folder, int fd)
     return open(path, O_RDWR | O_CLOEXEC);
 }
 
-/* A timeline that is opened by its descriptor's path is a new one, and a file can't be opened so. */
+/* Opening a timeline's path makes a new timeline, and a file's path can't be opened. */
 static void opened_again(void)
 {
     static const char *const folders[] = { "/proc/self/fd", "/proc/thread-self/fd", "/dev/fd" };
@@ -246,7 +246,7 @@ static void opened_again(void)
 
 ssize_t __read_chk(int file, void *bytes, size_t length, size_t room);
 
-/* The same by what fortified programs call. */
+/* Makes the failing calls through the entry points of programs built with _FORTIFY_SOURCE. */
 static void fortified(void)
 {
     int t = timeline(), f = fence(t, 0);
@@ -259,13 +259,13 @@ static void fortified(void)
     close(t);
 }
 
-/* Pointers to nothing are refused by the kernel's own calls too. */
+/* The kernel's own calls refuse bad pointers too. */
 static void bad_pointers_of_waits(void)
 {
     int t = timeline(), f = fence(t, 0);
     char *end = edge(PROT_READ | PROT_WRITE);
 
-    /* The C library itself reads limits. */
+    /* The C library itself reads the limits. */
     FAILS(select(f + 1, (fd_set *)end, NULL, NULL, NULL), EFAULT);
     FAILS(pselect(f + 1, (fd_set *)end, NULL, NULL, NULL, NULL), EFAULT);
     FAILS(poll((struct pollfd *)end, 1, -1), EFAULT);
@@ -292,7 +292,7 @@ static void flags(void)
     close(t);
 }
 
-/* A file of so many fences that their rows don't fit into an answer. */
+/* Makes a file with so many fences that their rows don't fit into an answer. */
 static int of_many(int count)
 {
     int all = -1;
@@ -307,7 +307,7 @@ static int of_many(int count)
     return all;
 }
 
-/* With as many descriptors as it may have, a process gets none, and with one less just one. */
+/* At its limit of descriptors a process gets none; one below it, the process gets exactly one. */
 static void too_many(void)
 {
     int t = timeline(), f = fence(t, 1), many = of_many(MANY), last = dup(0);
@@ -321,7 +321,7 @@ static void too_many(void)
     FAILS(fence(t, 1), EMFILE);
     FAILS(merge("", f, f), EMFILE);
     FAILS(open(HEAP, O_RDWR), EMFILE);
-    /* Before it looks at what it was passed. */
+    /* EMFILE comes before the argument is read. */
     FAILS(ioctl(t, SW_SYNC_IOC_CREATE_FENCE, NULL), EMFILE);
     FAILS(ioctl(f, SYNC_IOC_MERGE, NULL), EMFILE);
     FAILS(merge("", f, -1), EMFILE);

@@ -7,12 +7,12 @@
 
 static int is_local;
 
-/* What a program has: a timeline, a file that is pending, a buffer with that file in it, and an end of a pipe. */
+/* What a program has: a timeline, a pending file, a buffer with that file in it, and an end of a pipe. */
 struct had {
     int t, f, b, pipe;
 };
 
-/* What the kernel says, without any library. */
+/* Polls by a bare system call, without any library. */
 static int says(int fd, short events, int milliseconds)
 {
     struct timespec limit = { milliseconds / 1000, milliseconds % 1000 * 1000000L };
@@ -42,7 +42,7 @@ static void look(struct had had)
     EXPECT(says(had.b, POLLIN, SOON), POLLIN);
 }
 
-/* Starts the program anew, with what it has. */
+/* Executes this program again, and passes it the descriptors. */
 static void become(struct had had)
 {
     int numbers[] = { had.t, had.f, had.b, had.pipe };
@@ -56,7 +56,7 @@ static void become(struct had had)
     _exit(99);
 }
 
-/* The new image. If it has a pipe, its parent made all, and the pipe shows the end of that. */
+/* Runs in the new image. If it has a pipe, its parent made the objects, and the pipe reports the end of the parent. */
 static int after_exec(char **words)
 {
     struct had had = { atoi(words[0]), atoi(words[1]), atoi(words[2]), atoi(words[3]) };
@@ -71,7 +71,7 @@ static int after_exec(char **words)
     _exit(1);
 }
 
-/* A process makes all, and becomes a new image. */
+/* One process makes the objects, and executes a new image. */
 static void try_exec(void)
 {
     pid_t child = fork();
@@ -81,7 +81,7 @@ static void try_exec(void)
     EXPECT(end_of(child), 0);
 }
 
-/* A process makes all, begins another with it, and ends. */
+/* One process makes the objects, starts another with them, and ends. */
 static int try_parent(void)
 {
     int alive[2];
@@ -100,7 +100,7 @@ static int try_parent(void)
     return 0;
 }
 
-/* Orphans come to this process. */
+/* Orphans become children of this process. */
 static int all_end_well(void)
 {
     int status, wrong = 0;

@@ -8,7 +8,7 @@ enum { PROCESSES = 1500, THREADS = 2 };
 static int line, shared;
 static volatile int begun;
 
-/* An increment, or an access to a buffer. Returns whether it failed. */
+/* Makes an increment, or an access to a buffer. Returns whether it failed. */
 static int call(void)
 {
     return shared >= 0 ? access_buffer(shared, DMA_BUF_SYNC_START | DMA_BUF_SYNC_RW) : inc(line, 1);

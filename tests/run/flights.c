@@ -1,10 +1,10 @@
-/* A user with too many descriptors in flight, in messages that no process has received, gets no more by messages: the call
- * fails, and the process continues. Run it as an ordinary user with a limit of 64 descriptors. */
+/* A user with too many descriptors in flight, in messages that no process has received, gets no more by messages: the
+ * call fails, and the process continues. Run it as an ordinary user with a limit of 64 descriptors. */
 #include "kernel.h"
 
 enum { MANY = 80, SOME = 20 };
 
-/* Leaves many on the way. Returns the ends of the pair, in which these are. */
+/* Sends many descriptors that aren't received. Returns the pair of sockets that hold them. */
 static void send_many(int pair[2])
 {
     HOLDS(socketpair(AF_UNIX, SOCK_DGRAM | SOCK_CLOEXEC, 0, pair) == 0);

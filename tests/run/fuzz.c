@@ -17,18 +17,18 @@ static unsigned pick(unsigned below)
     return (unsigned)(state >> 33) % below;
 }
 
-/* What messages are about, and the descriptors that go with them. */
+/* Objects named in messages, and descriptors sent along. */
 static int timelines[2], files[2], buffers[2], others[2];
 
 static __u64 some_number(void)
 {
     int *all[] = { timelines, files, buffers, others };
 
-    /* A random one is so great that no other process has it. */
+    /* A random number is so great that no other process has it. */
     return pick(8) == 0 ? (__u64)pick(1u << 31) << 32 : number_of(all[pick(4)][pick(2)]);
 }
 
-/* A request that a client could send. */
+/* Returns a request that a client could send. */
 static struct bim_request good(void)
 {
     struct bim_request request = { .op = pick(BIM_OPS + 2), .value = pick(40), .flags = pick(5), .size = pick(9000) };
@@ -41,7 +41,7 @@ static struct bim_request good(void)
     return request;
 }
 
-/* A message, of which this returns the length. */
+/* Builds a message. Returns its length. */
 static size_t message(unsigned char bytes[MOST_BYTES])
 {
     struct bim_request request = good();
@@ -52,7 +52,7 @@ static size_t message(unsigned char bytes[MOST_BYTES])
         bytes[i] = (unsigned char)pick(256);
     if (kind == 0)
         return pick(MOST_BYTES + 1);
-    /* An altered byte, of all but what names the objects. */
+    /* Alters a byte outside the fields that name the objects. */
     if (kind < 4)
         for (unsigned left = 1 + pick(4); left > 0; left--) {
             size_t at = pick(sizeof request);
@@ -71,7 +71,7 @@ static size_t message(unsigned char bytes[MOST_BYTES])
     return length;
 }
 
-/* Sends a message, with some descriptors; returns whether it went. */
+/* Sends a message with some descriptors. Returns whether it was sent. */
 static int post(int client)
 {
     union {
@@ -94,7 +94,7 @@ static int post(int client)
     return sendmsg(client, &header, MSG_NOSIGNAL | MSG_DONTWAIT) >= 0 || errno == EAGAIN;
 }
 
-/* Takes what has been answered, and closes what came with it; returns whether the connection is there. */
+/* Takes all answers, and closes the descriptors that came with them. Returns whether the connection is open. */
 static int drain(int client)
 {
     union {
@@ -119,14 +119,14 @@ static int drain(int client)
     }
 }
 
-/* What run/channel.h shares with a process. */
+/* The memory that run/channel.h shares with a process. */
 struct channel {
     volatile uint32_t turn;
     struct bim_request request;
     struct bim_answer answer;
 };
 
-/* Asks for a descriptor, and returns it, or -1. */
+/* Asks for a descriptor. Returns it, or -1. */
 static int given(int client, uint32_t op)
 {
     struct bim_request request = { .op = op };
@@ -149,7 +149,7 @@ static int given(int client, uint32_t op)
     return fd;
 }
 
-/* Writes into a channel what no client writes, also while it is served. */
+/* Writes into a channel what no client writes, also while the service reads it. */
 static void play(struct channel *channel, int doorbell, int times)
 {
     unsigned char bytes[MOST_BYTES];
@@ -168,7 +168,7 @@ static void play(struct channel *channel, int doorbell, int times)
     }
 }
 
-/* Clients with a channel each, whose memory they can't take away. */
+/* Runs clients with a channel each. They can't shrink its memory. */
 static void play_in_channels(int times)
 {
     for (int i = 0; i < CHANNELS; i++) {
@@ -186,7 +186,7 @@ static void play_in_channels(int times)
     }
 }
 
-/* Is served until it is told that the messages are over, and counts what went wrong. */
+/* Uses the service until the pipe says that the messages are over. Returns the number of errors. */
 static int served(int told)
 {
     int wrong = 0, rounds = 0;
@@ -204,7 +204,7 @@ static int served(int told)
     return wrong != 0 || rounds == 0;
 }
 
-/* Clients that send and never read, and then go. */
+/* Runs clients that send, never read, and leave. */
 static void be_lazy(void)
 {
     int clients[LAZY];

@@ -23,7 +23,7 @@ static volatile int is_over;
 static __thread struct worker *self;
 static int (*install)(int number, const struct sigaction *action, struct sigaction *before) = sigaction;
 
-/* A pending fence, which its timeline's increment signals. Returns how much went wrong. */
+/* Makes a pending fence, and signals it by incrementing its timeline. Returns the number of errors. */
 static int play(int line, __u32 point)
 {
     int f = fence(line, point), both = merge("both", f, f), wrong = 0;
@@ -96,7 +96,7 @@ static void calling(void)
     EXPECT(lowest(), before);
 }
 
-/* Sends a signal to a thread, some times, once it has taken the one before. */
+/* Sends signals to a thread, each after the last was delivered. */
 struct signaller {
     pthread_t thread, to;
     int number, times;
@@ -125,7 +125,7 @@ static void begin_signals(int number, int times)
 static pid_t children[FORKS];
 static volatile int is_child;
 
-/* The child goes on where its parent was interrupted. */
+/* The child continues where its parent was interrupted. */
 static void fork_once(int signal)
 {
     pid_t child = fork();
@@ -169,7 +169,7 @@ static void jump(int signal)
     siglongjmp(away, 1);
 }
 
-/* A call that was never returned from leaves nothing behind: this thread and another call as ever. */
+/* A call that never returned leaves nothing behind: this thread and another thread can call as before. */
 static void jumping(void)
 {
     struct worker *other = &workers[0];
@@ -194,7 +194,7 @@ static void jumping(void)
     close(line);
 }
 
-/* What is preloaded comes before the C library, but isn't found in it. */
+/* Looks up sigaction in the C library itself, so that the preloaded library doesn't see its calls. */
 static void look_past_preloaded(void)
 {
     void *library = dlopen("libc.so.6", RTLD_LAZY | RTLD_NOLOAD), *found = library ? dlsym(library, "sigaction") : NULL;

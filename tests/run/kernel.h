@@ -1,5 +1,5 @@
-/* What the programs here share: the kernel's interface to timelines, sync files and dma-bufs, and nothing else of
- * Bimphlai. The calls of sw_sync are in no header of the kernel's, so that whoever uses them declares them. */
+/* Shared by the programs here: the kernel's interface to timelines, sync files and dma-bufs, and nothing else of
+ * Bimphlai. No kernel header has the calls of sw_sync, so each program that uses them declares them. */
 #ifndef KERNEL_H
 #define KERNEL_H
 
@@ -76,7 +76,7 @@ static inline int merge(const char *name, int a, int b)
     return ioctl(a, SYNC_IOC_MERGE, &data) < 0 ? -1 : data.fence;
 }
 
-/* What the kernel reports of a file, and its rows. */
+/* The kernel's information about a file, and its rows. */
 struct report {
     struct sync_file_info file;
     struct sync_fence_info rows[ROWS];
@@ -90,7 +90,7 @@ static inline int ask(int file, struct report *report)
     return ioctl(file, SYNC_IOC_FILE_INFO, &report->file);
 }
 
-/* The status of a file, or 99 if it has none. */
+/* Returns the status of a file, or 99 if it has none. */
 static inline int status(int file)
 {
     struct report report;
@@ -98,7 +98,7 @@ static inline int status(int file)
     return ask(file, &report) < 0 ? 99 : report.file.status;
 }
 
-/* How many fences of a file have a status. */
+/* Returns how many fences of a file have a status. */
 static inline int count_with(int file, int wanted)
 {
     struct report report;
@@ -118,7 +118,7 @@ static inline int size(int file)
     return ask(file, &report) < 0 ? -1 : (int)report.file.num_fences;
 }
 
-/* What poll reports of a descriptor within some milliseconds, 0 if nothing. */
+/* Returns what poll reports for a descriptor within `milliseconds`, or 0. */
 static inline int ready(int fd, short events, int milliseconds)
 {
     struct pollfd polled = { .fd = fd, .events = events };
@@ -129,7 +129,7 @@ static inline int ready(int fd, short events, int milliseconds)
     return count < 0 ? -errno : count == 0 ? 0 : polled.revents;
 }
 
-/* Whether a file has signalled, as a poll sees it: POLLIN, and nothing else. */
+/* Returns whether a poll reports that a file has signalled: POLLIN, and nothing else. */
 static inline int is_signalled(int file)
 {
     return ready(file, POLLIN, 0) == POLLIN;
@@ -143,7 +143,8 @@ static inline __u64 now(void)
     return (__u64)time.tv_sec * 1000000000u + (__u64)time.tv_nsec;
 }
 
-/* Ends the process after some seconds, by a signal. What runs it slowly says by how much in SLOWNESS. */
+/* Ends the process by a signal after some seconds, multiplied by the environment variable SLOWNESS for slow
+ * environments. */
 static inline void give_up_after(unsigned seconds)
 {
     const char *slowness = getenv("SLOWNESS");
@@ -156,7 +157,7 @@ static inline void pause_for(int milliseconds)
     poll(NULL, 0, milliseconds);
 }
 
-/* The lowest free descriptor, which is higher after one was left open. */
+/* Returns the lowest free descriptor. It is higher after a descriptor was left open. */
 static inline int lowest(void)
 {
     int fd = dup(0);
@@ -197,7 +198,7 @@ static inline int access_buffer(int buffer, __u64 flags)
     return ioctl(buffer, DMA_BUF_IOCTL_SYNC, &data);
 }
 
-/* Lets the process have as many descriptors as it may. */
+/* Raises the process's limit on descriptors to its maximum. Returns it. */
 static inline rlim_t most_descriptors(void)
 {
     struct rlimit limit;
@@ -208,7 +209,7 @@ static inline rlim_t most_descriptors(void)
     return limit.rlim_cur;
 }
 
-/* Hands a descriptor to whoever has the other end of a socket; returns 0 or -1. */
+/* Sends a descriptor to the other end of a socket. Returns 0 or -1. */
 static inline int hand_over(int socket, int fd)
 {
     union {
@@ -222,7 +223,7 @@ static inline int hand_over(int socket, int fd)
     return sendmsg(socket, &message, MSG_NOSIGNAL | MSG_DONTWAIT) == 1 ? 0 : -1;
 }
 
-/* Takes a descriptor from a socket, or returns -1. */
+/* Receives a descriptor from a socket. Returns it, or -1. */
 static inline int take_over(int socket, int flags)
 {
     union {
@@ -243,7 +244,7 @@ static inline int take_over(int socket, int flags)
     return fd;
 }
 
-/* The status of a child once it has ended, as a shell has it. */
+/* Returns the exit status of a child once it has ended, as a shell does. */
 static inline int end_of(pid_t child)
 {
     int how;

@@ -17,14 +17,14 @@
 #include <sys/select.h>
 #include <sys/syscall.h>
 
-/* Seconds: how long those go on that nobody ends, and in what time they are to be ended. */
+/* In seconds: how long processes run that are never killed, and within what time the others must have ended. */
 enum { LONGEST = 30, IN_TIME = 15, LONGEST_UNSEEN = 3 };
 enum { FEW = 64 };
 
 static unsigned longest = LONGEST;
 static int is_full, is_blind, is_deaf, is_closed, is_nested, is_early;
 
-/* What the processes that wait say goes through this pipe, which ends with the last of them. */
+/* The pipe for what the waiting processes report. It ends with the last of them. */
 static int tells;
 
 static int tell(const char *what)
@@ -32,7 +32,7 @@ static int tell(const char *what)
     return write(tells, what, strlen(what)) < 0;
 }
 
-/* As libsync's sync_wait: what is no error is success. */
+/* Waits as libsync's sync_wait: whatever isn't an error is success. */
 static int waits_by_poll(int f)
 {
     struct pollfd polled = { .fd = f, .events = POLLIN };
@@ -87,7 +87,7 @@ static int waits_for_buffer(int f)
     return ready(b, POLLIN, -1) & (POLLIN | POLLHUP) ? tell("buffer ") : 0;
 }
 
-/* A system call, which no library sees. */
+/* Waits by a system call, which no library sees. */
 static int waits_directly(int f)
 {
     struct pollfd polled = { .fd = f, .events = POLLIN };
@@ -100,7 +100,7 @@ static int (*const ways[])(int) = {
 };
 enum { WAYS = sizeof ways / sizeof *ways };
 
-/* A child that waits; if asked, in a session of its own and without its parent. */
+/* Starts a child that waits; with `apart`, in a session of its own and without its parent. */
 static void begin(int f, int way, int apart)
 {
     if (fork())
@@ -116,7 +116,8 @@ static void begin(int f, int way, int apart)
     _exit(0);
 }
 
-/* Those who wait are known by their name and their environment, in which there is this variable with the number of this process. */
+/* Waiting processes are recognised by their name, and by this variable in their environment, set to this process's
+ * number. */
 #define MARK "KILLED_BY"
 
 static void set_mark(pid_t process)
@@ -142,7 +143,7 @@ static int has_mark(pid_t process)
     return found > 0 && memmem(text, (size_t)found, wanted, (size_t)length + 1) != NULL;
 }
 
-/* How many of those who wait go on. */
+/* Returns how many waiting processes are still running. */
 static int left(void)
 {
     DIR *folder = opendir("/proc");
@@ -159,7 +160,7 @@ static int left(void)
     return count;
 }
 
-/* The program: begins all, says so, and goes on unless it is to leave, once its input has ended. */
+/* The program: starts all waiting processes, reports that, and, unless it is to leave, runs until its input ends. */
 static int program(int leaves)
 {
     int t = timeline(), f = fence(t, 1), u = timeline();
@@ -186,13 +187,13 @@ static int program(int leaves)
     }
 }
 
-/* The processes of the tool, 0 once they are killed; and the tool's status, as a shell has it. */
+/* The processes of the tool, 0 once they are killed; and the tool's exit status, as in a shell. */
 static struct {
     pid_t tool, server, guard;
     int status;
 } run;
 
-/* Finds a child with a name, but for one of them; 0 if there is none. */
+/* Finds a child by its name, other than `other`. Returns 0 if there is none. */
 static pid_t child_of(pid_t parent, const char *name, pid_t other)
 {
     pid_t found[MOST];
@@ -204,7 +205,7 @@ static pid_t child_of(pid_t parent, const char *name, pid_t other)
     return 0;
 }
 
-/* Waits for the guard that the tool or the server starts in place of one that was killed. */
+/* Waits for the guard with which the tool or the server replaces a killed one. */
 static void await_guard(pid_t killed)
 {
     for (int left = SOON / 10; !run.guard && left > 0; left--) {
@@ -236,7 +237,7 @@ static void kill_in(const char *order)
         }
 }
 
-/* A pipe that is full, or has no reader. */
+/* Makes a pipe that is full, or has no reader. */
 static int useless_errors(void)
 {
     static const char bytes[4096];
@@ -273,7 +274,7 @@ static void become_tool(char **argv, int input, int errors)
     _exit(127);
 }
 
-/* Reads what the processes say until one says that all have begun, or the last has ended. */
+/* Reads the reports of the processes until one says that all have started, or the last has ended. */
 static void hear(int file, char *text, size_t room, int until_begun)
 {
     size_t length = 0;
@@ -328,11 +329,11 @@ static void take_words(char **argv)
     is_closed = has_word(argv, "closed");
     is_nested = has_word(argv, "nested");
     is_early = has_word(argv, "early");
-    /* Whoever can't be found waits for good. */
+    /* A process that can't be found blocks forever. */
     longest = is_blind ? LONGEST_UNSEEN : LONGEST;
 }
 
-/* What the tool said, if anybody was to read it, and how it ended. */
+/* Checks what the tool printed, if its standard error could be read, and how it ended. */
 static void look_at_end(const char *order, int errors)
 {
     static char said[4096];

@@ -1,5 +1,6 @@
-/* Once no process holds the other end of a file or a buffer, its waits report a hang-up, which libsync takes for a signal: no
- * call of a program that is served may return then. A pipe with the mode of a file whose service is gone takes the place of one. */
+/* Once no process holds the other end of a file or a buffer, its waits report a hang-up, which libsync takes for a
+ * signal: no call of a served program may return then. A pipe with a file's mode represents a file whose service is
+ * gone. */
 #include "kernel.h"
 #include <pthread.h>
 #include <sys/epoll.h>
@@ -109,14 +110,14 @@ static int by_access(int fd)
     return access_buffer(fd, DMA_BUF_SYNC_START | DMA_BUF_SYNC_READ) == 0;
 }
 
-/* How a child ends that calls. */
+/* Returns the exit status of a child that makes a call. */
 static int end_after(int (*call)(int fd), int fd)
 {
     pid_t child = fork();
 
     if (child == 0) {
         alarm(10);
-        /* It says why it ends, which isn't wrong here. */
+        /* The child prints why it ends, which is expected here. */
         dup2(open("/dev/null", O_WRONLY), STDERR_FILENO);
         _exit(call(fd) > 0 ? RETURNED : 0);
     }
@@ -142,7 +143,7 @@ static void lost(void)
         syscall(SYS_close, files[i]);
 }
 
-/* What hangs up beside a file that is served is reported as ever. */
+/* A hang-up of another descriptor, beside a served file, is reported as usual. */
 static void beside(void)
 {
     int t = timeline(), f = fence(t, 1), own = lost_pipe(0), group = set_of(f);
@@ -167,7 +168,7 @@ static void *access_it(void *buffer)
     return (void *)(intptr_t)access_buffer(*(int *)buffer, DMA_BUF_SYNC_START | DMA_BUF_SYNC_READ);
 }
 
-/* Closes the other ends of what was opened from a number on, which with --local are this process's. */
+/* Closes the other ends of descriptors from a number on. With --local, these are in this process. */
 static void close_ends_of(int fd)
 {
     struct stat wanted, found;
@@ -180,7 +181,7 @@ static void close_ends_of(int fd)
             syscall(SYS_close, other);
 }
 
-/* A wait for a buffer ends by the end of a file. */
+/* A wait for a buffer ends when a file's other end closes. */
 static int waits_in_vain(int unused)
 {
     int t = timeline(), f = fence(t, 1), b = buffer(1), next;

@@ -36,7 +36,7 @@ static void timelines_in_turn(void)
     EXPECT(wrong, 0);
 }
 
-/* How much a new pipe of the program's own takes. */
+/* Returns the size of a new pipe of the program's own. */
 static int room_of_pipe(void)
 {
     int pair[2], room;
@@ -49,7 +49,7 @@ static int room_of_pipe(void)
     return room;
 }
 
-/* Half of the files of one timeline signal, one step at a time. */
+/* Signals half of the files of one timeline, step by step. */
 static void files_at_a_time(int count)
 {
     int t = timeline(), wrong = 0, room = room_of_pipe();
@@ -122,7 +122,7 @@ static void buffers(int count)
 
 int main(void)
 {
-    /* A file may take two descriptors. */
+    /* A file may need two descriptors. */
     int before = lowest(), room = ((int)most_descriptors() - SPARE) / 2;
 
     give_up_after(60);

@@ -18,8 +18,8 @@
 
 enum { MOST = 200, POINTS = 40, NONE = -1 };
 
-static long left = NONE; /* allocations until one is refused; NONE: none is */
-static int was_refused, failures, error; /* of the last request */
+static long left = NONE; /* allocations until one is refused; NONE: never */
+static int was_refused, failures, error; /* results of the last request */
 
 void *__real_malloc(size_t size);
 void *__real_calloc(size_t count, size_t size);
@@ -56,7 +56,7 @@ static void expect(const char *what, long run, long found, long wanted)
     failures++;
 }
 
-/* A server's host, to which nothing needs care. */
+/* A server's host, which needs no care around its calls. */
 static void nothing(void) {}
 
 static int same(int file)
@@ -87,7 +87,7 @@ static int given[MOST];
 static uint64_t inodes[MOST];
 static int count;
 
-/* The descriptor that answers a request, by its place; NONE if it was refused or none was given. */
+/* Makes a request. Returns the index of the descriptor in the answer; NONE if the request was refused or gave none. */
 static int ask(struct bim_request request, int passed)
 {
     struct bim_answer answer;
@@ -129,7 +129,7 @@ static void close_one(int object)
     ask((struct bim_request){ .op = BIM_OP_GONE, .a = inodes[object] }, -1);
 }
 
-/* A buffer of two parts of a memory file. */
+/* Makes a buffer of two parts of a memory file. */
 static void lend(void)
 {
     int file = memfd_create("memory", MFD_CLOEXEC | MFD_ALLOW_SEALING), buffer;
@@ -142,7 +142,7 @@ static void lend(void)
     close(file);
 }
 
-/* Expects that a poll of a buffer reports it, or doesn't. */
+/* Expects that a poll reports a buffer, or doesn't. */
 static void expect_ready(const char *what, int buffer, int is_ready)
 {
     struct pollfd polled = { .fd = buffer == NONE ? -1 : given[buffer], .events = POLLIN | POLLOUT };
@@ -151,7 +151,7 @@ static void expect_ready(const char *what, int buffer, int is_ready)
     expect(what, buffer, polled.revents, buffer != NONE && is_ready ? POLLIN | POLLOUT : 0);
 }
 
-/* One request of each kind. Returns a buffer that is ready at the end, or NONE. */
+/* Makes one request of each kind. Returns a buffer that is ready at the end, or NONE. */
 static int play(void)
 {
     int line = ask((struct bim_request){ .op = BIM_OP_TIMELINE, .name = "line", .task = "task" }, -1);
@@ -184,7 +184,7 @@ static int free_number(void)
     return file;
 }
 
-/* Plays with an allocation refused. Returns whether there was one to refuse. */
+/* Plays with the nth allocation refused. Returns whether there was an nth allocation. */
 static int run(long nth, const char *trace)
 {
     int before = free_number(), buffer;

@@ -3,7 +3,7 @@
 
 enum { PAGE = 4096, GUESSES = 300 };
 
-/* Sends bytes, with a descriptor unless it is -1; returns whether they went. */
+/* Sends bytes, with a descriptor unless it is -1. Returns whether they were sent. */
 static int post(int client, const void *bytes, size_t length, int passed)
 {
     union {
@@ -21,7 +21,7 @@ static int post(int client, const void *bytes, size_t length, int passed)
     return sendmsg(client, &header, MSG_NOSIGNAL) == (ssize_t)length;
 }
 
-/* The error of the service's answer, or -1 if it has parted with this client. */
+/* Returns the errno in the service's answer, or -1 if the service has closed the connection. */
 static int answer_of(int client)
 {
     struct bim_answer answer;
@@ -31,7 +31,7 @@ static int answer_of(int client)
     return recv(client, &answer, sizeof answer, 0) <= 0 ? -1 : answer.error;
 }
 
-/* A message that is shorter or longer than a request is answered by nothing, whatever was sent before it. */
+/* A message shorter or longer than a request gets no answer, whatever was sent before. */
 static void lengths(void)
 {
     static const size_t LENGTHS[] = { 1, 2, 4, offsetof(struct bim_request, a), sizeof(struct bim_request) - 1,
@@ -58,7 +58,7 @@ static void lengths(void)
     close(t);
 }
 
-/* Who asks that a fence is put into one buffer, and passes another, takes no readiness from that one. */
+/* An import into one buffer that passes the descriptor of another doesn't clear the other's readiness. */
 static void other_buffers(void)
 {
     int t = timeline(), f = fence(t, 1), one = buffer(PAGE), other = buffer(PAGE), client = connected();
@@ -80,7 +80,7 @@ static void other_buffers(void)
         close(files[i]);
 }
 
-/* How many of the numbers around one name something that can be incremented. */
+/* Returns how many numbers near `around` name a timeline that can be incremented. */
 static int guessed(int client, __u64 around)
 {
     struct bim_request request = { .op = BIM_OP_INC, .value = 1 };
@@ -94,7 +94,7 @@ static int guessed(int client, __u64 around)
     return found;
 }
 
-/* Guesses what names the objects of others, by those of its own. */
+/* Tries to guess the numbers of other processes' objects from its own. */
 static int guess(void)
 {
     int pipes[2], client = connected(), t = timeline();
@@ -105,7 +105,7 @@ static int guess(void)
     return guessed(client, found.st_ino) + guessed(client, number_of(t));
 }
 
-/* Who never had a descriptor of a timeline can't name it. */
+/* A process that never had a descriptor of a timeline can't name it. */
 static void strangers(void)
 {
     int t = timeline(), f = fence(t, 1);

@@ -15,7 +15,7 @@ int main(int argc, char **argv)
     setsid();
     give_up_after(20);
     close(told[1]);
-    /* The end of its parent. */
+    /* Waits for the end of its parent. */
     EXPECT(read(told[0], &byte, 1), 0);
     pause_for(200);
     int own = timeline(), more = fence(own, 1), both = merge("both", f, more);

@@ -40,7 +40,7 @@ static void give(const char *path)
     pause_for(2 * SOON);
 }
 
-/* Uses the service, and goes on as a program that knows nothing of it. */
+/* Uses the service, and continues without it. */
 static void use_and_part(const char *told)
 {
     int t = timeline();
@@ -57,7 +57,7 @@ static void say_and_wait(const char *told)
     _exit(1);
 }
 
-/* A process that has used the service and doesn't any more. */
+/* Starts a process that has used the service and has disconnected. */
 static pid_t begin_former_user(char words[2][WORD])
 {
     int told[2];
@@ -89,10 +89,10 @@ static void take(const char *path)
     for (int i = 0; i < 2; i++)
         EXPECT(recv(giver, words[i], WORD, MSG_WAITALL), WORD);
     pid_t child = begin_former_user(words);
-    /* The service sees that it has parted. */
+    /* The service notices that the process has disconnected. */
     pause_for(A_MOMENT);
     EXPECT(send(giver, "", 1, MSG_NOSIGNAL), 1);
-    /* The giver is ended. */
+    /* The giver has ended. */
     EXPECT(recv(giver, &byte, 1, 0) > 0, 0);
     EXPECT(ready(f, POLLIN, A_WHILE), 0);
     EXPECT(waitpid(child, &how, WNOHANG), 0);

@@ -6,10 +6,10 @@
 #include <pthread.h>
 #include <sched.h>
 
-/* How many of 100 increments may be overtaken, and how many more for each write to a pipe that is. */
+/* How many of 100 increments may be overtaken, and how many more for each overtaken write to a pipe. */
 enum { PERCENT = 100, ROUNDS = 200, ALLOWED = 1, TIMES = 4 };
 
-/* A round: the thread waits for `first`, and then does what makes `later` readable. */
+/* A round: the thread waits for `first`, and then makes `later` readable. */
 struct round {
     int timeline, first, later;
     int pipes[2][2];
@@ -53,7 +53,7 @@ static void *follow(void *given)
     return NULL;
 }
 
-/* Whether the thread overtakes this one. It is asleep, or only about to wait. */
+/* Returns whether the thread overtakes this one. The thread is asleep, or about to wait. */
 static int is_overtaken(struct round *round, int asleep)
 {
     pthread_t thread;

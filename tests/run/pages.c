@@ -1,4 +1,5 @@
-/* The page that a service shares with its processes: no process can write it, and each read is of one write. Link it with run/page.c. */
+/* The page that a service shares with its processes: no process can write it, and each read is of one write. Link it
+ * with run/page.c. */
 #define _GNU_SOURCE
 #include "../../run/page.h"
 #include "../c/expect.h"
@@ -15,7 +16,7 @@ enum { WRITES = 5000, MICROSECONDS = 50, LETTERS = 8, NUMBER = 77 };
 static struct bim_page *page;
 static volatile int written;
 
-/* What is put in the place of a file is all of one letter, in turn. */
+/* Returns an answer all of whose bytes are one letter. */
 static struct bim_answer letter(int which)
 {
     struct bim_answer answer = { .status = which };
@@ -43,7 +44,7 @@ static int is_whole(const struct bim_answer *answer)
            !memcmp(&answer->row[0], &wanted.row[0], sizeof wanted.row[0]);
 }
 
-/* A writer that comes at any moment of a read, as a timer does. */
+/* A write may interrupt a read at any moment, as here in a timer's handler. */
 static void torn(const struct bim_page *read)
 {
     struct sigaction action = { .sa_handler = write_letter };
@@ -63,7 +64,7 @@ static void torn(const struct bim_page *read)
     EXPECT(wrong, 0);
 }
 
-/* Another file takes the place of one; the one before isn't found any more. */
+/* A later file overwrites an earlier one, which isn't found any more. */
 static void replaced(const struct bim_page *read)
 {
     struct bim_answer answer = letter(3), came;
@@ -90,7 +91,7 @@ static void sealed(int memory, const struct bim_page *read)
     EXPECT(ftruncate(memory, 2 * sizeof *read), -1);
 }
 
-/* Where there is no memory for a page, nothing is left of it, not even its number. */
+/* Without memory for a page nothing is left of it, not even a descriptor. */
 static void refused(void)
 {
     struct rlimit before, none;

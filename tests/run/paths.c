@@ -36,7 +36,7 @@ static void is_there(const char *path)
         FAILS(access(path, W_OK), EACCES);
 }
 
-/* What programs call that were built with an older C library. */
+/* Tries the entry points of programs built with an older C library. */
 static void is_there_by_older_calls(const char *path)
 {
     int version = STAT_VERSION;
@@ -70,7 +70,7 @@ static void opens(const char *path, int flags)
     }
 }
 
-/* What a path can't be opened as, and descriptors that name what is there. */
+/* Flags with which a path can't be opened, and descriptors that only name it. */
 static void opens_otherwise(const char *path)
 {
     struct stat status;
@@ -94,7 +94,7 @@ static void opens_otherwise(const char *path)
     EXPECT(lowest(), before);
 }
 
-/* The text of all is read only. */
+/* The text of sync/info can only be read. */
 static void read_only(void)
 {
     int fd = open(SYNC_INFO, O_RDONLY);
@@ -108,7 +108,7 @@ static void read_only(void)
     close(fd);
 }
 
-/* A heap is a device that nobody reads, writes or maps. */
+/* A heap is a device that can't be read, written or mapped. */
 static void devices(const char *path)
 {
     int fd = open(path, O_RDWR);
@@ -124,7 +124,7 @@ static void devices(const char *path)
     close(fd);
 }
 
-/* What the link of a descriptor says, by each path that has it. */
+/* Expects a descriptor's link text by each path that has it. */
 static void links_to(int fd, const char *wanted)
 {
     static const char *const folders[] = { "/proc/self/fd", "/proc/thread-self/fd", "/dev/fd" };
@@ -163,7 +163,7 @@ static void links(void)
         close(files[i]);
 }
 
-/* A file that only has our mode is the program's own. */
+/* A file that has our mode but isn't ours is the program's own. */
 static void alike(void)
 {
     static const mode_t modes[] = { 01600, 01400, 01200 };
@@ -190,10 +190,10 @@ static void alike(void)
     rmdir(folder);
 }
 
-/* A path of NULL stands for the descriptor beside it, since Linux 6.11. */
+/* Since Linux 6.11, a path of NULL means the descriptor itself. */
 static void descriptors(void)
 {
-    /* The C library's declarations say that there is always a path. */
+    /* The C library declares the path as non-null. */
     int (*volatile statx_of)(int, const char *, int, unsigned, struct statx *) = statx;
     int (*volatile stat_of)(int, const char *, struct stat *, int) = fstatat;
     int (*volatile access_of)(int, const char *, int, int) = faccessat;
@@ -229,7 +229,7 @@ static void no_paths(void)
     FAILS(access(nowhere, F_OK), EFAULT);
 }
 
-/* A name that only begins or ends alike is another; other files are as ever. */
+/* A path with the same beginning or end is another path; other files behave as usual. */
 static void others(void)
 {
     struct stat status;

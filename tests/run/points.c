@@ -28,7 +28,7 @@ static void first_points(void)
     close(t);
 }
 
-/* A fence waits for its point across the wrap, and keeps its status for good. */
+/* A fence waits for its point across the wrap, and then keeps its status. */
 static void across_the_wrap(void)
 {
     int t = timeline();
@@ -55,7 +55,7 @@ static void across_the_wrap(void)
     close(t);
 }
 
-/* The longest step passes every point on its way, though the value ends one below where it began. */
+/* The longest step passes every point on its way, though the value ends one below its start. */
 static void longest_step(void)
 {
     int t = timeline();
@@ -73,7 +73,7 @@ static void longest_step(void)
     close(t);
 }
 
-/* Of two points of a timeline a merge keeps the later, across the wrap too. */
+/* A merge keeps the later of two points of a timeline, across the wrap too. */
 static void merges_across_the_wrap(void)
 {
     int t = timeline();
@@ -92,7 +92,7 @@ static void merges_across_the_wrap(void)
     close(t);
 }
 
-/* Many turns of the circle. */
+/* Wraps many times. */
 static void many_turns(void)
 {
     int t = timeline();

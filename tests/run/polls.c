@@ -21,7 +21,7 @@ static void *raise_later(void *given)
     return NULL;
 }
 
-/* Advances a timeline by 1 a little later, from another thread. */
+/* Starts a thread that increments a timeline by 1 a little later. */
 static struct raise *begin(struct raise *raise, int timeline)
 {
     raise->timeline = timeline;
@@ -34,13 +34,13 @@ static void end(struct raise *raise)
     pthread_join(raise->thread, NULL);
 }
 
-/* Milliseconds since a time. */
+/* Returns the milliseconds since a time. */
 static int since(__u64 begun)
 {
     return (int)((now() - begun) / 1000000);
 }
 
-/* A poll reports POLLIN where it is asked for, once the file has signalled, and nothing else ever. */
+/* A poll reports POLLIN, if asked for, once the file has signalled, and never anything else. */
 static void events_of_polls(void)
 {
     static const short asked[] = { 0, POLLIN, POLLOUT, POLLPRI, POLLIN | POLLOUT | POLLPRI, POLLERR | POLLHUP };
@@ -115,7 +115,7 @@ static void wakes(void)
         close(files[i]);
 }
 
-/* Adds a file to an epoll, and reports what is there at once. */
+/* Adds a file to an epoll set. Returns 0 or -1. */
 static int add(int group, int file, unsigned events)
 {
     struct epoll_event event = { .events = events, .data = { .fd = file } };
@@ -141,7 +141,7 @@ static void epolls(void)
     EXPECT(epoll_wait(group, events, 4, 0), 3);
     EXPECT(epoll_wait(group, events, 4, 0), 1);
     EXPECT(events[0].data.fd, level);
-    /* A file leaves the group with its last descriptor. */
+    /* A file leaves the set with its last descriptor. */
     close(level);
     EXPECT(epoll_wait(group, events, 4, 0), 0);
     close(edge);
@@ -150,7 +150,7 @@ static void epolls(void)
     close(t);
 }
 
-/* An epoll finds a file that its timeline's closing signals. */
+/* An epoll set reports a file that the closing of its timeline signals. */
 static void epoll_of_closed(void)
 {
     int t = timeline(), group = epoll_create1(EPOLL_CLOEXEC), f = fence(t, 1), late = fence(t, 2);
@@ -174,7 +174,7 @@ static void note(int signal)
 
 static volatile int was_interrupted;
 
-/* Sends a signal until it comes within the wait. */
+/* Sends signals until one arrives during the wait. */
 static void *interrupt_later(void *given)
 {
     while (!was_interrupted) {
@@ -184,7 +184,7 @@ static void *interrupt_later(void *given)
     return NULL;
 }
 
-/* A signal to the task ends a wait with EINTR. */
+/* A signal to the thread ends a wait with EINTR. */
 static void interrupted(void)
 {
     struct sigaction action = { .sa_handler = note };
@@ -204,7 +204,7 @@ static void interrupted(void)
     close(t);
 }
 
-/* A timeline has no poll of its own, so it is always readable, and an epoll doesn't take it. */
+/* A timeline has no poll operation, so it is always readable, and an epoll set refuses it. */
 static void timelines(void)
 {
     int t = timeline(), f = fence(t, 1), group = epoll_create1(EPOLL_CLOEXEC);
@@ -251,7 +251,7 @@ static void *signal_often(void *given)
     return NULL;
 }
 
-/* A signal's handler calls, while its thread may be in a call itself. */
+/* A signal handler calls while its thread may be in a call itself. */
 static void in_handlers(void)
 {
     struct sigaction action = { .sa_handler = raise_one, .sa_flags = SA_RESTART };

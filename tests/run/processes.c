@@ -6,7 +6,7 @@
 
 static const char *myself;
 
-/* Runs a function in a child, whose status is what the function returns. */
+/* Runs a function in a child, whose exit status is the function's result. */
 static pid_t child_of(int (*run)(int a, int b), int a, int b)
 {
     pid_t child = fork();
@@ -28,7 +28,7 @@ static int raise_twice(int t, int f)
     return is_signalled(f) || inc(t, 1) || is_signalled(f) || inc(t, 1) || !is_signalled(f);
 }
 
-/* A child uses what it inherits, and its parent sees it. */
+/* A child uses the objects that it inherits, and its parent sees the result. */
 static void inherited(void)
 {
     int t = timeline(), f = fence(t, 2), g = fence(t, 3);
@@ -47,7 +47,7 @@ static void inherited(void)
 
 static int told[2];
 
-/* Says when it has merged, and waits for both. */
+/* Merges, reports that, and waits for both. */
 static int wait_and_merge(int f, int g)
 {
     int both = merge("both", f, g);
@@ -71,7 +71,7 @@ static void waited_for(void)
         close(files[i]);
 }
 
-/* Ends once it is told to. */
+/* Ends when its parent says so. */
 static int hold(int t, int how)
 {
     char byte;
@@ -89,7 +89,7 @@ static int hold(int t, int how)
     return 0;
 }
 
-/* A timeline lives while any process has it, and goes with the last, however that ends. */
+/* A timeline exists while any process has it, and is closed with the last one, however that ends. */
 static void ends(void)
 {
     static const int ways[] = { 0, 1, 2, SIGKILL, SIGTERM };
@@ -119,7 +119,7 @@ static int open_and_hand_over(int socket, int killed)
     return 0;
 }
 
-/* What was sent lives in the socket, though its sender is gone; what was not sent goes with it. */
+/* A descriptor that was sent stays in the socket when its sender ends; one that wasn't sent is closed. */
 static void passed(void)
 {
     for (int killed = 0; killed < 2; killed++) {
@@ -132,7 +132,7 @@ static void passed(void)
         int more = fence(t, 2);
         EXPECT(inc(t, 1), 0);
         EXPECT(is_signalled(f), 1);
-        /* Sent, closed, and never taken: it goes with the socket. */
+        /* Sent, closed, and never received: it is closed with the socket. */
         EXPECT(hand_over(sockets[1], t), 0);
         close(t);
         pause_for(20);
@@ -146,7 +146,7 @@ static void passed(void)
     }
 }
 
-/* Becomes this program anew, which has two descriptors. */
+/* Executes this program again, with two descriptors. */
 static int become(int t, int f)
 {
     char first[12], second[12];
@@ -157,7 +157,7 @@ static int become(int t, int f)
     return 1;
 }
 
-/* What this program is asked after an exec. */
+/* Checks the two descriptors after an exec. */
 static int after_exec(int t, int f)
 {
     int mine = fence(t, 5), own = timeline(), other = fence(own, 1), pair = merge("pair", f, mine);
@@ -167,7 +167,7 @@ static int after_exec(int t, int f)
     return 0;
 }
 
-/* After an exec the descriptors without FD_CLOEXEC are there, and the others are closed. */
+/* An exec keeps descriptors without FD_CLOEXEC and closes the others. */
 static void executed(void)
 {
     int t = timeline(), hidden = open(SW_SYNC, O_RDWR | O_CLOEXEC), f = fence(t, 1), g = fence(hidden, 1), h = fence(t, 2);
@@ -189,7 +189,7 @@ static void executed(void)
 
 extern char **environ;
 
-/* The same by posix_spawn, which may vfork. */
+/* posix_spawn, which may use vfork, keeps and closes the same descriptors as exec. */
 static void spawned(void)
 {
     int t = timeline(), f = fence(t, 1);
@@ -209,7 +209,7 @@ static void spawned(void)
 
 static int grandchild(int t, int socket)
 {
-    /* Its parent, the middle one, is gone by then. */
+    /* Its parent, the process in the middle, has ended by then. */
     char byte;
 
     return read(socket, &byte, 1) != 1 || inc(t, 1);
@@ -221,7 +221,7 @@ static int middle(int t, int socket)
     return 0;
 }
 
-/* A process whose parent has ended is served as any other. */
+/* A process whose parent has ended is served like any other. */
 static void orphaned(void)
 {
     int t = timeline(), f = fence(t, 1), sockets[2];
@@ -248,7 +248,7 @@ static int use_buffer(int b, int f)
     return ready(b, POLLIN, 0) != 0;
 }
 
-/* A buffer's memory and fences are those of all processes that have it. */
+/* A buffer's memory and fences are shared by all processes that have it. */
 static void buffers(void)
 {
     int t = timeline(), f = fence(t, 1), b = buffer(4096);
@@ -312,7 +312,7 @@ static void among_threads(void)
     close(t);
 }
 
-/* A signal's handler that calls while the thread is in a call itself. */
+/* A signal handler calls while its thread is in a call itself. */
 static int handled_timeline;
 static volatile int handled;
 

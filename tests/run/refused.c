@@ -1,5 +1,5 @@
-/* System calls that a kernel may refuse to a program or to its service: copies from the caller's memory and close_range, which a
- * container's filter or an old kernel refuses, and memory for requests. Each has another way. */
+/* System calls that a kernel may refuse to a program or to its service: copies from the caller's memory and
+ * close_range, which a container's filter or an old kernel refuses, and memory for requests. Each has another way. */
 #include "service.h"
 #include <linux/filter.h>
 #include <linux/seccomp.h>
@@ -10,7 +10,7 @@ int close_range(unsigned first, unsigned last, int flags);
 
 enum { PAGE = 4096, MANY = 30 };
 
-/* Has the kernel refuse a system call to this process from now on. */
+/* Makes the kernel refuse a system call to this process from now on. */
 static void refuse(unsigned call, unsigned error)
 {
     struct sock_filter steps[] = {
@@ -25,7 +25,7 @@ static void refuse(unsigned call, unsigned error)
     EXPECT(prctl(PR_SET_SECCOMP, SECCOMP_MODE_FILTER, &filter), 0);
 }
 
-/* Has a child try something, whose descriptors, limits and filters are its own. */
+/* Runs a function in a child, which has descriptors, limits and filters of its own. */
 static void apart(void (*try)(void))
 {
     pid_t child;
@@ -41,7 +41,7 @@ static void apart(void (*try)(void))
     EXPECT(end_of(child), 0);
 }
 
-/* What callers pass that isn't on their stack. */
+/* Arguments that aren't on the caller's stack. */
 static struct {
     struct sw_sync_create_fence_data create;
     struct sync_merge_data merge;
@@ -113,7 +113,7 @@ static void copies(void)
     copies_of_buffers();
 }
 
-/* The service's own numbers aren't closed either way. */
+/* The service's own descriptors stay open either way. */
 static void ranges(void)
 {
     int t = timeline(), f = fence(t, 1), others[MANY];
@@ -142,7 +142,7 @@ static void plays(void)
     EXPECT(is_signalled(f), 1);
 }
 
-/* Without memory to share, a process asks by its connection. */
+/* Without shared memory, a process asks by its socket. */
 static void channels(void)
 {
     pid_t found[MOST];

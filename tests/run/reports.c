@@ -11,7 +11,7 @@ static int is_name(const char *came, const char *wanted)
     return 0;
 }
 
-/* Whether a name is of the kernel's form: a driver, a timeline with the number of its context, and a point. */
+/* Returns whether a name has the kernel's form: a driver, a timeline with the number of its context, and a point. */
 static int is_of_form(const char *came, const char *before, const char *after)
 {
     size_t length = strlen(before), digits = strspn(came + length, "0123456789");
@@ -22,7 +22,7 @@ static int is_of_form(const char *came, const char *before, const char *after)
     return 0;
 }
 
-/* A timeline is named after the task that opens it, and keeps the name. */
+/* A timeline is named after the task that opens it, and keeps that name. */
 static void names(void)
 {
     struct report report;
@@ -75,7 +75,7 @@ static void names_of_threads(void)
     close(t);
 }
 
-/* A merge has the name that it is given, cut at 31 bytes; without one it has that of its fences. */
+/* A merge has the given name, cut at 31 bytes; without a name, it has the name of its fences. */
 static void given_names(void)
 {
     struct report report;
@@ -89,7 +89,7 @@ static void given_names(void)
     EXPECT(ask(cut, &report), 0);
     all[NAME - 1] = 0;
     HOLDS(is_name(report.file.name, all));
-    /* The caller's name ends like that too, after the call. */
+    /* The caller's copy of the name is cut too, after the call. */
     struct sync_merge_data data = { .fd2 = b };
     memset(data.name, 'x', sizeof data.name);
     EXPECT(ioctl(a, SYNC_IOC_MERGE, &data), 0);
@@ -119,7 +119,7 @@ static int is_within(__u64 time, __u64 from, __u64 to)
     return from <= time && time <= to;
 }
 
-/* A fence has the time at which it signalled, on the clock of CLOCK_MONOTONIC, and none before. */
+/* A fence has the time at which it signalled, on CLOCK_MONOTONIC, and 0 before. */
 static void times(void)
 {
     struct report report;
@@ -151,7 +151,8 @@ static void times(void)
         close(files[i]);
 }
 
-/* A closed timeline leaves -ENOENT to what was pending; a merge's status is that of the first fence that isn't well. */
+/* Closing a timeline gives -ENOENT to its pending fences; a merge has the status of its first fence that is pending or
+ * has an error. */
 static void statuses(void)
 {
     struct report report;
@@ -176,7 +177,7 @@ static void statuses(void)
     EXPECT(report.rows[1].status, 0);
     EXPECT(report.file.status, 0);
     EXPECT(is_signalled(joined), 0);
-    /* Without rows it is the status of the whole, which is pending as long as one is. */
+    /* Without rows the status is the status of the whole file, which is pending while one fence is. */
     struct sync_file_info whole = { .num_fences = 0 };
     EXPECT(ioctl(joined, SYNC_IOC_FILE_INFO, &whole), 0);
     EXPECT(whole.status, 0);
@@ -192,7 +193,7 @@ static void statuses(void)
         close(files[i]);
 }
 
-/* As many rows as there are timelines, those opened first before the others. */
+/* A file has a row for each timeline, those opened first before the others. */
 static void many_rows(void)
 {
     struct report report;
@@ -226,7 +227,7 @@ static void many_rows(void)
     close(all);
 }
 
-/* What a file has, as a text. */
+/* Reads a file as text. */
 static void read_whole(const char *path, char *text, size_t room, int by_stream)
 {
     size_t length = 0;
@@ -273,7 +274,7 @@ static void text_of_all(void)
     HOLDS(!strstr(text, "listed"));
 }
 
-/* A closed timeline is listed while there is any fence of it, with those that it cancelled. */
+/* A closed timeline is listed while any of its fences exists, with the fences that it cancelled. */
 static void text_of_closed(void)
 {
     static char text[1 << 20];
@@ -296,7 +297,7 @@ static void text_of_closed(void)
         HOLDS(strstr(text, lines));
         close(i == 2 ? soon : late);
     }
-    /* The merged file holds the later of both, and the one that had signalled keeps its timeline. */
+    /* The merged file has the later fence of each timeline, and the signalled fence keeps its timeline listed. */
     read_whole(SYNC_INFO, text, sizeof text, 0);
     HOLDS(strstr(text, lines));
     close(joined);

@@ -1,11 +1,11 @@
-/* The ten tests of Linux's tools/testing/selftests/sync, written anew: the lifetimes of a timeline and of a fence, waits, merges, and
- * three tests under load. */
+/* The ten tests of Linux's tools/testing/selftests/sync, written anew: the lifetimes of a timeline and of a fence,
+ * waits, merges, and three tests under load. */
 #include "kernel.h"
 #include <pthread.h>
 
 enum { WAIT = 10000 };
 
-/* As a libsync waits: 1 when the file has signalled, 0 after the time, -1 with errno. */
+/* Waits as libsync does: 1 once the file has signalled, 0 after the time, -1 with errno. */
 static int wait_for(int file, int milliseconds)
 {
     struct pollfd polled = { .fd = file, .events = POLLIN };
@@ -18,7 +18,7 @@ static int wait_for(int file, int milliseconds)
     return count;
 }
 
-/* The same without a poll: it asks again and again. */
+/* Waits without a poll, by asking again and again. */
 static int ask_for(int file)
 {
     int active;
@@ -149,7 +149,7 @@ struct pair {
     volatile int *counter;
 };
 
-/* Two threads step along one timeline by turns: each waits for its own even or odd points. */
+/* Two threads advance one timeline in turns: each waits for its own even or odd points. */
 static void *step(void *given)
 {
     struct pair *pair = given;
@@ -183,13 +183,13 @@ static void two_threads_shared_timeline(void)
 static int producers[PRODUCERS], consumer, produced, wrong_producers;
 static pthread_mutex_t lock = PTHREAD_MUTEX_INITIALIZER;
 
-/* In the first half of the turns all ask again and again, and in the second they poll. */
+/* In the first half of the turns all threads ask in a loop; in the second half they poll. */
 static int wait_in_turn(int file, __u32 turn)
 {
     return turn < TURNS / 2 ? ask_for(file) : wait_for(file, WAIT);
 }
 
-/* Makes one thing a turn, once the consumer has come to the turn. */
+/* Produces one item a turn, once the consumer has reached the turn. */
 static void *produce(void *given)
 {
     int mine = producers[(intptr_t)given], wrong = 0;
@@ -208,7 +208,7 @@ static void *produce(void *given)
     return NULL;
 }
 
-/* A fence for the next thing of all producers. */
+/* Makes a fence for the next item of all producers. */
 static int all_of_turn(__u32 turn)
 {
     int all = fence(producers[0], turn + 1);
@@ -250,7 +250,8 @@ static void stress_consumer(void)
     close(consumer);
 }
 
-/* Merges fences at random points of many timelines into one: it has the latest of each, and signals with the last. */
+/* Merges fences at random points of many timelines into one: it has the latest point of each, and signals with the
+ * last. */
 static void stress_merge(void)
 {
     enum { COUNT = 32, MERGES = 2048 };

@@ -1,5 +1,5 @@
-/* What programs that ask about the tool itself share: its processes, and what these hold. The tool is the parent of the program that
- * it runs. */
+/* Shared by programs that examine the tool itself: its processes, and the descriptors that these hold. The tool is the
+ * parent of the program that it runs. */
 #ifndef SERVICE_H
 #define SERVICE_H
 
@@ -10,7 +10,7 @@
 
 enum { MOST = 16 };
 
-/* The parent of a process, or -1. */
+/* Returns the parent of a process, or -1. */
 static inline pid_t parent_of(pid_t process)
 {
     char path[64], line[512], *after;
@@ -26,7 +26,7 @@ static inline pid_t parent_of(pid_t process)
     return parent;
 }
 
-/* Stores the processes of the tool: itself first, and its children but for this one. */
+/* Stores the processes of the tool: itself first, and then its children except `program`. */
 static inline int service(pid_t tool, pid_t program, pid_t found[MOST])
 {
     DIR *folder = opendir("/proc");
@@ -44,7 +44,7 @@ static inline int service(pid_t tool, pid_t program, pid_t found[MOST])
     return count;
 }
 
-/* Whether a process has a name. */
+/* Returns whether a process has a name. */
 static inline int is_named(pid_t process, const char *name)
 {
     char path[64], found[32] = "";
@@ -59,7 +59,7 @@ static inline int is_named(pid_t process, const char *name)
     return strcmp(found, name) == 0;
 }
 
-/* How many descriptors these processes have. */
+/* Returns how many descriptors these processes have. */
 static inline int held(const pid_t *processes, int count)
 {
     int all = 0;
@@ -77,7 +77,7 @@ static inline int held(const pid_t *processes, int count)
     return all;
 }
 
-/* Expects that within some time these processes have no more descriptors than before. */
+/* Expects that soon these processes have no more descriptors than before. */
 static inline void expect_held(const pid_t *processes, int count, int before)
 {
     for (int left = SOON; held(processes, count) > before && left > 0; left--)

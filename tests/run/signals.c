@@ -1,5 +1,5 @@
-/* Signal handlers that are set by signal(2) and its like, each in a process of its own. A program that only makes, increments and
- * closes gets no SIGPIPE. */
+/* Signal handlers that are set by signal(2) and its relatives, each in a process of its own. A program that only makes,
+ * increments and closes gets no SIGPIPE. */
 #include "kernel.h"
 #include <pthread.h>
 #include <signal.h>
@@ -19,7 +19,7 @@ static pthread_t interrupted;
 static int line_of_handler;
 static volatile int taken, wrong;
 
-/* A pending fence, which its timeline's increment signals. Returns how much went wrong. */
+/* Makes a pending fence, and signals it by incrementing its timeline. Returns the number of errors. */
 static int play(int line, __u32 point)
 {
     int f = fence(line, point), bad = f < 0 || status(f) != 0;
@@ -28,7 +28,7 @@ static int play(int line, __u32 point)
     return bad + (close(f) != 0);
 }
 
-/* Some of these set a handler for one signal only. */
+/* Some of these set a handler for only one signal. */
 static void handle(int number)
 {
     int before = errno;
@@ -50,7 +50,7 @@ static void *send_signals(void *unused)
     return unused;
 }
 
-/* The program's first handler, whose calls are answered though another call was interrupted. */
+/* Sets the program's first handler by `by`. The handler's calls are answered while another call is interrupted. */
 static int interrupt(set_handler *by)
 {
     int line = timeline();
@@ -95,7 +95,7 @@ static int is_pending(void)
     return sigismember(&pending, SIGPIPE);
 }
 
-/* Signals a file that nobody has any more, since it was closed by a call that no library sees. */
+/* Signals a file that no process has any more, since it was closed by a call that no library sees. */
 static void signal_closed(int line, __u32 point)
 {
     int f = fence(line, point);
@@ -126,7 +126,7 @@ static void try_broken(void)
     sigprocmask(SIG_BLOCK, &pipe, &before);
     signal_closed(t, 3);
     EXPECT(is_pending(), 0);
-    /* The program's own one stays, and is the only one. */
+    /* The program's own SIGPIPE is still pending, and is the only one. */
     raise(SIGPIPE);
     signal_closed(t, 4);
     EXPECT(is_pending(), 1);

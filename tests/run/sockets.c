@@ -1,10 +1,11 @@
-/* Calls of pipes and sockets fail on a file or a buffer, as on a kernel: no process makes one ready, or takes its readiness away. */
+/* Calls of pipes and sockets fail on a file or a buffer, as in Linux: no process makes one ready, or takes its
+ * readiness away. */
 #include "kernel.h"
 #include <sys/sendfile.h>
 #include <sys/uio.h>
 #include <sys/un.h>
 
-/* As a wrong pointer is no reason to fail otherwise, none is needed. */
+/* A bad pointer makes no difference to the errors, so the calls get valid pointers. */
 static void no_socket(int fd)
 {
     char bytes[8] = { 0 };
@@ -36,7 +37,7 @@ static void no_socket(int fd)
     FAILS(accept4(fd, NULL, NULL, SOCK_CLOEXEC), ENOTSOCK);
 }
 
-/* Calls of sockets and pipes that take what is there, or put something there. */
+/* Calls of sockets and pipes that receive or send. */
 static void no_pipe(int fd, int sending)
 {
     static char bytes[4096];

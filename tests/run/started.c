@@ -9,14 +9,14 @@ enum { OTHER_USER = 65534 };
 
 static const char *tool, *self;
 
-/* Becomes the tool, which runs this program with two words. */
+/* Executes the tool, which runs this program with two words. */
 static void become_tool(const char *word, const char *more)
 {
     execl(tool, "bimphlai-run", self, "--in", word, more, (char *)NULL);
     _exit(99);
 }
 
-/* The tool has its child's end reported, and the program still ignores it. */
+/* The tool learns of its child's end, and the program still ignores SIGCHLD. */
 static void try_ignored(void)
 {
     pid_t child = fork();
@@ -38,7 +38,8 @@ static int ignored(void)
     return failures;
 }
 
-/* What outlives the tool has the service, though the tool was started without streams; its program has none either. */
+/* A process that outlives the tool keeps the service, though the tool was started without streams. The program has no
+ * streams either. */
 static void try_closed(void)
 {
     char result[16] = "";
@@ -81,7 +82,7 @@ static int closed(int results)
     return write(results, well ? "well" : "ill", 5) != 5;
 }
 
-/* Others' SIGTERM neither ends the server, nor hides from it that the program has ended. */
+/* SIGTERM from another process neither ends the server, nor makes it miss the end of the program. */
 static void try_server(void)
 {
     pid_t found[MOST], child = fork(), server = 0;
@@ -116,7 +117,7 @@ static int makes_for_a_while(void)
     return failures;
 }
 
-/* What others send to the tool goes to the program, and doesn't end the tool. */
+/* Signals that other processes send to the tool go to the program, and don't end the tool. */
 static const int SENT[] = { SIGALRM, SIGVTALRM, SIGPIPE, SIGIO, SIGUSR1, SIGTERM };
 enum { MOST_SENT = sizeof SENT / sizeof *SENT };
 
@@ -161,7 +162,7 @@ static int signals(int begun)
     return failures;
 }
 
-/* The socket isn't in a folder in which others may put theirs. */
+/* The socket isn't in a folder in which other users can put theirs. */
 static void try_folder(void)
 {
     char folder[] = "/tmp/started.XXXXXX";
@@ -188,7 +189,7 @@ static int elsewhere(const char *folder)
     return failures;
 }
 
-/* Another user serves: returns whether anybody asks. */
+/* Another user serves. Returns whether any process asks. */
 static int impostor(const char *path, int ready_to)
 {
     struct sockaddr_un at = { .sun_family = AF_UNIX };

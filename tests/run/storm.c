@@ -14,7 +14,7 @@ static int pick(int below)
     return (int)(seed >> 16) % below;
 }
 
-/* What a process has: some files and some timelines, -1 for none. */
+/* A process's objects: some files and some timelines, -1 for none. */
 struct hand {
     int files[KEPT], timelines[LINES], socket;
 };
@@ -26,7 +26,7 @@ static void replace(int *place, int fd)
     *place = fd;
 }
 
-/* One act; returns whether it went as it has to. */
+/* Makes one call. Returns whether it had the right result. */
 static int act(struct hand *hand)
 {
     int *file = &hand->files[pick(KEPT)], *other = &hand->files[pick(KEPT)], *line = &hand->timelines[pick(LINES)], came;
@@ -48,7 +48,7 @@ static int act(struct hand *hand)
         replace(file, came);
         return 1;
     case 5:
-        /* A full socket is no failure, nor is a timeline that others take. */
+        /* It is no failure if the socket is full, or if another process gets the timeline. */
         hand_over(hand->socket, pick(3) ? *file : *line);
         return 1;
     case 6:
@@ -68,7 +68,7 @@ static int act(struct hand *hand)
     }
 }
 
-/* Which processes of the storm go on until their parent kills them, and which kill themselves; the others end. */
+/* Which processes of the storm run until their parent kills them, and which kill themselves; the others exit. */
 static int is_endless(int number)
 {
     return number % 3 == 1;
@@ -97,7 +97,7 @@ static int live(int number, int socket)
     return wrong != 0;
 }
 
-/* Those that end by themselves have seen all go as it has to. */
+/* Children that exit normally must have succeeded. */
 static void end_all(const pid_t *children)
 {
     for (int i = 0; i < PROCESSES; i++)
@@ -130,7 +130,7 @@ int main(int argc, char **argv)
     close(sockets[0]);
     close(sockets[1]);
     expect_held(found, many, before);
-    /* And it goes on. */
+    /* The service still serves. */
     EXPECT(is_signalled(f), 0);
     EXPECT(inc(t, 1), 0);
     EXPECT(is_signalled(f), 1);

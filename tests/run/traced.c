@@ -44,7 +44,8 @@ int main(int argc, char **argv)
     EXPECT(pipe(told), 0);
     int low = timeline(), t = fcntl(low, F_DUPFD_CLOEXEC, 100);
     close(low);
-    /* The system closes by rising number: files go before their timeline when the process ends. */
+    /* The kernel closes descriptors in rising order, so files are closed before their timeline when the process
+     * ends. */
     int one = fence(t, 1), two = fence(t, 2), three = fence(t, 3);
     pid_t second = begin(see, one, told), third = begin(hang, three, told);
     pause_for(50);

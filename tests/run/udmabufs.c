@@ -13,7 +13,7 @@ enum { PAGE = 4096, PAGES = 4, MOST_ITEMS = 1024, MOST_BYTES = 64 << 20, FIRST_C
 
 static int device;
 
-/* A memory file of some pages, of which each begins with its number and a letter. */
+/* Makes a memory file, each page of which begins with its number and a letter. */
 static int memory(int pages, char letter, int seals)
 {
     int file = (int)syscall(SYS_memfd_create, "memory", MFD_ALLOW_SEALING | MFD_CLOEXEC);
@@ -109,7 +109,7 @@ static void refused_lists(void)
     close(bad);
 }
 
-/* The memory is the file's, in whatever process, and stays when the file is closed. */
+/* The buffer's memory is the file's, in every process, and stays when the file is closed. */
 static void memory_of_one(void)
 {
     int file = memory(PAGES, 'a', F_SEAL_SHRINK), b = create(file, PAGE, 2 * PAGE, UDMABUF_FLAGS_CLOEXEC);
@@ -185,7 +185,7 @@ static void longest_list(void)
     close(file);
 }
 
-/* As of a heap's buffer. */
+/* Fences behave as in a heap's buffer. */
 static void fences(void)
 {
     int file = memory(1, 'a', F_SEAL_SHRINK), b = create(file, 0, PAGE, UDMABUF_FLAGS_CLOEXEC);
@@ -217,7 +217,7 @@ static int byte_at(int b, int at)
     return byte;
 }
 
-/* A program that closes numbers which it hasn't opened takes no memory from a buffer. */
+/* A program that closes numbers which it hasn't opened doesn't take a buffer's memory away. */
 static void closed_numbers(void)
 {
     int file = memory(1, 'a', F_SEAL_SHRINK), b = create(file, 0, PAGE, UDMABUF_FLAGS_CLOEXEC);

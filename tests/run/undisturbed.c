@@ -9,7 +9,8 @@ enum { LATE = 500 };
 static const int SIGNALS[] = { SIGHUP, SIGINT, SIGQUIT, SIGUSR1, SIGUSR2, SIGPIPE, SIGALRM, SIGTERM, SIGCHLD, SIGURG,
                                SIGXCPU, SIGXFSZ, SIGVTALRM, SIGPROF, SIGIO, SIGPWR };
 
-/* Sends signals that end who doesn't block them to the tool's processes, but for the tool itself, which passes them on. */
+/* Sends signals that end a process unless it blocks them to the tool's processes, except the tool itself, which
+ * forwards them. */
 static void send_signals(void)
 {
     pid_t found[MOST];
