@@ -1,7 +1,7 @@
-"""What a run may leave in which growths were refused, as the program itself says it of a run without refusals.
+"""Checks runs in which growths were refused against runs of the same program without refusals.
 
-The run may end with the fault of memory, after a prefix of what is right. Else commands may be answered that memory was
-refused. Such a command has left nothing behind: all other answers are those of the script in which it is a note.
+The run may end with the fault of memory, after a prefix of the right result. Otherwise, commands may answer Memory. Such a
+command must leave nothing behind: all other answers are those of the script in which it is a note.
 """
 import re
 from dataclasses import replace
@@ -17,7 +17,7 @@ NEVER = {b"value", b"close", b"wait", b"test", b"trim", b"unwatch"}
 # Memory is refused to these only if they fire a watch.
 RISING = {b"inc", b"shut"}
 # end
-# A file is drawn before its name is looked up, so these ask for memory even if they are refused.
+# These commands build a file before they look up its name, so they ask for memory even if they are refused.
 DRAWING = {b"fence", b"merge", b"export"}
 
 
@@ -31,12 +31,12 @@ def number_of(line):
 
 
 def with_lines(text, more):
-    """Returns explanations or differences with some more, all by the numbers of their lines."""
+    """Adds explanations or differences to a text, in order of their lines."""
     return text_of(sorted(text.split(b"\n")[:-1] + more, key=number_of))
 
 
 class Words:
-    """A command line without a script: a run of it leaves what is right, or ends with the fault."""
+    """A command line without a script: a run prints what is right, or ends with the fault."""
 
     def __init__(self, program, words, reading=False):
         self.program = program
@@ -48,7 +48,7 @@ class Words:
         return self.program.refused(growths, self.reading, *self.words)
 
     def wrong(self, run, lasts):
-        """Returns what is wrong with a run, or an empty text. Memory may be refused to its end."""
+        """Returns what is wrong with a run, or an empty text. With `lasts`, memory is refused to its end."""
         if run.status < 0:
             return f"it ends by signal {-run.status}"
         if run.threads != run.threads_ended:
@@ -97,11 +97,11 @@ class Answers(Words):
         self.answers = dict(zip(script.commands, answers_of(program.plain("run", self.words[1]).output)))
 
     def refused(self, run):
-        """Returns the commands that are answered Memory."""
+        """Returns the commands that answer Memory."""
         return [number for number, answer in zip(self.script.commands, answers_of(run.output)) if answer == [MEMORY]]
 
     def right(self, refused):
-        """Returns what is right where these commands are answered Memory."""
+        """Returns the right result if these commands answer Memory."""
         if refused not in self.known:
             noted = self.program.file("noted", self.script.without(refused))
             run = self.program.plain(self.WORD, noted)
@@ -110,15 +110,15 @@ class Answers(Words):
         return self.known[refused]
 
     def adding(self, run, refused):
-        """Returns a run with these commands, which are answered Memory."""
+        """Returns a run with these commands, which answer Memory."""
         others = [number for number in self.script.commands if number not in refused]
         answers = dict(zip(others, answers_of(run.output))) | {number: [MEMORY] for number in refused}
         output = b"".join(text_of(answers[number]) for number in sorted(answers))
         return replace(run, output=output, status=1 if refused else run.status)
 
     def wrong_refusals(self, run, lasts, refused):
-        """Memory is refused to a command that would be accepted otherwise, and where it is refused to the end, that is said,
-        unless only commands have asked for it that are refused anyway."""
+        """Returns what is wrong with the commands that answer Memory: each must be accepted otherwise. If memory is refused to
+        the end, the run must report that, unless only commands that are refused in any case have asked for memory."""
         silent = not refused and not run.errors.endswith(FAULT)
         if lasts and self.reading and silent and run.refused > 0 and run.refused > self.needless_growths():
             return "no answer and no fault says that memory was refused"
@@ -131,7 +131,7 @@ class Answers(Words):
         return self.wrong_first(refused[0]) if refused else ""
 
     def needless_growths(self):
-        """Returns how many growths are asked for by commands that are refused whatever memory there is."""
+        """Returns how many growths are made by commands that are refused in any case."""
         needless = [
             number
             for number, answer in self.answers.items()
@@ -163,7 +163,7 @@ class Explanations(Answers):
 
 
 class Differences(Answers):
-    """A check of a script that expects the answers that it has."""
+    """A check of a script that expects its own answers."""
 
     WORD = "check"
 

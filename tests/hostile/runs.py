@@ -1,4 +1,4 @@
-"""Runs of a program, with refused growths (a block of memory, or a thread) or with broken streams."""
+"""Runs a program with refused growths (a block of memory, or a thread) or with broken streams."""
 import mmap
 import os
 import resource
@@ -11,20 +11,20 @@ from dataclasses import dataclass
 FOREVER = 2**32 - 1
 # A run that takes longer hangs, and is ended by a signal.
 SECONDS = 60
-# What stands for a stream that is closed.
+# Represents a closed stream.
 CLOSED = -1
 
 
 @dataclass(frozen=True)
 class Run:
-    """What a run left: its status, or a signal's number below 0, its output, its errors, and what the library counted."""
+    """The result of a run: its status, or a signal's negated number, its output, its errors, and the library's counts."""
 
     status: int
     output: bytes
     errors: bytes
     counts: tuple[int, int, int, int]
 
-    # What refuse.c counts.
+    # The struct counts of refuse.c.
 
     @property
     def growths(self):
@@ -42,7 +42,7 @@ class Run:
     def threads_ended(self):
         return self.counts[3]
 
-    # What pieces.c counts.
+    # The struct counts of pieces.c.
 
     @property
     def reads(self):
@@ -54,7 +54,7 @@ class Run:
 
 
 def built(name, folder):
-    """Compiles a library to preload, the source of which stands here, and returns its path."""
+    """Compiles a library to preload, whose source is in this folder. Returns its path."""
     compiler = next(filter(shutil.which, ["cc", "clang", "gcc"]), None)
     if not compiler:
         sys.exit("tests/hostile: there is no C compiler, and it takes cc, clang or gcc")
@@ -65,7 +65,7 @@ def built(name, folder):
 
 
 class Program:
-    """A program that is run over and over, with files of its own in a folder, and a library to preload."""
+    """A program that is run repeatedly, with a folder for its files, and a library to preload."""
 
     def __init__(self, program, library, folder):
         self.program = os.path.abspath(program)
@@ -79,23 +79,24 @@ class Program:
         self.preloading = {"LD_PRELOAD": library, "COUNTS": f"{folder}/counts", "SECONDS": str(SECONDS)}
 
     def file(self, name, text):
-        """Returns the path of a file with that text."""
+        """Returns the path of a file with this text."""
         path = f"{self.folder}/{name}"
         with open(path, "wb") as file:
             file.write(text)
         return path
 
     def plain(self, *words, **streams):
-        """Runs the program as it is."""
+        """Runs the program unchanged."""
         return self.start(words, {}, **streams)
 
     def refused(self, growths, reading, *words, **streams):
-        """Runs it and refuses growths, the first and the last of which are numbered from the first read on or from the start."""
+        """Runs the program and refuses growths. `growths` has the first and the last, numbered from the first read on or from the
+        start."""
         first, last = growths
         return self.preloaded(words, {"REFUSE_FIRST": first, "REFUSE_LAST": last, "REFUSE_READING": int(reading)}, **streams)
 
     def preloaded(self, words, settings, **streams):
-        """Runs it with the library, for which these variables are set."""
+        """Runs the program with the library, whose variables are `settings`."""
         environment = {name: str(value) for name, value in settings.items()}
         return self.start(words, {**self.preloading, **environment}, **streams)
 
@@ -114,7 +115,7 @@ class Program:
 
 
 def actions_of(streams):
-    """Returns how a child comes to these streams, some of which may be closed."""
+    """Returns the file actions that give a child these streams, some of which may be closed."""
     return [
         (os.POSIX_SPAWN_CLOSE, number) if stream == CLOSED else (os.POSIX_SPAWN_DUP2, stream, number)
         for number, stream in enumerate(streams)
@@ -127,7 +128,7 @@ def whole_lines(text):
 
 
 def differs(run, status, output, errors):
-    """Returns what is otherwise than wanted of a run, or an empty text."""
+    """Returns what differs from the expected result of a run, or an empty text."""
     for name, wanted in (("status", status), ("output", output), ("errors", errors)):
         if getattr(run, name) != wanted:
             return f"its {name} is {getattr(run, name)}, not {wanted}"
@@ -135,7 +136,7 @@ def differs(run, status, output, errors):
 
 
 def tell_trials(program, trials):
-    """Makes trials of a program, each of which gives cases with what is wrong, and prints a line for each trial."""
+    """Runs tests of a program, each of which yields cases with what is wrong, and prints a line for each test."""
     for name, trial in trials:
         before = program.runs
         wrong = [f"{case}: {mistake}" for case, mistake in trial(program) if mistake]
@@ -144,7 +145,7 @@ def tell_trials(program, trials):
 
 
 class Room:
-    """Lets no file grow past so many bytes: a write that would is refused, and sends no signal."""
+    """Limits the size of all files: a write beyond the limit fails without a signal."""
 
     def __init__(self, room):
         self.room = room

@@ -1,11 +1,11 @@
-"""A script as lines, its commands, and copies of it in which some of them are notes."""
+"""Scripts as lines and commands, and copies of a script in which some commands are notes."""
 import glob
 import os
 import re
 
 
 def constant(name, crate="*_core"):
-    """Returns a number of a crate, or of the one that has it, by the name of its constant."""
+    """Returns the value of a constant of a crate, or of the only crate that has it."""
     top = os.path.dirname(os.path.dirname(os.path.dirname(os.path.realpath(__file__))))
     pattern, found = re.compile(rf"^(?:pub(?:\(crate\))? )?const {name}: \w+ = ([\d_]+);$", re.MULTILINE), []
     for path in glob.glob(f"{top}/crates/{crate}/src/*.rt"):
@@ -21,18 +21,18 @@ NOTE = b"#"
 
 
 def is_command(line):
-    """Says whether a line has an answer."""
+    """Returns whether a line has an answer."""
     words = [word for word in line.split(b" ") if word]
     return len(line) > LINE_BYTES or bool(words) and not words[0].startswith(b"#")
 
 
 def head_of(line):
-    """Says whether a line of output begins an answer. No row of one begins so."""
+    """Returns whether a line of output begins an answer. No row of an answer begins like that."""
     return line == b"ok" or line.startswith((b"ok ", b"err "))
 
 
 def answers_of(output):
-    """Returns the answers of some output, each as a list of lines. A last line that is cut is none."""
+    """Returns the answers of an output, each as a list of lines. A last line that was cut is left out."""
     answers = []
     for line in output.split(b"\n")[:-1]:
         if head_of(line):
@@ -67,11 +67,11 @@ class Script:
 
 
 def expecting(script, answer):
-    """Returns a script of the same commands, each with the notes that expect its answer; a call answers a text."""
+    """Returns a script of the same commands, with notes that expect their answers; `answer` returns the text of one."""
     lines = []
     for number, lines_of_answer in zip(script.commands, answers_of(answer(script.without([])))):
         lines += [script.line(number)] + [NOTE] * len(lines_of_answer)
-    # Answers that have the number of a line are those of the lines as they stand now.
+    # Answers that contain line numbers are those of the lines as they are now.
     silent = Script(b"\n".join(lines + [b""]))
     lines = []
     for number, lines_of_answer in zip(silent.commands, answers_of(answer(silent.without([])))):

@@ -2,10 +2,10 @@
 """Random histories of a device of libbimphlai, each answer compared with that of a plain model.
 
 The model keeps all points that were ever put into each file and each buffer, and drops, merges and trims none of them.
-What it answers follows from these and from what the timelines were raised to and when (docs/MODEL.md, docs/LINUX.md).
-When an answer differs, the shortest history that was found to differ is printed.
+Its answers follow from these points and from the values and times of increments (docs/MODEL.md, docs/LINUX.md). When an
+answer differs, the shortest differing history that was found is printed.
 
-The shared library is found where the loader finds it, or it is the file that BIMPHLAI names.
+The loader finds the shared library, or BIMPHLAI names its file.
 """
 import argparse
 import bisect
@@ -36,7 +36,7 @@ class Refused(Exception):
 
 
 class Differs(Exception):
-    """The device has answered otherwise than the model, or a refused call has stored something."""
+    """The device's answer differs from the model's, or a refused call has stored something."""
 
 
 # ---- The model ----
@@ -61,12 +61,12 @@ class Buffer:
 
 
 def text(name):
-    """As much of a name as the kernel keeps."""
+    """Returns a name as the kernel cuts it."""
     return name.split(b"\0")[0][: NAME_ROOM - 1]
 
 
 class Model:
-    """What a device answers, by all that was ever asked of it."""
+    """The model's answers, derived from all requests so far."""
 
     def __init__(self):
         self.last, self.timelines = 0, {}
@@ -79,13 +79,13 @@ class Model:
         return self.last
 
     def find(self, number, kind, elsewhere=ENOTTY):
-        """The object of that number and kind. Its kind is looked at after the number."""
+        """Returns the object with this number and kind. The kind is checked after the number."""
         if number in self.alive[kind]:
             return self.alive[kind][number]
         raise Refused(elsewhere if any(number in objects for objects in self.alive.values()) else ENOENT)
 
     def signal(self, fence):
-        """When a fence signalled, and its status; None while it is pending."""
+        """Returns when a fence signalled, and its status; None while it is pending."""
         timeline = self.timelines[fence.timeline]
         if fence.made is not None:
             return fence.made, SIGNALLED
@@ -102,7 +102,7 @@ class Model:
         return next(filter(self.is_pending, puts), None)
 
     def listing(self, puts):
-        """The latest pending fence of each timeline, by rising number."""
+        """Returns the latest pending fence of each timeline, by rising number."""
         latest = {}
         for fence in filter(self.is_pending, puts):
             if fence.timeline not in latest or latest[fence.timeline].value < fence.value:
@@ -117,7 +117,7 @@ class Model:
         return number
 
     def wake(self):
-        """The files that no longer wait are woken, by rising number."""
+        """Wakes the files that no longer wait, by rising number."""
         for number in sorted(number for number, fence in self.waiting.items() if not self.is_pending(fence)):
             pending = self.some_pending(self.alive[File][number].puts)
             if pending:
@@ -127,12 +127,12 @@ class Model:
                 self.woken.append(number)
 
     def latest_signal(self, file):
-        """The latest time at which one of the fences that a file shows signalled."""
+        """Returns the latest time at which one of the fences that a file shows has signalled."""
         signals = [self.signal(fence) for fence in file.fences]
         return max((signal[0] for signal in signals if signal), default=file.stub_at)
 
     def status_of(self, file):
-        """That of the first fence that is pending or has an error."""
+        """Returns the status of the first fence that is pending or has an error."""
         for signal in map(self.signal, file.fences):
             if signal is None:
                 return ACTIVE
@@ -324,7 +324,7 @@ class Device:
             raise Refused(refusal)
 
     def stored(self, out, name, *arguments):
-        """What a call stores; one that is refused leaves it as it was."""
+        """Returns what a call stores. A refused call must not store anything."""
         ctypes.memset(ctypes.byref(out), KEPT, ctypes.sizeof(out))
         try:
             self.call(name, *arguments, ctypes.byref(out))
@@ -415,7 +415,7 @@ def answer(service, request, arguments):
 
 
 class History:
-    """Requests, each of which is asked of a device and of the model."""
+    """Requests, each of which is made to a device and to the model."""
 
     def __init__(self, library):
         self.model, self.device = Model(), Device(library)
@@ -489,7 +489,7 @@ class Generator:
         return self.random.choice(list(self.model.alive[kind]))
 
     def some(self, kind):
-        """The number of an object of that kind; now and then of any kind, of none, or of none any more."""
+        """Returns the number of an object of this kind; now and then, of another kind, of none, or of a released object."""
         if self.model.alive[kind] and self.random.random() < 0.94:
             return self.alive(kind)
         numbers = [0, self.model.last + 1, 2**64 - 1, self.random.randint(0, self.model.last)]
@@ -497,8 +497,8 @@ class Generator:
         return self.random.choice(numbers)
 
     def small(self, kind):
-        """The same of an object to put into another, most often of a file that waits. One into which much was put is
-        released."""
+        """Returns the number of an object to put into another, most often of a waiting file. Releases an object that has grown
+        large."""
         waiting = kind is File and self.random.random() < 0.7 and list(self.model.waiting)
         number = self.random.choice(waiting) if waiting else self.some(kind)
         it = self.model.alive[kind].get(number)
@@ -561,7 +561,7 @@ class Generator:
                 return (self.random.choice([0, 1, 2, ROOM, ROOM]),)
 
     def ask_one(self):
-        """Asks one more request. Where as many objects are alive as may be, one is released before another is made."""
+        """Makes one more request. If the maximum of objects is alive, releases one before another is made."""
         (request,) = self.random.choices(self.requests, self.weights)
         kind = MAKERS.get(request)
         if kind and len(self.model.alive[kind]) >= self.most[kind]:
@@ -569,7 +569,7 @@ class Generator:
         self.history.ask(request, *self.arguments(request))
 
     def release_all(self):
-        """Releases everything, in any order."""
+        """Releases everything, in random order."""
         numbers = [number for objects in self.model.alive.values() for number in objects]
         self.random.shuffle(numbers)
         for number in numbers:
@@ -592,8 +592,8 @@ NOWHERE = 2**63  # from here on numbers are of nothing
 
 
 def first_difference(library, asked):
-    """Asks requests again, of which some are left out, by the numbers that objects have now. Returns those up to the
-    first that differs, and how it does, or None."""
+    """Repeats requests, some of which may be left out, with the numbers that objects have now. Returns them up to the first that
+    differs, and the difference, or None."""
     history, numbers = History(library), {}
     try:
         for request, arguments, made in asked:
@@ -610,7 +610,7 @@ def first_difference(library, asked):
 
 
 def shortest(library, found):
-    """The shortest history that was found to differ: requests are left out while the others still differ."""
+    """Returns the shortest history found that differs: leaves out requests as long as the rest still differs."""
     size = len(found[0]) // 2
     while size:
         before, at = len(found[0]), 0
@@ -631,7 +631,7 @@ def report(asked, differs):
 
 
 def run(library, seed, requests, is_brief):
-    """Draws so many requests, to one device after another. Returns whether no answer differs."""
+    """Draws `requests` requests, to one device after another. Returns whether no answer differs."""
     answers, refused, woken = 0, 0, 0
     for drawn in range(0, requests, DEVICE_REQUESTS):
         history = History(library)
