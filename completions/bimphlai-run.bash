@@ -2,7 +2,7 @@
 
 _bimphlai_run() {
     local word="${COMP_WORDS[COMP_CWORD]}" at=1
-    # After the options comes a program, whose own words follow.
+    # After the options comes a program, followed by its own words.
     while [ "$at" -lt "$COMP_CWORD" ]; do
         case "${COMP_WORDS[at]}" in
         --trace | --shuffle) at=$((at + 2)) ;;

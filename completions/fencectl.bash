@@ -2,7 +2,7 @@
 
 _fencectl() {
     local word="${COMP_WORDS[COMP_CWORD]}" command="" words="" takes_files=yes files="*.fence" at=1
-    # --color and its value may stand before the command.
+    # --color and its value may come before the command.
     while [ "${COMP_WORDS[at]-}" = --color ] && [ "$at" -lt "$COMP_CWORD" ]; do at=$((at + 2)); done
     [ "$at" -ge "$COMP_CWORD" ] || command="${COMP_WORDS[at]}"
     case "$command" in
