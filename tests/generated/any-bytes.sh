@@ -1,5 +1,5 @@
 #!/usr/bin/env bash
-# All bytes, sixteen times: so many line feeds, and bytes after the last one.
+# All bytes, sixteen times: sixteen lines that end, and bytes after the last line feed.
 set -euo pipefail
 
 for _ in {1..16}; do

@@ -1,5 +1,5 @@
 #!/usr/bin/env bash
-# Lines that are refused, an empty one, and a last line that lacks its line feed.
+# Refused lines, an empty line, and a last line without a line feed.
 set -euo pipefail
 source "$(dirname "$0")/../lib/shared"
 

@@ -1,5 +1,5 @@
 #!/usr/bin/env bash
-# All buffers that there can be, and one more.
+# The greatest number of buffers, and one more.
 set -euo pipefail
 source "$(dirname "$0")/../lib/shared"
 

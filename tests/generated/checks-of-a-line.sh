@@ -1,10 +1,10 @@
 #!/usr/bin/env bash
-# Spaces, notes, words that begin like a command, bytes that no word has, and names of the greatest length.
+# Spaces, notes, words that begin like a command, bytes that no word may have, and names of the greatest length.
 set -euo pipefail
 source "$(dirname "$0")/../lib/shared"
 
 line=0
-# Prints lines, the first a command, which are counted.
+# Prints lines, the first of which is a command, and counts them.
 lines() {
     printf '%s\n' "$@"
     line=$((line + $#))

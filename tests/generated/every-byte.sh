@@ -1,5 +1,5 @@
 #!/usr/bin/env bash
-# Each byte but the line feed as a line of its own. A space and a # make a note, and no other byte is a command.
+# Each byte except the line feed as a line of its own. A space and a # make a note, and no other byte is a command.
 set -euo pipefail
 
 line=1

@@ -1,5 +1,5 @@
 #!/usr/bin/env bash
-# A file and a buffer with a point of each timeline that there can be, whose tables take several writes.
+# A file and a buffer with a point of each of the greatest number of timelines. Their tables need several writes.
 set -euo pipefail
 source "$(dirname "$0")/../lib/shared"
 

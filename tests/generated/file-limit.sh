@@ -1,6 +1,6 @@
 #!/usr/bin/env bash
-# All files that there can be at a time, and one more by each command that makes one. A close makes room for one. Of a closed
-# timeline, too, the limit is reported first.
+# The greatest number of files at a time, and one more by each command that makes one. A close makes room for one. The limit is
+# reported first, also if the timeline is closed.
 set -euo pipefail
 source "$(dirname "$0")/../lib/shared"
 

@@ -1,5 +1,5 @@
 #!/usr/bin/env bash
-# Of many points of a timeline the latest alone is shown.
+# Only the latest of many points of a timeline is shown.
 set -euo pipefail
 
 printf 'timeline a\n#= ok 1\nbuffer B\n#= ok\n'

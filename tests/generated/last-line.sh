@@ -1,5 +1,5 @@
 #!/usr/bin/env bash
-# A last line that lacks its line feed is counted as any other.
+# A last line without a line feed is counted like any other.
 set -euo pipefail
 
 printf '\n\nxx'

@@ -1,5 +1,5 @@
 #!/usr/bin/env bash
-# Each place of a name or a number in each command: the longest name and the greatest number or the most digits, and one more.
+# Each name and number of each command: the longest name, and the greatest number or the most digits; and one more.
 set -euo pipefail
 source "$(dirname "$0")/../lib/shared"
 
@@ -11,7 +11,7 @@ lines() {
     line=$((line + $#))
 }
 
-# A word of a row: a capital is a longest name that begins so.
+# A word of a row: a capital letter is a longest name that begins with it.
 word() {
     case "$1" in
     [A-Z]) printf '%s%s' "$1" "$tail" ;;
@@ -19,7 +19,7 @@ word() {
     esac
 }
 
-# Words that are too long by one for a place that holds this one, if it has a limit.
+# Words that are one too long for the place of this word, if it has a limit.
 words_past() {
     case "$1" in
     [A-Z]) printf '%s%sn\n' "$1" "$tail" ;;
@@ -27,7 +27,7 @@ words_past() {
     esac
 }
 
-# The words of a row, in which the word of one place may be another.
+# The words of a row, in which one word may be replaced.
 row() {
     local place="$1" other="$2" text="" here
     for here in "${!words[@]}"; do

@@ -1,5 +1,6 @@
 #!/usr/bin/env bash
-# Commands and notes of a byte less than a line may have, of as many and of one more. The last line lacks its line feed.
+# Commands and notes with one byte less than the limit of a line, with exactly the limit, and with one byte more. The last line
+# has no line feed.
 set -euo pipefail
 source "$(dirname "$0")/../lib/shared"
 

@@ -1,5 +1,5 @@
 #!/usr/bin/env bash
-# Each byte but the line feed and the space as a name, and names by their length.
+# Each byte except the line feed and the space as a name, and names of several lengths.
 set -euo pipefail
 source "$(dirname "$0")/../lib/shared"
 

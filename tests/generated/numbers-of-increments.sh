@@ -1,5 +1,5 @@
 #!/usr/bin/env bash
-# Numbers at their limits and past them, a tab in a word, and a last line that lacks its line feed.
+# Numbers at their limits and past them, a tab in a word, and a last line without a line feed.
 set -euo pipefail
 source "$(dirname "$0")/../lib/shared"
 

@@ -1,5 +1,5 @@
 #!/usr/bin/env bash
-# A script of as many bytes as it may have, the last of which ends a line.
+# A script of the greatest length, whose last byte ends a line.
 set -euo pipefail
 source "$(dirname "$0")/../lib/shared"
 

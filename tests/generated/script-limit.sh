@@ -1,5 +1,5 @@
 #!/usr/bin/env bash
-# A script of one byte too many.
+# A script that is one byte too long.
 set -euo pipefail
 source "$(dirname "$0")/../lib/shared"
 

@@ -1,5 +1,5 @@
 #!/usr/bin/env bash
-# One byte more than a script may have, after a line that ends with its last byte.
+# A script that is one byte too long. A line ends with the last byte within the limit.
 set -euo pipefail
 
 "$(dirname "$0")/script-at-its-limit.sh"

@@ -1,5 +1,5 @@
 #!/usr/bin/env bash
-# Commands that spaces fill up to the limit of a line and past it, and a note past it.
+# Commands filled with spaces up to the limit of a line and past it, and a note past it.
 set -euo pipefail
 source "$(dirname "$0")/../lib/shared"
 

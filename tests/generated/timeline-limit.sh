@@ -1,5 +1,5 @@
 #!/usr/bin/env bash
-# All timelines that there can be, and one more. A closing makes room for none.
+# The greatest number of timelines, and one more. Closing a timeline makes room for none.
 set -euo pipefail
 source "$(dirname "$0")/../lib/shared"
 

@@ -1,6 +1,6 @@
 #!/usr/bin/env bash
-# All watches that there can be at a time, and one more: its other causes of refusal are reported in their order. They fire by
-# registration.
+# The greatest number of watches at a time, and one more: its other causes of refusal are reported in their order. Watches fire in
+# order of registration.
 set -euo pipefail
 source "$(dirname "$0")/../lib/shared"
 
