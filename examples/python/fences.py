@@ -1,7 +1,7 @@
 #!/usr/bin/env python3
-"""A frame on a desk of libbimphlai, from Python: made of two jobs' fences, waited for, and shown.
+"""A frame on a desk of libbimphlai, from Python: merges the fences of two jobs, waits for the frame, and shows it.
 
-The shared library is found where the loader finds it, or it is the file that BIMPHLAI names.
+The loader finds the shared library, or BIMPHLAI names its file.
 """
 import ctypes
 import os
@@ -31,7 +31,7 @@ class Refused(Exception):
 
 
 class Desk:
-    """A desk, whose calls raise Refused; used by one thread at a time."""
+    """A desk, whose calls raise Refused. Used by one thread at a time."""
 
     def __init__(self, library):
         self.library, self.handle = library, Handle()
@@ -75,13 +75,13 @@ class Desk:
         return True
 
     def fences(self, file):
-        """The timeline, point and status of each fence of a file."""
+        """Returns the timeline, point and status of each fence of a file."""
         rows, status, count = (FenceInfo * CONTEXTS)(), ctypes.c_int32(), ctypes.c_size_t()
         self.call("bim_info", file, ctypes.byref(status), rows, ctypes.c_size_t(CONTEXTS), ctypes.byref(count))
         return [(it.timeline.decode(), it.point, it.status) for it in rows[: count.value]]
 
     def fired(self):
-        """The cookies that have fired since they were last taken."""
+        """Returns the cookies that have fired since the last call."""
         cookies, taken = (ctypes.c_uint64 * 16)(), []
         while count := self.library.bim_take_fired(ctypes.byref(self.handle), cookies, len(cookies)):
             taken += cookies[:count]
