@@ -8,7 +8,8 @@
 #include <string.h>
 #include <sys/mman.h>
 
-/* The usage at which poll asks the device: a reader waits for writers, a writer for all fences. */
+/* For each access, the usage that poll tests and the flags that it exports: reading waits for writers, writing for
+ * all. */
 static const int USAGES[ACCESSES] = { [READING] = BIM_WRITE, [WRITING] = BIM_READ };
 static const uint32_t AWAITS[ACCESSES] = { [READING] = BIM_SYNC_READ, [WRITING] = BIM_SYNC_WRITE };
 

@@ -8,7 +8,7 @@
 #include <limits.h>
 #include <stdio.h>
 
-/* Returns the number of the object that is closed if the service has to be told, or 0. */
+/* Returns the number of the object that is closed if the service has to hear of it, or 0. */
 static uint64_t closing(int file)
 {
     uint64_t inode;

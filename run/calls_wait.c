@@ -167,7 +167,7 @@ EXPORT int pselect(int count, fd_set *readable, fd_set *writable, fd_set *others
 
 static _Atomic bool is_watched; /* an epoll set watches one of our descriptors */
 
-/* Linux's epoll refuses a file without a poll operation, as a timeline is. */
+/* Linux's epoll refuses files without a poll operation, such as timelines. */
 EXPORT int epoll_ctl(int set, int how, int file, struct epoll_event *event)
 {
     NEXT(epoll_ctl);

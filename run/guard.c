@@ -51,7 +51,7 @@ struct guard {
     bool has_tool; /* bimphlai-run is running */
 };
 
-/* Closes the streams of bimphlai-run, so that a reader sees their end once bimphlai-run has ended. */
+/* Replaces the streams of bimphlai-run by /dev/null, so that their readers see the end once bimphlai-run has ended. */
 static void leave_streams(const struct service *service)
 {
     for (int file = STDIN_FILENO; file <= STDERR_FILENO; file++)

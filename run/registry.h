@@ -95,8 +95,8 @@ void registry_look(struct registry *registry, struct object *object, bool is_tol
 void registry_settle(struct registry *registry);
 /* Moves all descriptors that the registry holds to other numbers. */
 void registry_place_all(struct registry *registry);
-/* For systems on which nothing reports closings: looks at all objects, or only at timelines whose closing a process may
- * wait for. Returns whether any was closed. */
+/* For a registry without `endpoints`: registry_sweep looks at all objects, and registry_sweep_timelines only at
+ * timelines whose closing a process may wait for; this returns whether any was closed. */
 void registry_sweep(struct registry *registry);
 bool registry_sweep_timelines(struct registry *registry);
 

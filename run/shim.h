@@ -75,8 +75,8 @@ struct own {
 struct way {
     int (*prepare)(struct own *own); /* returns 0 or an errno */
     int (*ask)(const struct bim_request *request, int passed, struct bim_answer *answer, int *given);
-    /* Called without the lock in a signal handler that the library doesn't know of, whose thread may be in a request.
-     */
+    /* Called without the lock in a signal handler that the library doesn't know of, whose thread may be in a
+     * request. */
     int (*ask_apart)(const struct bim_request *request, int passed, struct bim_answer *answer, int *given);
     void (*leave)(void);          /* called in a new process: drops what is the parent's */
     bool (*is_own)(int file); /* these two are called without the lock */
