@@ -20,14 +20,14 @@ NAME_ROOM, DRIVER_ROOM = 32, 8
 ENOENT, EINVAL, ENOTTY = 2, 22, 25
 ACTIVE, SIGNALLED, CANCELLED = 0, 1, -2
 KERNEL, WRITE, READ, BOOKKEEP = range(4)
-# What an access with these flags waits for, and what the fences are that it brings.
+# The usage at which an access with these flags waits, and the usage of the fences that it adds.
 WAITS_FOR = {1: WRITE, 2: READ, 3: READ}
 IS_FOR = {1: READ, 2: WRITE, 3: WRITE}
 
-ROOM = 64  # the rows and woken numbers that a call is asked for at most
-KEPT = 77  # each byte of what a call stores to, before it
+ROOM = 64  # limit on the rows and woken numbers that a call is asked for
+KEPT = 77  # each byte of out-parameters before a call
 DEVICE_REQUESTS = 5000  # requests to a device
-LOOK_EVERY = 1000  # requests between two looks at all that is there
+LOOK_EVERY = 1000  # requests between two checks of all objects
 LARGEST = 300  # points put into a file or a buffer before it is released
 
 
@@ -41,13 +41,13 @@ class Differs(Exception):
 
 # ---- The model ----
 
-Fence = collections.namedtuple("Fence", "timeline value point made")  # made: when, if it was reached then
+Fence = collections.namedtuple("Fence", "timeline value point made")  # made: its time, if the point was reached then
 
 
 class Timeline:
     def __init__(self, name):
         self.name, self.value, self.closed = name, 0, None
-        self.values, self.times = [], []  # what it was raised to, and when
+        self.values, self.times = [], []  # the values it was raised to, and the times
 
 
 class File:
@@ -168,7 +168,7 @@ class Model:
 
     def fence(self, timeline, point, now):
         value = self.find(timeline, Timeline).value
-        difference = (point - value + 2**31) % 2**32 - 2**31  # as an int of 32 bits
+        difference = (point - value + 2**31) % 2**32 - 2**31  # as a 32-bit int
         at = max(value + difference, 0)
         fence = Fence(timeline, at, point, now if difference <= 0 else None)
         return self.make_file(b"", frozenset([fence]), [fence])
@@ -402,7 +402,7 @@ class Device:
 # ---- Histories ----
 
 MAKERS = {"timeline": Timeline, "fence": File, "merge": File, "buffer": Buffer, "export_file": File}
-# How many of the first arguments of a request are numbers of objects.
+# How many of a request's first arguments are numbers of objects.
 OBJECTS = {"fence": 1, "inc": 1, "merge": 2, "status": 1, "is_signalled": 1, "info": 1, "release": 1}
 OBJECTS |= {"export_file": 1, "import_file": 2, "test": 1, "value": 1, "first_due": 1, "fence_of": 1}
 
@@ -444,7 +444,7 @@ class History:
                 self.ask("test", buffer, usage)
 
 
-# How often a request is drawn.
+# How often each request is drawn.
 WEIGHTS = {
     "timeline": 3,
     "fence": 20,
@@ -473,7 +473,7 @@ class Generator:
     def __init__(self, seed, history):
         self.random, self.history, self.model = random.Random(seed), history, history.model
         draw = self.random.choice
-        # How many objects are alive at a time, how far points lie ahead, whether times rise, how often timelines do.
+        # How many objects are alive at a time, how far ahead points are, whether times rise, and how often timelines do.
         self.most = {Timeline: draw([2, 8, 30, 100]), File: draw([6, 40, 150, 400]), Buffer: draw([1, 3, 10])}
         self.span, self.clock = draw([2, 8, 50]), draw([0, 0, None])
         weights = WEIGHTS | {"inc": draw([4, 12, 30])}
@@ -588,7 +588,7 @@ class Generator:
 
 # ---- What differs ----
 
-NOWHERE = 2**63  # from here on numbers are of nothing
+NOWHERE = 2**63  # no object has a number from here on
 
 
 def first_difference(library, asked):

@@ -1,4 +1,4 @@
-/* Children made by clone or vfork past the C library, or of a parent whose fork handlers call the service. */
+/* Children made by clone or vfork without the C library, or of a parent whose fork handlers call the service. */
 #include "kernel.h"
 #include <pthread.h>
 #include <signal.h>

@@ -1,7 +1,7 @@
 /* usage: closing [raw]
  *
- * All ways in which one process closes: the pending points of a timeline are cancelled at its last close, not before. With "raw",
- * also a system call that closes all descriptors at once. */
+ * All ways in which one process closes: the pending points of a timeline are cancelled at its last close, not before.
+ * With "raw", also a system call that closes all descriptors at once. */
 #include "kernel.h"
 #include <dirent.h>
 #include <dlfcn.h>

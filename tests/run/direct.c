@@ -1,7 +1,7 @@
 /* usage: direct [again]
  *
- * A program that makes system calls past the C library, which --direct serves: by syscall(2), in threads, children and handlers,
- * with signals blocked, and after it has executed itself again. */
+ * A program that makes system calls without the C library, which --direct serves: by syscall(2), in threads, children
+ * and handlers, with signals blocked, and after it has executed itself again. */
 #include "kernel.h"
 #include <pthread.h>
 #include <signal.h>

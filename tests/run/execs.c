@@ -1,7 +1,7 @@
 /* usage: execs [local]
  *
- * A fence that is pending before an exec is pending after it, and also once the process that made it has ended while another
- * has the timeline. With "local", no process can signal it then. */
+ * A fence that is pending before an exec is pending after it, and also once the process that made it has ended while
+ * another process has the timeline. With "local", no process can signal it then. */
 #include "kernel.h"
 #include <sys/syscall.h>
 

@@ -1,8 +1,8 @@
 /* usage: fuzz SEED COUNT
  *
- * Sends COUNT messages to the service that no client sends: random bytes, and good requests that are cut, made longer or altered,
- * with all kinds of descriptors, by clients that don't read their answers or go away. Meanwhile the service still serves another
- * process. */
+ * Sends COUNT messages to the service that no client sends: random bytes, and valid requests that are cut, extended or
+ * altered, with all kinds of descriptors, by clients that don't read their answers or disconnect. Meanwhile the service
+ * still serves another process. */
 #include "client.h"
 #include "service.h"
 #include <sched.h>

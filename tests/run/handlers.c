@@ -1,8 +1,8 @@
 /* usage: handlers [forking|unseen|without-jumps]
  *
- * Threads that make, merge, increment and close, each interrupted at any point by a signal handler that does so too, or that jumps
- * away, which leaves descriptors open; with "forking", by one that forks. With "unseen" the handlers are installed past the
- * preloaded library. */
+ * Threads that make, merge, increment and close, each interrupted at any point by a signal handler that does so too, or
+ * that jumps away, which leaves descriptors open; with "forking", by one that forks. With "unseen" the handlers are
+ * installed without the preloaded library's knowledge. */
 #include "kernel.h"
 #include <dlfcn.h>
 #include <pthread.h>

@@ -1,14 +1,14 @@
 /* usage: killed TOOL ORDER MICROSECONDS [WORD ...]
  *
- * Starts itself by the tool. Processes then wait in all ways for points that no one reaches, and after some time the tool's own
- * processes are killed in the order of the letters: T is the tool, S its server, G its guard; - waits until there is a guard again,
- * and L for the program and the tool to end. A process that sees success reports it. All processes have to end soon, and before the
- * tool does, unless the tool was killed. The words:
+ * Runs itself under the tool. Processes then wait in all ways for points that are never reached, and after some time
+ * the tool's own processes are killed in the order of the letters: T is the tool, S its server, G its guard; - waits
+ * until there is a guard again, and L for the program and the tool to end. A process that sees success reports it. All
+ * processes must end soon, and before the tool does, unless the tool was killed. The words:
  *
  *   full     the service has no descriptor left
- *   blind    nobody can read /proc any more
- *   deaf     standard error is a pipe that nobody reads; closed: one whose reader has gone
- *   nested   the tool runs another, whose processes wait
+ *   blind    no process can read /proc any more
+ *   deaf     standard error is a pipe that is never read; closed: a pipe without a reader
+ *   nested   the tool runs another tool, whose processes wait
  *   early    the order begins with the start of the tool, whose program ends at once */
 #include "service.h"
 #include <sched.h>

@@ -1,4 +1,4 @@
-/* Many timelines, files and buffers, at a time and in turn. */
+/* Many timelines, files and buffers, at a time and one after another. */
 #include "kernel.h"
 
 enum { TIMELINES = 300, IN_TURN = 5000, FILES = 5000, BUFFERS = 1000, SPARE = 200 };

@@ -1,8 +1,8 @@
 /* usage: outside give SOCKET | take SOCKET
  *
- * "take" runs without the tool, and begins first. "give" is run by the tool, hands a pending fence and its environment over by a
- * socket, and kills the service. No process outside of the run sees the fence signal, and none is killed that only waits or used
- * the service before. */
+ * "take" runs without the tool, and begins first. "give" is run by the tool, sends a pending fence and its environment
+ * over a socket, and kills the service. No process outside of the run sees the fence signal, and no process is killed that
+ * only waits or used the service before. */
 #include "service.h"
 #include <sys/un.h>
 

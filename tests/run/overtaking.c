@@ -1,7 +1,8 @@
 /* usage: overtaking [ROUNDS]
  *
- * An increment wakes a thread that closes the timeline. The thread that increments goes on while the other is woken, and finds a later
- * point pending. A scheduler may decide otherwise at any time. How often it does so with bare pipes shows how busy the machine is. */
+ * An increment wakes a thread that closes the timeline. The incrementing thread continues while the other is woken, and
+ * finds a later point pending. A scheduler may decide otherwise at any time. How often it does so with bare pipes shows
+ * how busy the machine is. */
 #include "kernel.h"
 #include <pthread.h>
 #include <sched.h>

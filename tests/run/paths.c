@@ -1,4 +1,4 @@
-/* The paths that a program looks for: each call that takes one of them, and the paths beside them. */
+/* The paths of fence devices: each call that takes one of them, and similar paths. */
 #include "kernel.h"
 #include <dlfcn.h>
 #include <sys/syscall.h>

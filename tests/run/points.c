@@ -1,4 +1,4 @@
-/* Points of 32 bits: which are reached, on both sides of where values wrap. */
+/* 32-bit points: which are reached, on both sides of the wrap of values. */
 #include "kernel.h"
 #include <limits.h>
 

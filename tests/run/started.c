@@ -1,6 +1,6 @@
 /* usage: started TOOL
  *
- * Starts itself by the tool as other programs may: with signals ignored and sent, with streams that are closed, and with the
+ * Runs itself under the tool as other programs may: with signals ignored and sent, with closed streams, and with the
  * environment of another user. */
 #include "service.h"
 #include <sys/un.h>

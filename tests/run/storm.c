@@ -1,7 +1,7 @@
 /* usage: storm SEED
  *
- * Processes that make timelines and files, pass them to each other, merge, wait and close, and end in the middle of a call, many
- * killed. Afterwards the service holds none of their descriptors. */
+ * Processes that make timelines and files, pass them to each other, merge, wait and close, and end in the middle of a
+ * call, many of them killed. Afterwards the service holds none of their descriptors. */
 #include "service.h"
 
 enum { PROCESSES = 48, ACTS = 120, KEPT = 12, LINES = 4 };

@@ -1,7 +1,7 @@
 /* usage: traced NAME
  *
- * Three processes with known fences: the first, of that name, makes points 1 to 3 of a timeline and reaches 2; the second waits for
- * point 1 and sees it; the third waits for point 3, and is killed. The first ends while point 3 is pending. */
+ * Three processes with known fences: the first, called NAME, makes points 1 to 3 of a timeline and reaches 2; the second
+ * waits for point 1 and sees it; the third waits for point 3, and is killed. The first ends while point 3 is pending. */
 #include "kernel.h"
 #include <signal.h>
 
