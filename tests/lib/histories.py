@@ -2,7 +2,7 @@
 """Random histories of a device of libbimphlai, each answer compared with that of a plain model.
 
 The model keeps all points that were ever put into each file and each buffer, and drops, merges and trims none of them.
-Its answers follow from these points and from the values and times of increments (docs/MODEL.md, docs/LINUX.md). When an
+Its answers follow from these points and from the values and times of increments (docs/MODEL.md, docs/LIBRARY.md). When an
 answer differs, the shortest differing history that was found is printed.
 
 The loader finds the shared library, or BIMPHLAI names its file.

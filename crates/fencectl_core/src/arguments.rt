@@ -67,15 +67,15 @@ After a command a note `#= TEXT` expects TEXT as a line of its answer. `fencectl
 these in files and in the *.fence files below folders, and reports each answer that differs on
 standard error. `fencectl explain` reports there which word of a refused line is at fault, and why,
 and what a `wait` waits for. `fencectl draw` writes a picture of a run as SVG, which
-docs/PICTURES.md explains, and with --graph what waits for what as Graphviz DOT.
+docs/SCRIPT.md explains, and with --graph what waits for what as Graphviz DOT.
 
 `fencectl trace` reads the text of ftrace's dma_fence events, as tracefs, trace-cmd or perf print
 them, and reports which fences were never signalled, who waits for them, and what each timeline did;
-docs/TRACES.md says how to record one. With --script it writes what happened as a script, with
+docs/RUN.md says how to record one. With --script it writes what happened as a script, with
 --draw it draws that, and with --perfetto it writes it as trace events, in JSON, which Perfetto and
 chrome://tracing open; --from and --to, in seconds, choose a window.
 
-Clients run on threads, each with a timeline of its own, and share two buffers; docs/THREADS.md says
+Clients run on threads, each with a timeline of its own, and share two buffers; docs/LIBRARY.md says
 what they do. What they settle is the same in every run: a row for each timeline, and for each
 buffer the points that are pending.
 
