@@ -212,16 +212,14 @@ void registry_sweep(struct registry *registry)
     registry_settle(registry);
 }
 
-/* Fills in the endpoints of timelines with pending fences, starting at `timeline`. Returns the timeline where the next
- * batch starts. */
+/* Fills in the endpoints of open timelines, starting at `timeline`. Returns the timeline where the next batch starts. To
+ * ask the device which of them have a pending point takes longer than to poll them all. */
 static const struct timeline *endpoints_of(struct registry *registry, const struct timeline *timeline,
                                            struct pollfd *endpoints, nfds_t *count)
 {
     for (*count = 0; timeline && *count < AT_ONCE; timeline = timeline->after) {
-        const struct object *object = NULL;
+        const struct object *object = map_find(&registry->by_number, timeline->number);
 
-        if (registry_signals(registry, timeline->number, UINT64_MAX))
-            object = map_find(&registry->by_number, timeline->number);
         if (object)
             endpoints[(*count)++] = (struct pollfd){ object->endpoint, 0, 0 };
     }
