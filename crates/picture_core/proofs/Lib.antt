@@ -1,6 +1,5 @@
 pub mod Each
 mod Edging
-mod Escaping
 mod Growing
 mod Middles
 mod Numbered

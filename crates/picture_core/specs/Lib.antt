@@ -1,5 +1,4 @@
 pub mod Bars
-pub mod Escape
 pub mod Lanes
 pub mod Legend
 pub mod Picture

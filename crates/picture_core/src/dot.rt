@@ -1,11 +1,11 @@
 //! Writes a graph in DOT, the language of Graphviz.
 
 use crate::graph::{Edge, Graph, Node, Waiter};
-use crate::part::{Part, push_parts};
 use crate::waiting::Waiting;
 use command_core::FileRow;
 use point_core::{Name, Refusal, Status, TimelineRow, Usage};
-use std::alloc::Global;
+use std::alloc::{AllocError, Global};
+use text_core::{Part, push_parts};
 
 const START: &str = "digraph waits {\n\
     rankdir=LR;\n\
@@ -21,18 +21,18 @@ pub fn dot_text(alloc: Global, graph: &Graph) -> Result<Vec<u8>, Refusal> {
     Ok(out)
 }
 
-fn push_document(graph: &Graph, out: &mut Vec<u8>) -> Result<(), Refusal> {
-    push_parts(&[Part::Own(START)], out)?;
+fn push_document(graph: &Graph, out: &mut Vec<u8>) -> Result<(), AllocError> {
+    push_parts(out, &[Part::Text(START)])?;
     for node in &graph.nodes {
         push_node(node, out)?;
     }
     for edge in &graph.edges {
         push_edge(edge, out)?;
     }
-    push_parts(&[Part::Own("}\n")], out)
+    push_parts(out, &[Part::Text("}\n")])
 }
 
-fn push_node(node: &Node, out: &mut Vec<u8>) -> Result<(), Refusal> {
+fn push_node(node: &Node, out: &mut Vec<u8>) -> Result<(), AllocError> {
     match node {
         Node::Timeline(timeline) => push_timeline(timeline, out),
         Node::Point(waiting) => push_point(waiting, out),
@@ -42,64 +42,64 @@ fn push_node(node: &Node, out: &mut Vec<u8>) -> Result<(), Refusal> {
     }
 }
 
-fn push_timeline(timeline: &TimelineRow, out: &mut Vec<u8>) -> Result<(), Refusal> {
-    let name = Part::Text(timeline.name.as_bytes());
+fn push_timeline(timeline: &TimelineRow, out: &mut Vec<u8>) -> Result<(), AllocError> {
+    let name = Part::Inert(timeline.name.as_bytes());
     let closed = if timeline.closed { "\\nclosed" } else { "" };
     let parts = [
-        Part::Own("\"timeline "),
+        Part::Text("\"timeline "),
         name,
-        Part::Own("\" [shape=box, style=bold, label=\""),
+        Part::Text("\" [shape=box, style=bold, label=\""),
         name,
-        Part::Own("\\nvalue "),
+        Part::Text("\\nvalue "),
         Part::Number(timeline.value),
-        Part::Own(closed),
-        Part::Own("\"];\n"),
+        Part::Text(closed),
+        Part::Text("\"];\n"),
     ];
-    push_parts(&parts, out)
+    push_parts(out, &parts)
 }
 
 /// A point, and the arrow to its timeline.
-fn push_point(waiting: &Waiting, out: &mut Vec<u8>) -> Result<(), Refusal> {
-    let timeline = Part::Text(waiting.timeline.as_bytes());
+fn push_point(waiting: &Waiting, out: &mut Vec<u8>) -> Result<(), AllocError> {
+    let timeline = Part::Inert(waiting.timeline.as_bytes());
     let point = Part::Number(waiting.point);
     let node = [
-        Part::Own("\"point "),
+        Part::Text("\"point "),
         timeline,
-        Part::Own(" "),
+        Part::Text(" "),
         point,
-        Part::Own("\" [shape=ellipse, label=\""),
+        Part::Text("\" [shape=ellipse, label=\""),
         timeline,
-        Part::Own(" "),
+        Part::Text(" "),
         point,
-        Part::Own("\\n"),
+        Part::Text("\\n"),
         Part::Number(waiting.to_go),
-        Part::Own(" to go\"];\n"),
+        Part::Text(" to go\"];\n"),
     ];
-    push_parts(&node, out)?;
+    push_parts(out, &node)?;
     let edge = [
-        Part::Own("\"point "),
+        Part::Text("\"point "),
         timeline,
-        Part::Own(" "),
+        Part::Text(" "),
         point,
-        Part::Own("\" -> \"timeline "),
+        Part::Text("\" -> \"timeline "),
         timeline,
-        Part::Own("\";\n"),
+        Part::Text("\";\n"),
     ];
-    push_parts(&edge, out)
+    push_parts(out, &edge)
 }
 
-fn push_file(file: &FileRow, out: &mut Vec<u8>) -> Result<(), Refusal> {
-    let name = Part::Text(file.name.as_bytes());
+fn push_file(file: &FileRow, out: &mut Vec<u8>) -> Result<(), AllocError> {
+    let name = Part::Inert(file.name.as_bytes());
     let parts = [
-        Part::Own("\"file "),
+        Part::Text("\"file "),
         name,
-        Part::Own("\" [shape=note, label=\""),
+        Part::Text("\" [shape=note, label=\""),
         name,
-        Part::Own("\\n"),
-        Part::Own(status_words(file.status)),
-        Part::Own("];\n"),
+        Part::Text("\\n"),
+        Part::Text(status_words(file.status)),
+        Part::Text("];\n"),
     ];
-    push_parts(&parts, out)
+    push_parts(out, &parts)
 }
 
 /// The end of a label, and its style.
@@ -111,65 +111,65 @@ fn status_words(status: Status) -> &'static str {
     }
 }
 
-fn push_buffer(name: &Name, out: &mut Vec<u8>) -> Result<(), Refusal> {
-    let name = Part::Text(name.as_bytes());
+fn push_buffer(name: &Name, out: &mut Vec<u8>) -> Result<(), AllocError> {
+    let name = Part::Inert(name.as_bytes());
     let parts = [
-        Part::Own("\"buffer "),
+        Part::Text("\"buffer "),
         name,
-        Part::Own("\" [shape=cylinder, label=\""),
+        Part::Text("\" [shape=cylinder, label=\""),
         name,
-        Part::Own("\"];\n"),
+        Part::Text("\"];\n"),
     ];
-    push_parts(&parts, out)
+    push_parts(out, &parts)
 }
 
-fn push_watch(cookie: u64, out: &mut Vec<u8>) -> Result<(), Refusal> {
+fn push_watch(cookie: u64, out: &mut Vec<u8>) -> Result<(), AllocError> {
     let parts = [
-        Part::Own("\"watch "),
+        Part::Text("\"watch "),
         Part::Number(cookie),
-        Part::Own("\" [shape=diamond, label=\"watch\\n"),
+        Part::Text("\" [shape=diamond, label=\"watch\\n"),
         Part::Number(cookie),
-        Part::Own("\"];\n"),
+        Part::Text("\"];\n"),
     ];
-    push_parts(&parts, out)
+    push_parts(out, &parts)
 }
 
-fn push_edge(edge: &Edge, out: &mut Vec<u8>) -> Result<(), Refusal> {
+fn push_edge(edge: &Edge, out: &mut Vec<u8>) -> Result<(), AllocError> {
     push_waiter(&edge.waiter, out)?;
     let parts = [
-        Part::Own(" -> \"point "),
-        Part::Text(edge.timeline.as_bytes()),
-        Part::Own(" "),
+        Part::Text(" -> \"point "),
+        Part::Inert(edge.timeline.as_bytes()),
+        Part::Text(" "),
         Part::Number(edge.point),
-        Part::Own("\""),
-        Part::Own(edge_words(&edge.waiter)),
-        Part::Own(";\n"),
+        Part::Text("\""),
+        Part::Text(edge_words(&edge.waiter)),
+        Part::Text(";\n"),
     ];
-    push_parts(&parts, out)
+    push_parts(out, &parts)
 }
 
-fn push_waiter(waiter: &Waiter, out: &mut Vec<u8>) -> Result<(), Refusal> {
+fn push_waiter(waiter: &Waiter, out: &mut Vec<u8>) -> Result<(), AllocError> {
     match waiter {
         Waiter::File(name) => push_named("\"file ", name, out),
         Waiter::Buffer(name, _) => push_named("\"buffer ", name, out),
         Waiter::Watch(cookie) => {
             let parts = [
-                Part::Own("\"watch "),
+                Part::Text("\"watch "),
                 Part::Number(*cookie),
-                Part::Own("\""),
+                Part::Text("\""),
             ];
-            push_parts(&parts, out)
+            push_parts(out, &parts)
         }
     }
 }
 
-fn push_named(kind: &'static str, name: &Name, out: &mut Vec<u8>) -> Result<(), Refusal> {
+fn push_named(kind: &'static str, name: &Name, out: &mut Vec<u8>) -> Result<(), AllocError> {
     let parts = [
-        Part::Own(kind),
-        Part::Text(name.as_bytes()),
-        Part::Own("\""),
+        Part::Text(kind),
+        Part::Inert(name.as_bytes()),
+        Part::Text("\""),
     ];
-    push_parts(&parts, out)
+    push_parts(out, &parts)
 }
 
 /// The label of an edge: a buffer waits at a usage.

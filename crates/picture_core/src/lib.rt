@@ -5,16 +5,13 @@
 mod bar;
 mod dot;
 mod entering;
-mod escape;
 mod graph;
 mod history;
 mod lanes;
-pub mod laws;
 mod legend;
 mod links;
 mod list;
 mod measure;
-mod part;
 mod picture;
 mod shapes;
 mod sheet;
@@ -25,7 +22,6 @@ mod word;
 
 pub use bar::{Bar, Settled};
 pub use dot::dot_text;
-pub use escape::push_escaped;
 pub use graph::{Edge, Graph, Node, Waiter};
 pub use history::{
     Access, BarWait, BufferLane, BufferMark, Column, History, Lane, Lanes, Link, TimelineLane,

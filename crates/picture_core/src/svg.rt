@@ -1,15 +1,14 @@
 //! Writes a picture as an SVG document. Every text is escaped.
 
-use crate::escape::push_byte;
 use crate::history::{Column, History};
 use crate::measure::{digits, name_length, text_width, waiting_length};
-use crate::part::{Part, push_parts};
 use crate::shapes::{ColumnArea, Face, Fill, Label, Mark, Picture, Shape, Spot, Stroke, Text};
 use crate::style::style;
 use crate::waiting::Waiting;
 use crate::word::{letter_of, word_of_heading, words_of};
 use point_core::{Name, Refusal};
 use std::alloc::{AllocError, Global};
+use text_core::{Part, push_inert_byte, push_parts};
 
 /// The picture of a history as a complete SVG document.
 ///
@@ -20,7 +19,11 @@ pub fn svg_text(alloc: Global, picture: &Picture, history: &History) -> Result<V
     Ok(out)
 }
 
-fn push_document(picture: &Picture, history: &History, out: &mut Vec<u8>) -> Result<(), Refusal> {
+fn push_document(
+    picture: &Picture,
+    history: &History,
+    out: &mut Vec<u8>,
+) -> Result<(), AllocError> {
     push_start(picture, out)?;
     for shape in &picture.shapes {
         push_shape(shape, out)?;
@@ -33,23 +36,23 @@ fn push_document(picture: &Picture, history: &History, out: &mut Vec<u8>) -> Res
             push_note(picture, area, column, out)?;
         }
     }
-    push_parts(&[Part::Own("</svg>\n")], out)
+    push_parts(out, &[Part::Text("</svg>\n")])
 }
 
-fn push_start(picture: &Picture, out: &mut Vec<u8>) -> Result<(), Refusal> {
+fn push_start(picture: &Picture, out: &mut Vec<u8>) -> Result<(), AllocError> {
     let parts = [
-        Part::Own("<svg xmlns=\"http://www.w3.org/2000/svg\" width=\""),
+        Part::Text("<svg xmlns=\"http://www.w3.org/2000/svg\" width=\""),
         Part::Number(picture.width),
-        Part::Own("\" height=\""),
+        Part::Text("\" height=\""),
         Part::Number(picture.height),
-        Part::Own("\" viewBox=\"0 0 "),
+        Part::Text("\" viewBox=\"0 0 "),
         Part::Number(picture.width),
-        Part::Own(" "),
+        Part::Text(" "),
         Part::Number(picture.height),
-        Part::Own("\">\n"),
+        Part::Text("\">\n"),
     ];
-    push_parts(&parts, out)?;
-    push_parts(&[Part::Own(style())], out)
+    push_parts(out, &parts)?;
+    push_parts(out, &[Part::Text(style())])
 }
 
 /// The area of a column, over which its note shows.
@@ -58,19 +61,19 @@ fn push_note(
     area: &ColumnArea,
     column: &Column,
     out: &mut Vec<u8>,
-) -> Result<(), Refusal> {
+) -> Result<(), AllocError> {
     let parts = [
-        Part::Own("<rect class=\"over\" x=\""),
+        Part::Text("<rect class=\"over\" x=\""),
         Part::Number(area.x),
-        Part::Own("\" y=\"0\" width=\""),
+        Part::Text("\" y=\"0\" width=\""),
         Part::Number(area.width),
-        Part::Own("\" height=\""),
+        Part::Text("\" height=\""),
         Part::Number(picture.height),
-        Part::Own("\"><title>"),
+        Part::Text("\"><title>"),
     ];
-    push_parts(&parts, out)?;
+    push_parts(out, &parts)?;
     push_lines(column.note.as_slice(), out)?;
-    push_parts(&[Part::Own("</title></rect>\n")], out)
+    push_parts(out, &[Part::Text("</title></rect>\n")])
 }
 
 /// A text with one line for each line feed.
@@ -78,13 +81,13 @@ fn push_lines(text: &[u8], out: &mut Vec<u8>) -> Result<(), AllocError> {
     for byte in text {
         match *byte {
             b'\n' => out.push(b'\n')?,
-            other => push_byte(other, out)?,
+            other => push_inert_byte(out, other)?,
         }
     }
     Ok(())
 }
 
-fn push_shape(shape: &Shape, out: &mut Vec<u8>) -> Result<(), Refusal> {
+fn push_shape(shape: &Shape, out: &mut Vec<u8>) -> Result<(), AllocError> {
     match shape {
         Shape::Area {
             fill,
@@ -109,21 +112,21 @@ fn push_area(
     width: u64,
     height: u64,
     out: &mut Vec<u8>,
-) -> Result<(), Refusal> {
+) -> Result<(), AllocError> {
     let parts = [
-        Part::Own("<rect "),
-        Part::Own(fill_words(fill)),
-        Part::Own(" x=\""),
+        Part::Text("<rect "),
+        Part::Text(fill_words(fill)),
+        Part::Text(" x=\""),
         Part::Number(at.x),
-        Part::Own("\" y=\""),
+        Part::Text("\" y=\""),
         Part::Number(at.y),
-        Part::Own("\" width=\""),
+        Part::Text("\" width=\""),
         Part::Number(width),
-        Part::Own("\" height=\""),
+        Part::Text("\" height=\""),
         Part::Number(height),
-        Part::Own("\"/>\n"),
+        Part::Text("\"/>\n"),
     ];
-    push_parts(&parts, out)
+    push_parts(out, &parts)
 }
 
 fn fill_words(fill: Fill) -> &'static str {
@@ -144,38 +147,38 @@ fn push_edge(
     height: u64,
     open: bool,
     out: &mut Vec<u8>,
-) -> Result<(), Refusal> {
+) -> Result<(), AllocError> {
     let parts = [
-        Part::Own("<path class=\"edge\" d=\"M"),
+        Part::Text("<path class=\"edge\" d=\"M"),
         Part::Number(at.x.saturating_add(width)),
-        Part::Own(" "),
+        Part::Text(" "),
         Part::Number(at.y),
-        Part::Own("h-"),
+        Part::Text("h-"),
         Part::Number(width),
-        Part::Own("v"),
+        Part::Text("v"),
         Part::Number(height),
-        Part::Own("h"),
+        Part::Text("h"),
         Part::Number(width),
-        Part::Own(if open { "\"/>\n" } else { "z\"/>\n" }),
+        Part::Text(if open { "\"/>\n" } else { "z\"/>\n" }),
     ];
-    push_parts(&parts, out)
+    push_parts(out, &parts)
 }
 
-fn push_line(stroke: Stroke, from: &Spot, to: &Spot, out: &mut Vec<u8>) -> Result<(), Refusal> {
+fn push_line(stroke: Stroke, from: &Spot, to: &Spot, out: &mut Vec<u8>) -> Result<(), AllocError> {
     let parts = [
-        Part::Own("<path class=\""),
-        Part::Own(stroke_word(stroke)),
-        Part::Own("\" d=\"M"),
+        Part::Text("<path class=\""),
+        Part::Text(stroke_word(stroke)),
+        Part::Text("\" d=\"M"),
         Part::Number(from.x),
-        Part::Own(" "),
+        Part::Text(" "),
         Part::Number(from.y),
-        Part::Own("L"),
+        Part::Text("L"),
         Part::Number(to.x),
-        Part::Own(" "),
+        Part::Text(" "),
         Part::Number(to.y),
-        Part::Own("\"/>\n"),
+        Part::Text("\"/>\n"),
     ];
-    push_parts(&parts, out)
+    push_parts(out, &parts)
 }
 
 fn stroke_word(stroke: Stroke) -> &'static str {
@@ -188,19 +191,19 @@ fn stroke_word(stroke: Stroke) -> &'static str {
     }
 }
 
-fn push_mark(mark: Mark, at: &Spot, out: &mut Vec<u8>) -> Result<(), Refusal> {
+fn push_mark(mark: Mark, at: &Spot, out: &mut Vec<u8>) -> Result<(), AllocError> {
     let (class, path) = path_of(mark);
     let parts = [
-        Part::Own("<path class=\""),
-        Part::Own(class),
-        Part::Own("\" d=\"M"),
+        Part::Text("<path class=\""),
+        Part::Text(class),
+        Part::Text("\" d=\"M"),
         Part::Number(at.x),
-        Part::Own(" "),
+        Part::Text(" "),
         Part::Number(at.y),
-        Part::Own(path),
-        Part::Own("\"/>\n"),
+        Part::Text(path),
+        Part::Text("\"/>\n"),
     ];
-    push_parts(&parts, out)
+    push_parts(out, &parts)
 }
 
 /// The class of a mark, and its path relative to its middle.
@@ -223,21 +226,21 @@ fn path_of(mark: Mark) -> (&'static str, &'static str) {
     }
 }
 
-fn push_text(history: &History, text: &Text, out: &mut Vec<u8>) -> Result<(), Refusal> {
+fn push_text(history: &History, text: &Text, out: &mut Vec<u8>) -> Result<(), AllocError> {
     let parts = [
-        Part::Own("<text "),
-        Part::Own(face_words(text.face)),
-        Part::Own(" x=\""),
+        Part::Text("<text "),
+        Part::Text(face_words(text.face)),
+        Part::Text(" x=\""),
         Part::Number(text.at.x),
-        Part::Own("\" y=\""),
+        Part::Text("\" y=\""),
         Part::Number(text.at.y),
-        Part::Own("\" textLength=\""),
+        Part::Text("\" textLength=\""),
         Part::Number(text_width(length_of(history, &text.label))),
-        Part::Own("\" lengthAdjust=\"spacingAndGlyphs\">"),
+        Part::Text("\" lengthAdjust=\"spacingAndGlyphs\">"),
     ];
-    push_parts(&parts, out)?;
+    push_parts(out, &parts)?;
     push_label(history, &text.label, out)?;
-    push_parts(&[Part::Own("</text>\n")], out)
+    push_parts(out, &[Part::Text("</text>\n")])
 }
 
 fn face_words(face: Face) -> &'static str {
@@ -265,15 +268,15 @@ fn length_of(history: &History, label: &Label) -> u64 {
     }
 }
 
-fn push_label(history: &History, label: &Label, out: &mut Vec<u8>) -> Result<(), Refusal> {
+fn push_label(history: &History, label: &Label, out: &mut Vec<u8>) -> Result<(), AllocError> {
     match label {
         Label::Command(place) => push_word(command_word(history, *place), out),
         Label::Heading(heading) => push_word(word_of_heading(*heading), out),
         Label::Access(access) => push_word(letter_of(*access), out),
         Label::Meaning(meaning) => push_word(words_of(*meaning), out),
         Label::Name(name) => push_name(name, out),
-        Label::Number(number) => push_parts(&[Part::Number(*number)], out),
-        Label::Watch(cookie) => push_parts(&[Part::Own("watch "), Part::Number(*cookie)], out),
+        Label::Number(number) => push_parts(out, &[Part::Number(*number)]),
+        Label::Watch(cookie) => push_parts(out, &[Part::Text("watch "), Part::Number(*cookie)]),
         Label::Waiting(waiting) => push_waiting(waiting, out),
     }
 }
@@ -285,23 +288,23 @@ fn command_word(history: &History, place: usize) -> &'static str {
     }
 }
 
-fn push_word(word: &'static str, out: &mut Vec<u8>) -> Result<(), Refusal> {
-    push_parts(&[Part::Own(word)], out)
+fn push_word(word: &'static str, out: &mut Vec<u8>) -> Result<(), AllocError> {
+    push_parts(out, &[Part::Text(word)])
 }
 
-fn push_name(name: &Name, out: &mut Vec<u8>) -> Result<(), Refusal> {
-    push_parts(&[Part::Text(name.as_bytes())], out)
+fn push_name(name: &Name, out: &mut Vec<u8>) -> Result<(), AllocError> {
+    push_parts(out, &[Part::Inert(name.as_bytes())])
 }
 
 /// A text as `gpu 5: 3 to go`.
-fn push_waiting(waiting: &Waiting, out: &mut Vec<u8>) -> Result<(), Refusal> {
+fn push_waiting(waiting: &Waiting, out: &mut Vec<u8>) -> Result<(), AllocError> {
     let parts = [
-        Part::Text(waiting.timeline.as_bytes()),
-        Part::Own(" "),
+        Part::Inert(waiting.timeline.as_bytes()),
+        Part::Text(" "),
         Part::Number(waiting.point),
-        Part::Own(": "),
+        Part::Text(": "),
         Part::Number(waiting.to_go),
-        Part::Own(" to go"),
+        Part::Text(" to go"),
     ];
-    push_parts(&parts, out)
+    push_parts(out, &parts)
 }

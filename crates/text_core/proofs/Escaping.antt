@@ -1,10 +1,10 @@
--- An escaped text, byte by byte.
+-- An inert text, byte by byte.
 use Rattle.std.proofs.Common.{ℕ, zero, suc, ◌≡◌, ◌∙◌, ◌+◌, ◌-◌, ◌*◌, ◌/◌, ◌%◌, ◌<◌, ◌≤◌, ◌==◌, Bool, true, false, ◌&&◌, List, [], ◌∷◌, ◌++◌, ap, refl, length, arith}
 use Rattle.std.specs.List.{list_all}
 use Rattle.std.proofs.lemmas.Bool.Decides.{nat_tests}
 use Rattle.std.proofs.lemmas.List.Folds.{list_all-append}
 use Rattle.std.proofs.lemmas.List.{length-append}
-use Rattle.picture_core.specs.Escape.{are_bytes, byte_text, escaped, escaped_byte, hex_digit, hex_value, is_byte, is_inert, is_marked, is_plain, read}
+use Rattle.text_core.specs.Escape.{are_bytes, byte_text, inert, inert_byte, hex_digit, hex_value, is_byte, is_inert, is_marked, is_plain, read}
 
 inert_letter : (n : ℕ) → 97 ≤ n → n ≤ 122 → is_inert n ≡ true
 inert_letter n low high = grind (arith, nat_tests)
@@ -53,12 +53,12 @@ second_is true q e = e
 second_is false true e = refl
 second_is false false e = e
 
-pub inert_all : (text : List ℕ) → are_bytes text ≡ true → list_all is_inert (escaped text) ≡ true
+pub inert_all : (text : List ℕ) → are_bytes text ≡ true → list_all is_inert (inert text) ≡ true
 inert_all [] bytes = refl
 inert_all (b ∷ text) bytes =
     let here = inert_byte_by (is_plain b) (is_marked b) b refl refl (byte_low b (first_is (is_byte b) (are_bytes text) bytes)) in
     let there = inert_all text (second_is (is_byte b) (are_bytes text) bytes) in
-    list_all-append is_inert (escaped_byte b) (escaped text) ∙ rw (here, there) refl
+    list_all-append is_inert (inert_byte b) (inert text) ∙ rw (here, there) refl
 
 tens : (b : ℕ) → 10 * ((48 + b / 10) - 48) + ((48 + b % 10) - 48) ≡ b
 tens b = omega arith
@@ -83,17 +83,17 @@ read_nothing : (n : ℕ) → read n [] ≡ []
 read_nothing zero = refl
 read_nothing (suc n) = refl
 
-read_all : (text : List ℕ) (n : ℕ) → are_bytes text ≡ true → length (escaped text) ≤ n → read n (escaped text) ≡ text
+read_all : (text : List ℕ) (n : ℕ) → are_bytes text ≡ true → length (inert text) ≤ n → read n (inert text) ≡ text
 read_all [] n bytes enough = read_nothing n
 read_all (b ∷ text) zero bytes enough =
     let some = some_bytes (is_plain b) (is_marked b) b in
-    absurd (omega (arith, length-append (escaped_byte b) (escaped text)))
+    absurd (omega (arith, length-append (inert_byte b) (inert text)))
 read_all (b ∷ text) (suc n) bytes enough =
     let some = some_bytes (is_plain b) (is_marked b) b in
-    let left : length (escaped text) ≤ n = omega (arith, length-append (escaped_byte b) (escaped text)) in
+    let left : length (inert text) ≤ n = omega (arith, length-append (inert_byte b) (inert text)) in
     let low = byte_low b (first_is (is_byte b) (are_bytes text) bytes) in
-    read_byte (is_plain b) (is_marked b) b n (escaped text) refl refl low
+    read_byte (is_plain b) (is_marked b) b n (inert text) refl refl low
     ∙ ap (λ xs. b ∷ xs) (read_all text n (second_is (is_byte b) (are_bytes text) bytes) left)
 
-pub read_back : (text : List ℕ) → are_bytes text ≡ true → read (length (escaped text)) (escaped text) ≡ text
-read_back text bytes = read_all text (length (escaped text)) bytes (omega arith)
+pub read_back : (text : List ℕ) → are_bytes text ≡ true → read (length (inert text)) (inert text) ≡ text
+read_back text bytes = read_all text (length (inert text)) bytes (omega arith)

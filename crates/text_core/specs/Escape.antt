@@ -16,9 +16,12 @@ is_marked b = b == 34 || b == 38 || b == 39 || b == 60 || b == 62
 abbrev pub prints : ℕ → Bool
 prints b = nat_le 32 b && nat_lt b 127
 
--- 92 is the backslash
+-- 92 is the backslash, which begins an escape
+abbrev pub is_literal : ℕ → Bool
+is_literal b = prints b && not (b == 92)
+
 abbrev pub is_plain : ℕ → Bool
-is_plain b = prints b && not (b == 92) && not (is_marked b)
+is_plain b = is_literal b && not (is_marked b)
 
 abbrev pub hex_digit : ℕ → ℕ
 hex_digit d = if nat_lt d 10 then 48 + d else 97 + (d - 10)
@@ -35,12 +38,23 @@ hex_text b = 38 ∷ 35 ∷ 57 ∷ 50 ∷ 59 ∷ 120 ∷ hex_digit (b / 16) ∷ h
 abbrev pub byte_text : Bool → Bool → ℕ → List ℕ
 byte_text plain marked b = if plain then b ∷ [] else if marked then reference b else hex_text b
 
-abbrev pub escaped_byte : ℕ → List ℕ
-escaped_byte b = byte_text (is_plain b) (is_marked b) b
+abbrev pub inert_byte : ℕ → List ℕ
+inert_byte b = byte_text (is_plain b) (is_marked b) b
 
 -- the text as a document has it
-abbrev pub escaped : List ℕ → List ℕ
-escaped text = flat_map escaped_byte text
+abbrev pub inert : List ℕ → List ℕ
+inert text = flat_map inert_byte text
+
+-- a byte as in a literal: itself, or `\x` and its two digits
+abbrev pub literal_byte : ℕ → List ℕ
+literal_byte b = if is_literal b then b ∷ [] else 92 ∷ 120 ∷ hex_digit (b / 16) ∷ hex_digit (b % 16) ∷ []
+
+abbrev pub literal : List ℕ → List ℕ
+literal text = flat_map literal_byte text
+
+-- a byte that prints, and `?` for any other
+abbrev pub noted : ℕ → ℕ
+noted b = if prints b then b else 63
 
 -- no byte that ends a text or starts markup; an ampersand starts a reference
 abbrev pub is_inert : ℕ → Bool

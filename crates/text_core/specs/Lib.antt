@@ -1,0 +1,4 @@
+pub mod Escape
+pub mod JsonPart
+pub mod Number
+pub mod Part
