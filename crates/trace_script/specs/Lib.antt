@@ -1,3 +1,2 @@
-pub mod Part
 pub mod Line
 pub mod Scripted

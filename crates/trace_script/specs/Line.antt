@@ -1,11 +1,12 @@
 -- The lines of a script.
-use Rattle.std.specs.Prelude.{◌≡◌, ℕ, List, ◌++◌, map, take, codes, decimal}
+use Rattle.std.specs.Prelude.{◌≡◌, ℕ, List, ◌∷◌, ◌++◌, map, take, codes, decimal}
 use Rattle.std.specs.List.{flat_map}
+use Rattle.text_core.specs.Escape.{noted}
+use Rattle.text_core.specs.Number.{seconds}
+use Rattle.trace_script.specs.declared.line.File.{File}
 use Rattle.trace_script.specs.declared.line.Line.{Line}
 use Rattle.trace_script.specs.declared.line.Line.TheVariants as line
-use Rattle.trace_script.specs.declared.part.TheConstants.{NOTED_BYTES}
-use Rattle.trace_core.specs.Text.{seconds}
-use Rattle.trace_script.specs.Part.{file_name, noted}
+use Rattle.trace_script.specs.declared.line.TheConstants.{NOTED_BYTES}
 
 -- what a line says, with the bytes of its names
 pub data Said : Type 0 where
@@ -21,6 +22,13 @@ said (line.Fence file point) = Fence file.timeline.now file.context file.seqno p
 said (line.Signal name) = Signal name.now
 said (line.Close file) = Close file.timeline.now file.context file.seqno
 said (line.Wait file task pid time) = Wait file.timeline.now file.context file.seqno task.now pid time
+
+-- the name of a fence's file: its timeline's, its context and its seqno, with points between
+abbrev pub file_name : List ℕ → ℕ → ℕ → List ℕ
+file_name timeline context seqno = timeline ++ 46 ∷ (decimal context ++ 46 ∷ decimal seqno)
+
+abbrev pub file_text : File → List ℕ
+file_text file = file_name file.timeline.now file.context file.seqno
 
 -- the first bytes of a name of the trace, in a note
 abbrev pub name_noted : List ℕ → List ℕ

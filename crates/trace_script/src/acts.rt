@@ -1,4 +1,6 @@
-// What happened in a window, act by act.
+//! `Acts`: what happened in a window, act by act, before points are known. A fence's point depends on how many fences of its
+//! timeline are signalled before it, so the lines are written only when the window is over.
+
 use crate::safe_names::SafeNames;
 use indexmap::IndexMap;
 use line_core::SCRIPT_BYTES;
@@ -67,7 +69,7 @@ pub(crate) struct Acts {
 }
 
 impl Acts {
-    /// Nothing happened. It takes no memory.
+    /// Nothing happened. Does not allocate.
     pub(crate) fn new(alloc: Global) -> Acts {
         Acts {
             names: SafeNames::new(alloc),
@@ -95,7 +97,7 @@ impl Acts {
         Ok(())
     }
 
-    /// Takes in what is known of the key after one of its events.
+    /// Takes in `life`, the key's state after one of its events.
     ///
     /// Fails only with `Memory`.
     pub(crate) fn see(

@@ -1,11 +1,10 @@
-//! What a trace shows, as a script: its fences are made, signalled and closed as they were in the kernel, within a window of time.
+//! A trace as a script: its fences are made, signalled and closed as they were in the kernel, within a window of time.
 //!
-//! A script ends with the same fences pending as the window of the trace.
+//! At the script's end the fences that are pending are those at the end of the window. `fencectl trace --script` calls it.
 #![tactic(auto)]
 
 mod acts;
 mod line;
-mod part;
 mod safe_names;
 mod text;
 

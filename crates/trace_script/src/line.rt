@@ -1,9 +1,21 @@
-// The lines of a script.
-ghost use Rattle.std.specs.Prelude.{◌≡◌, ◌++◌, OnOk};
-ghost use Rattle.trace_script.specs.Line.{line_text, said};
+//! `Line`: a line of the script, with its text by `specs/Line.antt`. `Text` adds the lines in the order of the acts.
+ghost use Rattle.std.specs.Prelude.{◌≡◌, ◌++◌, OnOk, take};
+ghost use Rattle.text_core.specs.Part.{text_of};
+ghost use Rattle.trace_script.specs.Line.{file_text, line_text, said};
 
-use crate::part::{File, Part, push_parts};
 use std::alloc::AllocError;
+use text_core::{Part, push_parts};
+
+/// The bytes of a name that a note has, so that its line is short enough.
+const NOTED_BYTES: usize = 64;
+
+/// A fence's file. Its name is made of its timeline's name in the script, its context and its seqno.
+#[derive(Clone, Copy)]
+pub(crate) struct File<'a> {
+    pub(crate) timeline: &'a [u8],
+    pub(crate) context: u32,
+    pub(crate) seqno: u32,
+}
 
 /// A line of a script.
 #[derive(Clone, Copy)]
@@ -38,21 +50,21 @@ pub(crate) fn push_line(text: &mut Vec<u8>, line: &Line<'_>) -> Result<(), Alloc
             text,
             &[
                 Part::Text("# "),
-                Part::Noted(driver),
+                Part::Noted(front(driver)),
                 Part::Text("/"),
-                Part::Noted(raw),
+                Part::Noted(front(raw)),
                 Part::Text("\ntimeline "),
-                Part::Name(name),
+                Part::Bytes(name),
                 Part::Text("\n"),
             ],
         ),
-        Line::Fence(file, point) => push_parts(
+        Line::Fence(file, point) => push_around(
             text,
+            &[Part::Text("fence ")],
+            file,
             &[
-                Part::Text("fence "),
-                Part::File(*file),
                 Part::Text(" "),
-                Part::Name(file.timeline),
+                Part::Bytes(file.timeline),
                 Part::Text(" "),
                 Part::Number(*point),
                 Part::Text("\n"),
@@ -60,30 +72,67 @@ pub(crate) fn push_line(text: &mut Vec<u8>, line: &Line<'_>) -> Result<(), Alloc
         ),
         Line::Signal(name) => push_parts(
             text,
-            &[Part::Text("inc "), Part::Name(name), Part::Text(" 1\n")],
+            &[Part::Text("inc "), Part::Bytes(name), Part::Text(" 1\n")],
         ),
-        Line::Close(file) => push_parts(
-            text,
-            &[Part::Text("close "), Part::File(*file), Part::Text("\n")],
-        ),
+        Line::Close(file) => push_around(text, &[Part::Text("close ")], file, &[Part::Text("\n")]),
         Line::Wait {
             file,
             task,
             pid,
             time,
-        } => push_parts(
+        } => push_around(
             text,
             &[
                 Part::Text("# "),
                 Part::Seconds(*time),
                 Part::Text(" "),
-                Part::Noted(task),
+                Part::Noted(front(task)),
                 Part::Text("-"),
                 Part::Number(u64::from(*pid)),
                 Part::Text(" waits for "),
-                Part::File(*file),
-                Part::Text("\n"),
             ],
+            file,
+            &[Part::Text("\n")],
         ),
+    }
+}
+
+/// Adds the parts before the name of a file, the name, and the parts after it.
+fn push_around(
+    text: &mut Vec<u8>,
+    before: &[Part<'_>],
+    file: &File<'_>,
+    after: &[Part<'_>],
+) -> Result<(), AllocError>
+    ensures added { OnOk result (text.new.items ≡
+        text.old.items ++ (text_of before.now ++ (file_text file.now ++ text_of after.now))) }
+{
+    push_parts(text, before)?;
+    push_file(text, file)?;
+    push_parts(text, after)?;
+    Ok(())
+}
+
+fn push_file(text: &mut Vec<u8>, file: &File<'_>) -> Result<(), AllocError>
+    ensures added { OnOk result (text.new.items ≡ text.old.items ++ file_text file.now) }
+{
+    let parts = [
+        Part::Bytes(file.timeline),
+        Part::Text("."),
+        Part::Number(u64::from(file.context)),
+        Part::Text("."),
+        Part::Number(u64::from(file.seqno)),
+    ];
+    push_parts(text, &parts)
+}
+
+/// The bytes of a name that a note has.
+fn front(name: &[u8]) -> &[u8]
+    ensures front { result.now ≡ take NOTED_BYTES name.now }
+{
+    if name.len() > NOTED_BYTES {
+        &name[..NOTED_BYTES]
+    } else {
+        name
     }
 }

@@ -1,8 +1,10 @@
-// Names that a script may hold, for timelines.
+//! `SafeNames`: a name of the script for each timeline of the trace. No two timelines have the same name, and each name is valid.
+
 use indexmap::{IndexMap, IndexSet};
 use point_core::Refusal;
-use std::alloc::Global;
-use trace_core::{TimelineKey, push_number};
+use std::alloc::{AllocError, Global};
+use text_core::{Part, push_parts};
+use trace_core::TimelineKey;
 
 /// The bytes that a timeline's name has at most, so that a file's name has room for a context and a seqno after it.
 pub(crate) const SAFE_BYTES: usize = 9;
@@ -17,7 +19,7 @@ pub(crate) struct SafeNames {
 }
 
 impl SafeNames {
-    /// None. It takes no memory.
+    /// No names. Does not allocate.
     pub(crate) fn new(alloc: Global) -> SafeNames {
         SafeNames {
             by_key: IndexMap::new(alloc),
@@ -25,13 +27,13 @@ impl SafeNames {
         }
     }
 
-    /// The timeline of that place.
+    /// The timeline at `place`.
     pub(crate) fn key(&self, place: usize) -> Option<&TimelineKey> {
         let (key, _) = self.by_key.get_index(place)?;
         Some(key)
     }
 
-    /// The name of that place.
+    /// The name at `place`.
     pub(crate) fn name(&self, place: usize) -> &[u8] {
         match self.names.get_index(place) {
             Some(name) => name.as_slice(),
@@ -62,7 +64,7 @@ impl SafeNames {
         Ok(place)
     }
 
-    /// The first bytes of the name, or where another timeline has that, `t` and a number.
+    /// The first bytes of the name, or `t` and a number if another timeline has them.
     fn free_name(&self, alloc: Global, raw: &[u8]) -> Result<Vec<u8>, Refusal> {
         let name = safe(alloc, raw)?;
         if !name.is_empty() && !self.names.contains(name.as_slice()) {
@@ -78,29 +80,24 @@ impl SafeNames {
     }
 }
 
-/// The first bytes of a name, with `_` for what no name of a script may hold.
-fn safe(alloc: Global, raw: &[u8]) -> Result<Vec<u8>, Refusal> {
+/// The first bytes of a name, with `_` for each byte that no name of a script may hold.
+fn safe(alloc: Global, raw: &[u8]) -> Result<Vec<u8>, AllocError> {
     let mut name = Vec::new(alloc);
     for byte in raw {
         if name.len() < SAFE_BYTES {
-            push(&mut name, if is_safe(*byte) { *byte } else { b'_' })?;
+            name.push(if is_safe(*byte) { *byte } else { b'_' })?;
         }
     }
     Ok(name)
 }
 
-fn numbered(alloc: Global, number: u32) -> Result<Vec<u8>, Refusal> {
+fn numbered(alloc: Global, number: u32) -> Result<Vec<u8>, AllocError> {
     let mut name = Vec::new(alloc);
-    push(&mut name, b't')?;
-    push_number(&mut name, u64::from(number))?;
+    push_parts(
+        &mut name,
+        &[Part::Text("t"), Part::Number(u64::from(number))],
+    )?;
     Ok(name)
-}
-
-fn push(name: &mut Vec<u8>, byte: u8) -> Result<(), Refusal> {
-    match name.push(byte) {
-        Ok(()) => Ok(()),
-        Err(_) => Err(Refusal::Memory),
-    }
 }
 
 fn is_safe(byte: u8) -> bool {

@@ -1,12 +1,14 @@
-// A script of a trace.
+//! A script of a trace: reads the window, then writes what happened in it, line by line.
+//!
+//! The script is text, since it is what a user saves and runs; `IsScripted` says that it has only lines of known forms and is
+//! within the limit of scripts. `fencectl trace --script` and `--draw` call it.
 ghost use Rattle.std.specs.Prelude.{◌≡◌, ◌≤◌, false, length, IfOk, OnOk};
 ghost use Rattle.line_core.specs.declared.script.TheConstants.{SCRIPT_BYTES};
 ghost use Rattle.trace_script.specs.Line.{AreLines};
 ghost use Rattle.trace_script.specs.Scripted.{IsScripted};
 
 use crate::acts::{Act, Acts, Fence};
-use crate::line::{Line, push_line};
-use crate::part::File;
+use crate::line::{File, Line, push_line};
 use line_core::SCRIPT_BYTES;
 use point_core::{CONTEXTS, Refusal};
 use std::alloc::{AllocError, Global};
@@ -14,7 +16,7 @@ use std::io::Read;
 use syncfile_core::FILES;
 use trace_core::{Event, Next, Reading, Seen, Span, Tracker};
 
-/// What a trace gave.
+/// The result of a trace.
 #[derive(Drop)]
 pub enum Scripted {
     /// A script.

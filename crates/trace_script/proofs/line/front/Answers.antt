@@ -1,7 +1,7 @@
 use Rattle.std.proofs.Common.{◌≤◌, sym, length, length-take, arith}
 use Rattle.std.proofs.lemmas.Bool.Decides.{nat_tests}
 use Rattle.std.proofs.lemmas.List.{take_all}
-use Rattle.trace_script.proofs.part.front.Goals as goal
+use Rattle.trace_script.proofs.line.front.Goals as goal
 
 pub slice_bounds-result-end : goal.slice_bounds-result-end
 slice_bounds-result-end c = omega (arith, c.if-name-gt-NOTED_BYTES.true, length-take 64 c.args.name.now)
