@@ -206,6 +206,7 @@ static void buffer_tests(bim_desk *desk)
     EXPECT(flag, 1);
     flag = KEPT;
     EXPECT(bim_test(desk, "B", 4, &flag), BIM_FLAGS);
+    EXPECT(bim_test(desk, "B", -1, &flag), BIM_FLAGS);
     EXPECT(bim_test(desk, "C", BIM_READ, &flag), BIM_NO_ENTRY);
     EXPECT(bim_test(desk, "?", BIM_READ, &flag), BIM_SYNTAX);
     EXPECT(flag, KEPT);
