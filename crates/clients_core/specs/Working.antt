@@ -44,7 +44,7 @@ HaveWorked puts exports words number (plan ∷ plans) [] = ⊥
 HaveWorked puts exports words number (plan ∷ plans) (c ∷ cs) =
     HasWorked puts exports words number plan c × HaveWorked puts exports words (number + 1) plans cs
 
--- all steps of a client: those of its driver, and its puts and looks
+-- all steps of a client: its driver's steps, and its puts and looks
 abbrev pub steps_of : ClientModel → List Step
 steps_of client = client.driver.seat.trace ++ client.seat.trace
 

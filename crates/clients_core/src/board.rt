@@ -1,4 +1,5 @@
-// `Board`: the lock-free `SharedTable`, one max-register per (buffer, context, usage).
+//! `Board`: the lock-free `SharedTable`, one max-register per (buffer, context, usage). The words keep each register's
+//! rule, so a board has only their identity. `run_clients` runs clients on it.
 ghost use Rattle.std.specs.Prelude.{◌≡◌, ◌<◌, ◌≤◌, ◌⊎◌, ◌↔◌, true, All, Ok, Err, IfErr, IfOk, IsOk, List, OnErr, OnOk};
 ghost use Rattle.point_core.specs.declared.context.TheConstants.{CONTEXTS};
 ghost use Rattle.point_core.specs.declared.entry.Entry.{Entry};
@@ -37,7 +38,7 @@ impl Model for Board {
 }
 
 impl Board {
-    /// Puts a fence into a buffer, by one raise of its place. It takes no memory and is never refused.
+    /// Puts a fence into a buffer, by one raise of its register. It does not allocate and is never refused.
     pub fn put(
         &self,
         words: &Words,

@@ -1,4 +1,5 @@
-// One client: its acts, in order.
+//! Runs the acts of one client, in order. Each look is compared with the client's own earlier puts (`OwnPuts`). A
+//! worker calls `act_all` with the client's driver and a seat for its puts and looks.
 ghost use Rattle.std.specs.Prelude.{◌≡◌, ◌+◌, ◌^◌, ◌<◌, ◌≤◌, ◌⊎◌, ◌++◌, ◌∷◌, [], length, All, IfErr, OnOk, List, Result};
 ghost use Rattle.point_core.specs.declared.entry.Entry.{Entry};
 ghost use Rattle.point_core.specs.declared.listing.Listing.{Listing};

@@ -1,4 +1,5 @@
-// Clients on threads against shared buffers.
+//! `run_clients`: checks the plans, runs a client for each of them, and settles the table. It returns Ok only if the
+//! table is the plans' in every schedule. `fencectl clients` calls it.
 ghost use Rattle.std.specs.Prelude.{◌≡◌, ◌⊎◌, ℕ, ◌<◌, ◌≤◌, map, length, None, ◌↔◌, IsTrue, IfErr, IfOk, IfSome};
 ghost use Rattle.std.specs.List.{range_with_len};
 ghost use Rattle.point_core.specs.declared.context.TheConstants.{CONTEXTS};

@@ -1,4 +1,5 @@
-// What plans put into a buffer.
+//! The entries that all plans put into a buffer, as a list. `LockedTable::settle` compares them with a buffer's
+//! journal.
 ghost use Rattle.std.specs.Prelude.{◌≡◌, ◌++◌, All, IfErr, IfOk, OnOk};
 ghost use Rattle.point_core.specs.declared.refusal.Refusal.TheVariants as refusal;
 ghost use Rattle.resv_core.specs.Rounds.{IsInRange, round_of};

@@ -1,4 +1,5 @@
-// `Gate`: the caller's hook before and after each act.
+//! `Gate`: the caller's hook before and after each act. Tests order the acts of threads with it; `OpenGate` orders
+//! nothing.
 ghost use Rattle.std.specs.Prelude.{◌≡◌, true};
 
 /// Is called before and after every act of every client. Clients are numbered from 1, and the acts of each from 0.

@@ -1,4 +1,5 @@
-// The values that a seat with all parts knows.
+//! The values that a seat with all parts knows exactly. Both tables settle with them, and `run_clients` compares them
+//! with the plans' increments.
 ghost use Rattle.std.specs.Prelude.{◌≡◌, ℕ, ◌<◌, ◌≤◌, ◌↔◌, map, IfErr, IfOk, IsTrue, OnErr};
 ghost use Rattle.std.specs.List.{range_with_len};
 ghost use Rattle.point_core.specs.declared.context.TheConstants.{CONTEXTS};

@@ -1,4 +1,4 @@
-// Listings that are kept for many looks.
+//! Reuse of a listing's memory: a client fills one listing for all of its looks. Both tables call `taken`.
 ghost use Rattle.std.specs.Prelude.{◌≡◌, []};
 
 use point_core::{Items, Point};

@@ -1,4 +1,6 @@
-// A buffer, as the data of its lock.
+//! `LockedBuffer`: a buffer as the data of its lock. Its entries agree above its floor with the journal of all puts;
+//! each call raises the floor to the caller's reach first, and refuses a lower reach. `LockedTable` keeps one for each
+//! buffer.
 ghost use Rattle.std.specs.Prelude.{◌≡◌, ◌⊎◌, ◌++◌, ◌∷◌, [], Ok, Err, IfErr, IfOk, IsErr, OnErr, OnOk, ◌↔◌, replicate};
 ghost use Rattle.point_core.specs.declared.context.TheConstants.{CONTEXTS};
 ghost use Rattle.point_core.specs.declared.refusal.Refusal.TheVariants as refusal;

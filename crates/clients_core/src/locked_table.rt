@@ -1,4 +1,5 @@
-// Buffers that clients share, each under a lock of its own.
+//! `LockedTable`: the `SharedTable` of buffers that are each under a lock of its own. It has as many buffers as the
+//! words that it was made for. `run_clients` runs clients on it.
 ghost use Rattle.std.specs.Prelude.{◌≡◌, ◌⊎◌, ◌++◌, ◌∷◌, [], vec_len, IfErr, IfOk, OnErr, OnOk};
 ghost use Rattle.point_core.specs.Agreement.{AllAbove, HasRisingContexts, listing as pending_of};
 ghost use Rattle.point_core.specs.declared.refusal.Refusal.TheVariants as refusal;

@@ -1,4 +1,5 @@
-// A client's own puts into a buffer, which its looks there must show.
+//! `OwnPuts`: the latest points that a client has put into one buffer, by context and usage. `client.rt` enters each
+//! put, and asks before each look returns whether the look shows them.
 ghost use Rattle.std.specs.Prelude.{◌≡◌, ℕ, ◌+◌, ◌*◌, ◌<◌, ◌≤◌, ◌↔◌, ◌++◌, ◌∷◌, [], true, All, List, IsTrue, length, IfErr, IfOk, vec_len};
 ghost use Rattle.std.specs.List.{list_any};
 ghost use Rattle.point_core.specs.declared.context.TheConstants.{CONTEXTS};

@@ -1,4 +1,4 @@
-// The tables that plans come to.
+//! The latest points that all plans put into a buffer, as `Tops`. `Board::settle` compares them with what was raised.
 ghost use Rattle.std.specs.Prelude.{All};
 ghost use Rattle.point_core.specs.Agreement.{HasContexts};
 ghost use Rattle.resv_core.specs.Rounds.{IsInRange, round_of};

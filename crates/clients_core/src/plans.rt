@@ -1,4 +1,5 @@
-// Which plans clients are started with.
+//! `check_plans`: all refusals of plans that come before any thread starts, in their order. Afterwards every act is on
+//! a context and a buffer of the words, and no increment overflows. `run_clients` calls it first.
 ghost use Rattle.std.specs.Prelude.{◌≡◌, true, ◌^◌, ◌<◌, ◌≤◌, ◌↔◌, nat_lt, nat_le, length, None, Some, IfErr, IfSome, IsSome, OnOk};
 ghost use Rattle.std.specs.List.{list_all};
 ghost use Rattle.point_core.specs.declared.limits.TheConstants.{BUFFERS};

@@ -1,4 +1,5 @@
-// What was raised on a board, beside what plans put in.
+//! The latest points that were raised on a board, as a seat with all parts knows them. `Board::settle` compares them
+//! with the plans' puts and makes its tables from them.
 ghost use Rattle.std.specs.Prelude.{◌≡◌, ◌<◌, ◌≤◌, ◌↔◌, ℕ, ◌∷◌, [], IfErr, IfOk, IsTrue, map};
 ghost use Rattle.std.specs.List.{range_with_len};
 ghost use Rattle.point_core.specs.declared.refusal.Refusal.TheVariants as refusal;

@@ -1,4 +1,5 @@
-// The plans of clients that do the same in each of many rounds.
+//! `plans_of_rounds`: the plans of clients that do the same acts in each of many rounds. `check_plans` accepts them.
+//! `fencectl clients` runs them.
 ghost use Rattle.std.specs.Prelude.{◌≡◌, ◌+◌, ◌<◌, ◌≤◌, None, IfErr, IfOk};
 ghost use Rattle.point_core.specs.declared.refusal.Refusal.TheVariants as refusal;
 ghost use Rattle.clients_core.specs.Plans.{cause_to_refuse_plans, settled_of};

@@ -1,4 +1,5 @@
-// The first plan on the calling thread, and a thread for each other.
+//! `work_all`: runs the first plan on the calling thread and each other plan on a thread of its own. Every worker gives
+//! back both of its seats, as its `Loan` promises, so all parts are there again at the end. `run_clients` calls it.
 ghost use Rattle.std.specs.Prelude.{◌≡◌, ◌+◌, ◌*◌, ◌^◌, ◌<◌, ◌≤◌, [], length, All, IfErr, IfOk, OnOk, vec_len, vec_capacity};
 ghost use Rattle.point_core.specs.declared.refusal.Refusal.TheVariants as refusal;
 ghost use Rattle.words_core.specs.Seat.{both_of};

@@ -32,7 +32,7 @@ pub record HasGathered (es : List (ℕ × Watch)) (reach : List ℕ) (registrati
   pub still : (r : ℕ) → IsReported es reach fired r → IsReported es reach more r
   pub reported : IsReported es reach more registration
 
--- the cookies are those of the watches that stand in the context at or below its value and fire, in order of registration
+-- the cookies of the watches that are indexed in the context at or below its value and fire, in order of registration
 pub record AreFiredIn (ctx : ℕ) (index : List (List Standing)) (es : List (ℕ × Watch)) (reach : List ℕ)
     (cookies : List ℕ) : Type 0 where
   pub fired : List (ℕ × ℕ)

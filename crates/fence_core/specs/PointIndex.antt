@@ -24,7 +24,7 @@ standing_of k = record { value = k.value; registration = k.registration }
 abbrev pub is_alike : Standing → Standing → Bool
 is_alike a b = nat_eq a.value b.value && nat_eq a.registration b.registration
 
--- whether it is among those of one context
+-- whether it is in the queue of one context
 abbrev pub has : List Standing → Standing → Bool
 has queue s = list_any (is_alike s) queue
 
@@ -32,12 +32,12 @@ has queue s = list_any (is_alike s) queue
 abbrev pub is_low : ℕ → Standing → Bool
 is_low value s = nat_le s.value value
 
--- the watches that stand in a context
+-- the queue of a context
 abbrev pub queue_at : List (List Standing) → ℕ → List Standing
 queue_at queues zero = []
 queue_at queues (suc place) = slice_index_or queues place []
 
--- whether a watch stands at the point
+-- whether a watch is indexed at the point
 abbrev pub holds : List (List Standing) → WaitingPoint → Bool
 holds queues k = has (queue_at queues k.ctx) (standing_of k)
 
@@ -78,11 +78,11 @@ order a b = ordering_then (nat_cmp a.value b.value) (nat_cmp a.registration b.re
 abbrev pub StandsBefore : Standing → Standing → Type 0
 StandsBefore a b = (a.value < b.value) ⊎ ((a.value ≡ b.value) × (a.registration < b.registration))
 
--- the last in that order comes first, and none stands twice
+-- the last in that order comes first, and no watch comes twice
 abbrev pub IsFalling : List Standing → Type 0
 IsFalling queue = AllPairs (λ a b. StandsBefore b a) queue
 
--- where a watch belongs: after those that it stands before, and after no others
+-- the place of a watch: after those that it precedes, and after no others
 pub record IsPlaceOf (watch : Standing) (place : ℕ) (queue : List Standing) : Type 0 where
   pub within : place ≤ length queue
   pub over : (k : ℕ) (d : Standing) → k < place → StandsBefore watch (slice_index_or queue k d)
@@ -92,6 +92,6 @@ pub record IsPlaceOf (watch : Standing) (place : ℕ) (queue : List Standing) : 
 abbrev pub StandsAt : Standing → ℕ → List Standing → Type 0
 StandsAt watch place queue = (place < length queue) × (slice_index_or queue place watch ≡ watch)
 
--- they stand in that order, and none twice
+-- the watches are in that order, and none comes twice
 abbrev pub IsRising : List Standing → Type 0
 IsRising queue = IsStrictlySortedBy order queue

@@ -1,4 +1,4 @@
--- What watches keep: the pending ones by registration, by cookie the point at which each stands, and these points.
+-- The parts of `Watches`: the pending watches by registration, each watch's point by its cookie, and the index of points.
 use Rattle.std.specs.Prelude.{◌≡◌, ℕ, ◌<◌, nat_eq, Bool, true, false, if◌then◌else◌, List, [], ◌∷◌, Option, None, Some}
 use Rattle.std.specs.List.{AllByRecursion}
 use Rattle.std.specs.List.Sorted.{IsStrictlySortedBy}
@@ -17,7 +17,7 @@ abbrev pub registration_of : ℕ → List (ℕ × Watch) → Option ℕ
 registration_of cookie [] = None
 registration_of cookie (e ∷ es) = if is_for cookie e.1 then Some e.0 else registration_of cookie es
 
--- where the watch of that cookie stands
+-- the indexed point of the cookie's watch
 abbrev pub place_at : Places → ℕ → Option WaitingPoint
 place_at places cookie = lookup (nat_eq cookie) places.by_cookie.entries
 

@@ -6,7 +6,7 @@ use Rattle.std.specs.Ordering.{nat_cmp}
 use Rattle.fence_core.specs.Watch.{Watch}
 use Rattle.fence_core.specs.Watches.{fires}
 
--- what stands at the number
+-- the entry of the registration
 abbrev pub at : {X : Type 0} → List (ℕ × X) → ℕ → Option X
 at es r = lookup (is_at (nat_cmp r)) es
 

@@ -36,7 +36,7 @@ pub record HasFound (p : Point) (before after : SeatModel) : Type 0 where
   pub closing : KeepsClosing before after p.ctx
   pub reached : p.value ≤ reached_by clock
 
--- so was that of each of the points, one after another, and no other step was made
+-- the clock of each point was loaded and had reached it, one after another, and no other step was made
 abbrev pub HaveFound : List Point → SeatModel → SeatModel → Type 0
 HaveFound [] before after = after ≡ before
 HaveFound (p ∷ ps) before after = (seat : SeatModel) × HasFound p before seat × HaveFound ps seat after

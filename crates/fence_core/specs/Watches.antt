@@ -21,11 +21,11 @@ has_watch ws cookie = list_any (is_for cookie) ws.pending
 abbrev pub with_watch : Registry → ℕ → List Point → List ℕ → Registry
 with_watch ws cookie points reach = registry_of (ws.pending ++ watch_of cookie points ∷ []) (ws.made + 1) reach
 
--- all but that of the cookie
+-- all watches but the cookie's
 abbrev pub without_watch : Registry → ℕ → Registry
 without_watch ws cookie = registry_of (filter (λ w. not (is_for cookie w)) ws.pending) ws.made ws.reach
 
--- all but those of the cookies
+-- all watches but the cookies'
 abbrev pub without_watches : Registry → List ℕ → Registry
 without_watches ws cookies =
     registry_of (filter (λ (w : Watch). not (list_any (nat_eq w.cookie) cookies)) ws.pending) ws.made ws.reach

@@ -1,4 +1,5 @@
-// The callbacks of one fence.
+//! `CallbackList`: the callbacks of one fence, by registration, without repeats and at most `CALLBACKS`. Once they have
+//! been handed out, the list stays empty and accepts nothing more. `SharedFence` keeps its list under a lock.
 ghost use Rattle.std.specs.Prelude.{◌≡◌, ◌≤◌, nat_eq, vec_len, [], Ok, OnOk, OnErr};
 ghost use Rattle.std.specs.List.{IsDistinct, list_any};
 ghost use Rattle.point_core.specs.Refusal.{IsRefusedFor};
@@ -35,7 +36,7 @@ impl Model for CallbackList {
 }
 
 impl CallbackList {
-    /// Held, with no callbacks. It takes no memory yet, so it is never refused.
+    /// Held, with no callbacks. It does not allocate, so it is never refused.
     pub fn new(alloc: Global) -> Result<CallbackList, Refusal>
         ensures { result ≡ Ok (Held []) }
     {

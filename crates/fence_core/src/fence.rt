@@ -1,4 +1,5 @@
-// A fence, and several fences as one.
+//! `Fence`: the stub, one point, or an array of at least two points by rising context. `Fence::of` makes every fence,
+//! so the contexts always rise. `Watches` and `SharedFence` keep one for each watch, or for each shared fence.
 ghost use Rattle.std.specs.Prelude.{◌≡◌, ◌<◌, ◌≤◌, ◌↔◌, true, false, length, IfOk, IfErr, IsOk, IfSome, IfNone, IsTrue};
 ghost use Rattle.point_core.specs.declared.refusal.Refusal.TheVariants.{Memory};
 ghost use Rattle.point_core.specs.Agreement.{HasRisingContexts};
@@ -30,7 +31,7 @@ impl Model for FenceArray {
     ghost invariant = { λ a. (2 ≤ length a.points.items) × HasRisingContexts a.points.items };
 }
 
-/// What a sync file stands for and a watch waits for, as Linux's `struct dma_fence`: the stub, which is signalled from
+/// A fence, as Linux's `struct dma_fence`, which a sync file has and a watch waits for: the stub, which is signalled from
 /// the start, one point, or an array.
 #[derive(Debug, Drop)]
 pub enum Fence {

@@ -1,4 +1,5 @@
-//! What holds of every run of calls on watches: each law is the contract of a function with an empty body.
+//! Theorems about every run of calls on watches: each law is the contract of a function with an empty body, which no
+//! caller runs.
 ghost use Rattle.std.specs.Prelude.{◌≡◌, ℕ, nat_eq, true, false, List, Contains};
 ghost use Rattle.std.specs.List.{IsDistinct};
 ghost use Rattle.point_core.specs.declared.entry.Point.{Point};

@@ -1,4 +1,5 @@
-// A fence that threads share.
+//! `SharedFence`: a fence that threads signal concurrently. Its points and its flag are among the words that it was
+//! made for; the token `Won` of that flag lets one call hand out the callbacks. Users of the library call it.
 ghost use Rattle.std.specs.Prelude.{◌≡◌, ◌<◌, ◌≤◌, true, false, nat_eq, vec_len, IfOk, IfErr};
 ghost use Rattle.fence_core.specs.declared.callback_list.TheConstants.{CALLBACKS};
 ghost use Rattle.std.specs.List.{IsDistinct};
@@ -58,7 +59,7 @@ pub enum Signal {
 impl SharedFence {
     /// A fence of these points, with a list that holds no callbacks. It reads none of the words.
     ///
-    /// Fails with `Foreign` if a context is past those of the words, and with `Memory`.
+    /// Fails with `Foreign` if the words lack a context, and with `Memory`.
     pub fn new(
         alloc: Global,
         words: &Words,
@@ -84,7 +85,7 @@ impl SharedFence {
     /// Loads the clocks of its contexts by rising number, up to the first whose point is pending; no point of a closed
     /// context is. If none is, it sets the flag by one test-and-set, as Linux's `dma_fence_signal` does.
     ///
-    /// Takes no memory and no lock.
+    /// Neither allocates nor locks.
     pub fn signal(&self, words: &Words, seat: &mut Seat) -> Signal
         requires own { words.now ≡ self.now.words }
         requires seat { seat.old.words ≡ words.now }

@@ -1,4 +1,8 @@
-// Callbacks that wait for fences.
+//! `Watches`: callbacks that fire once their fence is signalled, as Linux's `dma_fence_add_callback`. The desk keeps
+//! one registry and calls `register`, `remove` and, before each rise, `after_inc`.
+//!
+//! The registry stores each pending watch once, its point in `places` once by cookie, and that point in `index` once by
+//! context. While `is_settled`, every point of the index is above the kept reach.
 ghost use Rattle.std.specs.Prelude.{◌≡◌, ◌↔◌, ◌≤◌, [], Ok, Err, IfOk, IfErr, OnOk, OnErr, IsOk, MatchOption, IsTrue, false, replicate};
 ghost use Rattle.point_core.specs.declared.context.TheConstants.{CONTEXTS};
 ghost use Rattle.std.specs.List.{list_any};
@@ -66,7 +70,7 @@ impl Model for Watches {
 }
 
 impl Watches {
-    /// No watches. It takes no memory yet, so it is never refused.
+    /// No watches. It does not allocate, so it is never refused.
     pub fn new(alloc: Global) -> Result<Watches, Refusal>
         ensures { result ≡ Ok no_watches }
     {
@@ -139,7 +143,7 @@ impl Watches {
     /// Whether a watch of that cookie may be registered: `Exists` if one is pending, `Limit` if `WATCHES` are
     /// pending or `WATCHES_EVER` were registered.
     ///
-    /// Takes no memory.
+    /// Does not allocate.
     pub fn free(&self, cookie: u64) -> Result<(), Refusal>
         ensures { MatchOption (cause_to_refuse self.now cookie) (IsOk result) (λ cause. result ≡ Err cause) }
     {
@@ -193,8 +197,8 @@ impl Watches {
         Ok(cookies)
     }
 
-    /// As `after_rise`, to the last reach that was handed in, with the point reached too. If no watch stands at or below
-    /// the point in its context, nothing else is looked at.
+    /// As `after_rise`, to the last reach that was handed in, with the point reached too. If no watch of its context is
+    /// indexed at or below the point, it looks at nothing else.
     ///
     /// Fails only with `Memory`, and only when a watch fires; then none has fired, and nothing has changed.
     #[inline(always)]
@@ -213,7 +217,7 @@ impl Watches {
         self.after_rise_of(&point)
     }
 
-    /// As `after_inc`, when a watch may stand at or below the point in its context.
+    /// Slow path of `after_inc`: a watch may be indexed at or below the point.
     #[inline(never)]
     fn after_rise_of(&mut self, point: &Point) -> Result<Vec<u64>, Refusal>
         ensures fired { IfOk result (λ cookies. cookies.items ≡ fired_by self.old (reaching self.old.reach point.now)) }
@@ -284,7 +288,7 @@ impl Watches {
         }
     }
 
-    /// Keeps the reach, at which no watch fires, and moves on the watches that stand at or below it.
+    /// Keeps the reach, at which no watch fires, and moves each watch that is indexed at or below it to a point above.
     fn rise_to(&mut self, reach: &Reach)
         requires rises { IsAtLeast reach.now self.old.reach }
         requires none_fires { list_any (fires reach.now) self.old.pending ≡ false }
@@ -295,7 +299,7 @@ impl Watches {
         self.reach.copy_from(reach);
     }
 
-    /// The same at the last reach with the point reached too.
+    /// As `rise_to`, to the kept reach with the point reached too. It looks at the point's context only.
     fn rise_in_one_context(&mut self, point: &Point)
         requires none_fires { list_any (fires (reaching self.old.reach point.now)) self.old.pending ≡ false }
         ensures { self.new ≡ registry_of self.old.pending self.old.made (reaching self.old.reach point.now) }

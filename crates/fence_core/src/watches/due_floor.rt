@@ -1,4 +1,5 @@
-// Values below all points at which watches stand.
+//! `DueFloor`: for each context a value below every indexed point. `PointIndex` lowers it for a new point, and raises
+//! it when it looks at the context.
 ghost use Rattle.std.specs.Prelude.{◌≡◌, ◌^◌, ◌+◌, ◌-◌, ◌<◌, ◌≤◌, ◌↔◌, IsTrue, min, replicate};
 ghost use Rattle.point_core.specs.declared.context.TheConstants.{CONTEXTS};
 ghost use Rattle.point_core.specs.Reach.{value_at, with_value, IsAtLeast};
@@ -6,8 +7,8 @@ ghost use Rattle.point_core.specs.Reach.{value_at, with_value, IsAtLeast};
 use point_core::{CONTEXTS, Context, Point, Reach};
 use std::marker::Model;
 
-/// For each context a value below every point of it at which a watch stands. A rise up to these values reaches no such
-/// point.
+/// For each context a value below every point of the context that is in the index. A rise up to these values reaches no
+/// such point.
 #[derive(Drop)]
 pub(super) struct DueFloor {
     values: [u64; CONTEXTS],
@@ -22,7 +23,7 @@ impl Model for DueFloor {
 }
 
 impl DueFloor {
-    /// The floor while no watch stands anywhere.
+    /// The floor of an empty index.
     pub(super) fn highest() -> DueFloor
         ensures { result ≡ replicate CONTEXTS (2 ^ 64 - 1) }
     {

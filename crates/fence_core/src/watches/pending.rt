@@ -1,4 +1,5 @@
-// The pending watches, found by registration.
+//! `PendingWatches`: a hash map from registrations to watches. `Watches` changes it together with `Places` and the
+//! index, so all three have the same watches.
 ghost use Rattle.std.specs.Prelude.{◌≡◌, ℕ, [], length, None, Some, if◌then◌else◌, option_copied, OnOk, OnErr, IfErr};
 ghost use Rattle.std.specs.Map.{keys_of, remove_entry};
 ghost use Rattle.std.specs.BTreeMap.{is_at, insert_entry};
@@ -46,7 +47,7 @@ impl Model for PendingWatches {
 }
 
 impl PendingWatches {
-    /// No watches. It takes no memory.
+    /// No watches. It does not allocate.
     pub(super) fn new(alloc: Global) -> PendingWatches
         ensures empty { result.entries ≡ [] }
     {

@@ -1,4 +1,5 @@
-// Where each pending watch stands in the index.
+//! `Places`: a hash map from the cookie of each pending watch to its point in the index. `Watches` and `PointIndex`
+//! keep it in step with the index.
 ghost use Rattle.std.specs.Prelude.{◌≡◌, ℕ, nat_eq, is_some, true, None, Some, if◌then◌else◌, OnOk, OnErr, IfErr};
 ghost use Rattle.point_core.specs.declared.refusal.Refusal.TheVariants.{Memory};
 ghost use Rattle.fence_core.specs.Registered.{place_at};
@@ -8,14 +9,14 @@ use point_core::Refusal;
 use std::alloc::Global;
 use std::collections::HashMap;
 
-/// For each cookie of a pending watch, the point at which the watch stands, with its registration.
+/// For each cookie of a pending watch, the watch's point in the index, with its registration.
 #[derive(Drop)]
 pub(super) struct Places {
     by_cookie: HashMap<u64, WaitingPoint>,
 }
 
 impl Places {
-    /// No places. It takes no memory.
+    /// No places. It does not allocate.
     pub(super) fn new(alloc: Global) -> Places
         ensures { (q : ℕ) → place_at result q ≡ None }
     {

@@ -1,4 +1,5 @@
-// The points at which pending watches stand, by context and value.
+//! `PointIndex`: a queue of waiting points for each context, so that a rise looks only at what it can reach. All points
+//! are above the floor, and every change in here keeps that. `Watches` puts in one point for each pending watch.
 ghost use Rattle.std.specs.Prelude.{◌≡◌, ℕ, ◌<◌, ◌≤◌, true, false, not, ◌&&◌, ◌||◌, [], length};
 ghost use Rattle.std.specs.Prelude.{OnOk, OnErr, IfOk, IfErr, IfSome, IfNone};
 ghost use Rattle.std.specs.Ordering.{nat_cmp};
@@ -75,7 +76,7 @@ impl PointIndex {
     ghost use Rattle.std.specs.Prelude.{List};
     ghost use Rattle.fence_core.specs.PointIndex.{AreAbove};
 
-    /// No points. It takes no memory.
+    /// No points. It does not allocate.
     pub(super) fn new(alloc: Global) -> PointIndex
         ensures { result ≡ [] }
     {
@@ -94,8 +95,8 @@ impl PointIndex {
         self.floor.at_least(reach)
     }
 
-    /// Whether the floor shows that no watch stands at or below the point in its context. What is above a reach is then
-    /// above it with the point reached too.
+    /// Whether the floor shows that the point reaches no point of the index. An index that is above a reach is then above
+    /// it with the point reached too.
     pub(super) fn is_above_point(&self, point: &Point) -> bool
         ensures { result ≡ true → (reach : List ℕ) → length reach ≡ CONTEXTS → AreAbove self.now reach →
             AreAbove self.now (reaching reach point.now) }
@@ -128,7 +129,7 @@ impl PointIndex {
         remove(self.queues.as_mut_slice(), point);
     }
 
-    /// Moves each watch that stands at or below the reach to a point above it. Only the contexts where the reach is
+    /// Moves each watch that is indexed at or below the reach to a point above it. Only the contexts where the reach is
     /// above the floor are looked at.
     ///
     /// Fails only with `Memory`; some watches may then not have moved.
@@ -180,7 +181,7 @@ impl PointIndex {
         Ok(())
     }
 
-    /// Moves the first watch of the context if it stands at or below the reach, and reports whether it did.
+    /// Moves the first watch of the context if its point is at or below the reach, and reports whether it did.
     fn move_first(
         &mut self,
         places: &mut Places,
@@ -206,7 +207,7 @@ impl PointIndex {
         Ok(true)
     }
 
-    /// Moves the watch that stands at the point to its first point above the reach.
+    /// Moves the watch that is indexed at `due` to its first point above the reach.
     fn move_on(
         &mut self,
         due: &WaitingPoint,
@@ -280,8 +281,8 @@ impl PointIndex {
         Ok(fired)
     }
 
-    /// The cookies of the watches that stand in the point's context and fire once it is reached too, by registration;
-    /// `None` if these watches don't stand there in order of registration.
+    /// The cookies of the watches of the point's context that fire once it is reached too, by registration; `None` if the
+    /// queue does not have these watches in order of registration.
     pub(super) fn fired_in_context(
         &self,
         alloc: Global,
@@ -323,7 +324,7 @@ fn insert(
 
 /// Makes a queue for each context up to this one that has none yet.
 ///
-/// Fails only with `Memory`. No watch stands in a queue that is made.
+/// Fails only with `Memory`. A new queue is empty.
 fn make_queues(queues: &mut Vec<PointQueue>, alloc: Global, ctx: Context) -> Result<(), Refusal>
     ensures same { (c : ℕ) → queue_at queues.new.items c ≡ queue_at queues.old.items c }
     ensures enough { OnOk result (ctx ≤ length queues.new.items) }

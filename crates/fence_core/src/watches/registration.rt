@@ -1,4 +1,4 @@
-// The numbers of registrations.
+//! `Registration`: the number of a registration, by which `Watches` orders the cookies that fire.
 use std::marker::Model;
 
 /// The number of a registration, counted from 0. It is never used again, while a cookie may be.

@@ -1,4 +1,5 @@
-// Which watches a rise fires, by registration.
+//! Finds the watches that a rise of any contexts fires, as a map from registrations to cookies. `PointIndex::fired`
+//! calls it; the index is not changed before all are found, so a refusal has nothing to undo.
 ghost use Rattle.std.specs.Prelude.{◌≡◌, ℕ, true, false, []};
 ghost use Rattle.std.specs.Prelude.{OnOk, OnErr, IfErr};
 ghost use Rattle.point_core.specs.declared.refusal.Refusal.TheVariants.{Memory};
@@ -15,7 +16,8 @@ use crate::watches::registration::Registration;
 use point_core::{Context, Reach, Refusal};
 use std::collections::BTreeMap;
 
-/// Adds the watches that stand at or below the reach, and all of whose points are, to the fired ones.
+/// Adds the watches of all contexts that the reach fires to `fired`. It looks only at contexts where the reach is above the
+/// floor.
 pub(super) fn report_reached(
     queues: &[PointQueue],
     pending: &PendingWatches,
@@ -41,7 +43,7 @@ pub(super) fn report_reached(
     Ok(())
 }
 
-/// The same for the watches that stand in the context.
+/// `report_reached` for the watches that are indexed in one context.
 fn report_due(
     queues: &[PointQueue],
     pending: &PendingWatches,
@@ -65,7 +67,7 @@ fn report_due(
     report_low(&queues[index], pending, reach.get(ctx), reach, fired)
 }
 
-/// The same for the watches that stand at or below the value.
+/// `report_reached` for the watches of a queue at or below the value.
 #[inline(never)]
 fn report_low(
     queue: &PointQueue,

@@ -1,4 +1,5 @@
-// The values of one context at which pending watches stand.
+//! `PointQueue`: the waiting points of one context, by falling value and then by falling registration, so that what
+//! fires leaves from the end. Only `put` and `take` change it; `PointIndex` has a queue for each context.
 ghost use Rattle.std.specs.Prelude.{◌≡◌, ◌↔◌, ◌<◌, ◌≤◌, true, false, not, ◌&&◌, ◌||◌, ◌+◌, ◌∷◌, []};
 ghost use Rattle.std.specs.Prelude.{length, drop, reverse, IsTrue};
 ghost use Rattle.std.specs.Prelude.{OnOk, OnErr, IfErr, IfSome, IfNone};
@@ -11,7 +12,7 @@ use point_core::Refusal;
 use std::alloc::Global;
 use std::marker::Model;
 
-/// A value of a context, and the registration of the watch that stands there.
+/// A waiting point of the queue's context: its value, and the registration of the watch that is indexed there.
 #[derive(Clone, Copy, PartialEq, Eq)]
 pub(super) struct Standing {
     pub(super) value: u64,
@@ -19,7 +20,7 @@ pub(super) struct Standing {
 }
 
 impl Standing {
-    /// Whether it stands at a lower value, or at the same value with an earlier registration.
+    /// Whether its value is lower, or equal with an earlier registration.
     fn is_before(&self, other: &Standing) -> bool
         ensures { IsTrue result ↔ StandsBefore self.now other.now }
     {
@@ -50,7 +51,7 @@ impl Model for PointQueue {
 impl PointQueue {
     ghost use Rattle.std.specs.Prelude.{ℕ};
 
-    /// No watches. It takes no memory.
+    /// No watches. It does not allocate.
     pub(super) fn new(alloc: Global) -> PointQueue
         ensures { result ≡ [] }
     {
@@ -120,7 +121,7 @@ impl PointQueue {
         self.standing[last - place]
     }
 
-    /// The place where the watch stands, or where it goes in.
+    /// The place of the watch, or the place where it goes in, by binary search.
     fn place_of(&self, watch: &Standing) -> usize
         ensures place { IsPlaceOf watch.now result self.now }
     {
@@ -137,7 +138,7 @@ impl PointQueue {
         low
     }
 
-    /// Whether the watch stands at the place.
+    /// Whether the watch is at the place.
     fn has_at(&self, place: usize, watch: &Standing) -> bool
         ensures { IsTrue result ↔ StandsAt watch.now place self.now }
     {

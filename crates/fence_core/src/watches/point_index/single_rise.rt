@@ -1,4 +1,5 @@
-// Which watches fire when one context rises.
+//! Finds the watches that fire when one context rises, without a map, if the queue has them in order of registration.
+//! `PointIndex::fired_in_context` calls it.
 ghost use Rattle.std.specs.Prelude.{◌≡◌, ◌↔◌, ℕ, List, true, IsTrue, IfOk, IfErr, IfSome, OnErr};
 ghost use Rattle.point_core.specs.declared.refusal.Refusal.TheVariants.{Memory};
 ghost use Rattle.point_core.specs.Reach.{reaching};
@@ -12,8 +13,8 @@ use crate::watches::registration::Registration;
 use point_core::{Point, Reach, Refusal};
 use std::alloc::Global;
 
-/// The cookies of the watches that stand in the point's context and fire once it is reached too, in order of
-/// registration; `None` if they are found in another order.
+/// The cookies of the watches of the point's context that fire once it is reached too, in order of registration; `None` if
+/// the queue has them in another order.
 #[inline(never)]
 pub(super) fn gathered_in_order(
     alloc: Global,
