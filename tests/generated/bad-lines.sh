@@ -6,8 +6,8 @@ source "$(dirname "$0")/../lib/shared"
 cat <<END
 buffer B
 import B x read
-timeline $(copies $(($(limit NAME_BYTES) + 1)) t)
-$(copies $(($(limit LINE_BYTES) + 1)) z)
+timeline $(copies $((NAME_BYTES + 1)) t)
+$(copies $((LINE_BYTES + 1)) z)
 
 import B x none
 timeline a

@@ -3,7 +3,7 @@
 set -euo pipefail
 source "$(dirname "$0")/../lib/shared"
 
-buffers="$(limit BUFFERS)"
+buffers="$BUFFERS"
 for number in $(seq "$buffers"); do
     printf 'buffer b%d\n#= ok\n' "$number"
 done

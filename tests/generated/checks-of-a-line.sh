@@ -33,8 +33,8 @@ is_syntax "timeline c/d"
 is_syntax $'timeline \xc3\xa9'
 is_syntax $'\xef\xbb\xbftimeline c'
 is "timeline A.b-c_9" "ok 3"
-is "timeline $(copies "$(limit NAME_BYTES)" n)" "ok 4"
-is_syntax "timeline $(copies $(($(limit NAME_BYTES) + 1)) n)"
+is "timeline $(copies "$NAME_BYTES" n)" "ok 4"
+is_syntax "timeline $(copies $((NAME_BYTES + 1)) n)"
 is "info a" "err 2 NoEntry"
 is "fence f c 1" "err 2 NoEntry"
 is "timeline a" "err 3 Exists"

@@ -4,7 +4,7 @@
 set -euo pipefail
 source "$(dirname "$0")/../lib/shared"
 
-files="$(limit FILES)"
+files="$FILES"
 printf 'timeline a\n#= ok 1\n'
 for number in $(seq "$files"); do
     printf 'fence f%d a 1\n#= ok\n' "$number"

@@ -3,8 +3,8 @@
 set -euo pipefail
 source "$(dirname "$0")/../lib/shared"
 
-tail="$(copies $(($(limit NAME_BYTES) - 1)) n)"
-zeros="$(copies "$(limit DIGITS)" 0)"
+tail="$(copies $((NAME_BYTES - 1)) n)"
+zeros="$(copies "$DIGITS" 0)"
 line=0
 lines() {
     printf '%s\n' "$@"

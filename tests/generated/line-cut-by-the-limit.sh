@@ -6,5 +6,5 @@ source "$(dirname "$0")/../lib/shared"
 first=$'timeline a\n'
 cut='timeline b'
 printf '%s' "$first"
-empty_lines $(($(limit SCRIPT_BYTES) - ${#first} - ${#cut}))
+empty_lines $((SCRIPT_BYTES - ${#first} - ${#cut}))
 printf '%s\ntimeline c\n' "$cut"

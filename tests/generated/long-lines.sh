@@ -4,7 +4,7 @@
 set -euo pipefail
 source "$(dirname "$0")/../lib/shared"
 
-bytes="$(limit LINE_BYTES)"
+bytes="$LINE_BYTES"
 for length in $((bytes - 1)) "$bytes" $((bytes + 1)); do
     printf '%-*s\n' "$length" "timeline a"
 done

@@ -26,7 +26,7 @@ for byte in {0..255}; do
     *) is_no_name "\\x$hex" ;;
     esac
 done
-longest="gpu-0.render_pass-17.frame_$(copies $(($(limit NAME_BYTES) - 27)) 4)"
+longest="gpu-0.render_pass-17.frame_$(copies $((NAME_BYTES - 27)) 4)"
 is_name "${longest%4}"
 is_name "$longest"
 is_no_name "${longest}2"

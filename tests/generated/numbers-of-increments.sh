@@ -3,7 +3,7 @@
 set -euo pipefail
 source "$(dirname "$0")/../lib/shared"
 
-digits="$(limit DIGITS)"
+digits="$DIGITS"
 cat <<END
 timeline a
 inc a 18446744073709551616

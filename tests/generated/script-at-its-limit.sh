@@ -6,5 +6,5 @@ source "$(dirname "$0")/../lib/shared"
 first=$'timeline a\n'
 last=$'timeline b\n'
 printf '%s' "$first"
-empty_lines $(($(limit SCRIPT_BYTES) - ${#first} - ${#last}))
+empty_lines $((SCRIPT_BYTES - ${#first} - ${#last}))
 printf '%s' "$last"

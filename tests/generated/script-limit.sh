@@ -5,4 +5,4 @@ source "$(dirname "$0")/../lib/shared"
 
 first=$'timeline a\n'
 printf '%s' "$first"
-empty_lines $(($(limit SCRIPT_BYTES) + 1 - ${#first}))
+empty_lines $((SCRIPT_BYTES + 1 - ${#first}))

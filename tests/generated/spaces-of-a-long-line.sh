@@ -3,7 +3,7 @@
 set -euo pipefail
 source "$(dirname "$0")/../lib/shared"
 
-bytes="$(limit LINE_BYTES)"
+bytes="$LINE_BYTES"
 printf '%s\n' "timeline a"
 for length in "$bytes" $((bytes + 1)); do
     printf '%-*s\n' "$length" "value a"

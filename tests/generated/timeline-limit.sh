@@ -3,7 +3,7 @@
 set -euo pipefail
 source "$(dirname "$0")/../lib/shared"
 
-timelines="$(limit CONTEXTS)"
+timelines="$CONTEXTS"
 for number in $(seq "$timelines"); do
     printf 'timeline t%d\n#= ok %d\n' "$number" "$number"
 done

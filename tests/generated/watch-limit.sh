@@ -4,7 +4,7 @@
 set -euo pipefail
 source "$(dirname "$0")/../lib/shared"
 
-watches="$(limit WATCHES)"
+watches="$WATCHES"
 cat <<END
 timeline a
 #= ok 1

@@ -11,7 +11,7 @@ from scripts import answers_of
 
 MEMORY = b"err 16 Memory"
 FAULT = b"fencectl: 16 Memory\n"
-# tools/commands: memory
+# tools/tables: memory
 # Memory is refused to none of these.
 NEVER = {b"value", b"close", b"wait", b"test", b"trim", b"unwatch"}
 # Memory is refused to these only if they fire a watch.

@@ -1,22 +1,10 @@
 """Scripts as lines and commands, and copies of a script in which some commands are notes."""
-import glob
 import os
 import re
 
-
-def constant(name, crate="*_core"):
-    """Returns the value of a constant of a crate, or of the only crate that has it."""
-    top = os.path.dirname(os.path.dirname(os.path.dirname(os.path.realpath(__file__))))
-    pattern, found = re.compile(rf"^(?:pub(?:\(crate\))? )?const {name}: \w+ = ([\d_]+);$", re.MULTILINE), []
-    for path in glob.glob(f"{top}/crates/{crate}/src/*.rt"):
-        with open(path, encoding="utf-8") as source:
-            found += pattern.findall(source.read())
-    if len(found) != 1:
-        raise LookupError(f"{len(found)} constants are named {name}")
-    return int(found[0])
-
-
-LINE_BYTES = constant("LINE_BYTES")
+with open(os.path.join(os.path.dirname(os.path.realpath(__file__)), "..", "lib", "limits"), encoding="utf-8") as limits:
+    LIMITS = {name: int(number) for name, number in re.findall(r"^([A-Z_]+)=(\d+)$", limits.read(), re.MULTILINE)}
+LINE_BYTES = LIMITS["LINE_BYTES"]
 NOTE = b"#"
 
 
