@@ -1,7 +1,7 @@
 // Scripts of files and of standard input, checked one after another.
 ghost use Rattle.std.specs.Prelude.{◌≡◌, ◌⊎◌, ◌++◌, ◌∷◌, [], Ok, Some, IfOk, OnOk, IfErr, length, string_bytes};
 ghost use Rattle.point_core.specs.declared.refusal.Refusal.TheVariants.{Write as WriteFault, Memory};
-ghost use Rattle.source_core.specs.Script.{file_named};
+ghost use Rattle.source_core.specs.Input.{file_named};
 ghost use Rattle.source_core.specs.Source.{HasUnread};
 ghost use Rattle.check_core.specs.Outcome.{CameOf, CameOfEach, ComesOf, IsOutcome};
 
@@ -12,7 +12,7 @@ use crate::sink::Sink;
 use crate::summary::report_summary;
 use crate::tap::{Test, write_failed, write_passed, write_plan};
 use point_core::Refusal;
-use source_core::{Script, Source};
+use source_core::{Input, Source};
 use std::alloc::{AllocError, Global};
 use std::io::{Read, Write};
 use std::rt::Files;
@@ -203,7 +203,7 @@ fn outcome_of<R: Files + Eprint + AllocGlobal, S: Read + Drop, W: Write>(
         (file_named (Some place.now.name.now)) standard_input)) }
     ensures refusals { IfErr result (λ refusal. (refusal ≡ WriteFault) ⊎ (refusal ≡ Memory)) }
 {
-    match Source::open(rt, Script::named(place.name), standard_input) {
+    match Source::open(rt, Input::named(place.name), standard_input) {
         Ok(mut source) => outcome_of_reader(rt.alloc(), place, &mut source, sink),
         Err(refusal) => Ok(CheckOutcome::Failed(refusal)),
     }

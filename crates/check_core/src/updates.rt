@@ -4,7 +4,7 @@ ghost use Rattle.std.specs.Io.KnownBytes.{Appends};
 ghost use Rattle.std.specs.List.{list_any};
 ghost use Rattle.line_core.specs.declared.script.TheConstants.{SCRIPT_BYTES};
 ghost use Rattle.point_core.specs.declared.refusal.Refusal.TheVariants.{Write as WriteFault, Memory};
-ghost use Rattle.source_core.specs.Replace.{HasFront, WasGiven};
+ghost use Rattle.source_core.specs.FileBytes.{HasFront, WasGiven};
 ghost use Rattle.check_core.specs.Update.{HasReported, IsUpdate, Passes, failure_text, is_failed, one_if_written, update_text, updates_text, update_totals, verdict_of_updates, written_count};
 
 use crate::outcome::Verdict;

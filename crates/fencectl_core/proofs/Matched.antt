@@ -6,7 +6,7 @@ use Rattle.std.proofs.lemmas.Slice.Eq.{bytes_eq-Decides}
 use Rattle.clap.specs.Words.{ReadsOne, Text, all_of, first_of, first_value, matched_of, one_of, one_text, raw_values, rows_of}
 use Rattle.clap.specs.declared.parser.matches.Found.{Found}
 use Rattle.clap.proofs.WalkLemmas.{first_value-rows, one_text-rows, raw_values-rows}
-use Rattle.source_core.specs.Script.{file_named}
+use Rattle.source_core.specs.Input.{file_named}
 use Rattle.fencectl_core.specs.Asked.{flag_named, number_named, paths_named}
 
 pub file_read : (found : Found) (id : Text) (name : Option (Bor Text)) (file : Option Text)

@@ -8,7 +8,7 @@ use Rattle.clap.specs.declared.error.kind.ErrorKind.TheVariants.{DisplayHelp, Di
 use Rattle.point_core.specs.declared.refusal.Refusal.{Refusal}
 use Rattle.point_core.specs.declared.refusal.Refusal.TheVariants.{Limit, Memory, Write as WriteFault}
 use Rattle.point_core.specs.declared.refusal.LimitKind.TheVariants as limit
-use Rattle.source_core.specs.Script.{file_named, file_of}
+use Rattle.source_core.specs.Input.{file_named, file_of}
 use Rattle.fencectl_core.specs.Words.{fencectl}
 use Rattle.fencectl_core.specs.declared.action.Action.{Action}
 use Rattle.fencectl_core.specs.declared.action.Action.TheVariants as action

@@ -3,21 +3,21 @@ ghost use Rattle.std.specs.Prelude.{◌≤◌};
 ghost use Rattle.clients_core.specs.declared.plans.TheConstants.{CLIENTS};
 ghost use Rattle.clients_core.specs.declared.rounds.TheConstants.{ROUNDS};
 
-use source_core::Script;
+use source_core::Input;
 
 /// What the program is to do.
 #[derive(Drop)]
 pub(crate) enum Action<'a> {
     /// Run a script, and print its answers.
-    Run(Script<'a>),
+    Run(Input<'a>),
     /// Run a script, and print its answers as JSON.
-    Json(Script<'a>),
+    Json(Input<'a>),
     /// Compare the answers of scripts with the answers that their notes expect.
     Check(Check<'a>),
     /// Rewrite scripts so that they expect what they answer: files, and those below folders.
     Update(Vec<&'a str>),
     /// Run a script, print its answers, and explain why lines were refused.
-    Explain(Script<'a>),
+    Explain(Input<'a>),
     /// Read a trace, and report what hangs.
     Trace(Trace<'a>),
     /// Draw a picture of a script's run, or a graph of what it leaves.
@@ -41,7 +41,7 @@ pub(crate) struct Check<'a> {
 /// What is drawn of a script, and where. The texts are as the command line has them.
 #[derive(Clone, Copy)]
 pub(crate) struct Draw<'a> {
-    pub script: Script<'a>,
+    pub script: Input<'a>,
     /// A graph instead of a picture.
     pub graph: bool,
     /// The line after which a graph is drawn.
@@ -67,7 +67,7 @@ pub(crate) enum Report {
 #[derive(Clone, Copy)]
 pub(crate) struct Trace<'a> {
     /// A file, or standard input.
-    pub text: Script<'a>,
+    pub text: Input<'a>,
     /// Whether the report is a JSON document.
     pub is_json: bool,
     /// Whether what happened is written as a script.

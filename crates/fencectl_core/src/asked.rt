@@ -3,7 +3,7 @@ ghost use Rattle.std.specs.Prelude.{◌≡◌, ◌≤◌, IfErr, IfOk, Some, cod
 ghost use Rattle.std.specs.Str.{bytes_eq};
 ghost use Rattle.point_core.specs.declared.refusal.Refusal.TheVariants.{Memory};
 ghost use Rattle.clap.specs.Words.{all_of, found_of, first_of, one_of, rows_of, subcommand_rows_of};
-ghost use Rattle.source_core.specs.Script.{file_named, file_of};
+ghost use Rattle.source_core.specs.Input.{file_named, file_of};
 ghost use Rattle.fencectl_core.specs.Asked.{
   IsAskedFault,
   IsRangeFault,
@@ -35,7 +35,7 @@ use crate::subcommands::{
 use clap::ArgMatches;
 use clients_core::{CLIENTS, ROUNDS};
 use point_core::{LimitKind, Refusal};
-use source_core::Script;
+use source_core::Input;
 use std::alloc::Global;
 
 /// What the matches of a command line ask for.
@@ -48,7 +48,7 @@ pub(crate) fn action_by<'a>(alloc: Global, matches: &ArgMatches<'a>) -> Result<A
 {
     match matches.subcommand() {
         Some((word, matches)) => action_after(alloc, word, matches),
-        None => Ok(Action::Run(Script::StandardInput)),
+        None => Ok(Action::Run(Input::StandardInput)),
     }
 }
 
@@ -124,12 +124,12 @@ fn trace_of<'a>(matches: &ArgMatches<'a>) -> Trace<'a>
     }
 }
 
-fn script_of<'a>(matches: &ArgMatches<'a>) -> Script<'a>
+fn script_of<'a>(matches: &ArgMatches<'a>) -> Input<'a>
     ensures { file_of result ≡ file_named (first_of (codes "FILE") (rows_of (found_of matches.now))) }
 {
     match matches.get_str(FILE) {
-        Some(name) => Script::named(name),
-        None => Script::StandardInput,
+        Some(name) => Input::named(name),
+        None => Input::StandardInput,
     }
 }
 

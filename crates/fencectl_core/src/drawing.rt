@@ -9,7 +9,7 @@ use line_core::SCRIPT_BYTES;
 use picture_core::{History, dot_text};
 use point_core::Refusal;
 use report_core::write_whole;
-use source_core::{Script, Source, put_file, reported};
+use source_core::{Input, Source, put_file, reported};
 use std::io::{Read, Write};
 
 /// Draws a script's run, and writes the picture or the graph to standard output or to a file, which is written as a whole or not
@@ -154,7 +154,7 @@ pub(crate) fn report_mistake(rt: &HostRuntime, message: &str) -> Result<u8, Refu
     Ok(FAULT)
 }
 
-fn script_of(rt: &HostRuntime, script: Script<'_>) -> Result<Vec<u8>, Refusal> {
+fn script_of(rt: &HostRuntime, script: Input<'_>) -> Result<Vec<u8>, Refusal> {
     let mut source = Source::open(rt, script, rt.stdin())?;
     read_script(rt, &mut source)
 }

@@ -14,7 +14,7 @@ use check_core::{CheckForm, Plan, check_scripts, update_scripts};
 use clients_core::{Board, LockedTable};
 use point_core::Refusal;
 use reason_core::Look;
-use source_core::{Prompted, Script, Source, script_files};
+use source_core::{Input, Prompted, Source, script_files};
 use std::alloc::Global;
 use std::env;
 use std::io::{IsTerminal, Write};
@@ -110,7 +110,7 @@ fn write_clients<T: Threads + Wait + Sync, W: Write>(
 }
 
 /// Runs a script. One that is typed at a terminal is asked for line by line, and explained.
-fn run(rt: &HostRuntime, colors: Colors, script: Script) -> Result<u8, Refusal> {
+fn run(rt: &HostRuntime, colors: Colors, script: Input) -> Result<u8, Refusal> {
     if is_typed(rt, script) {
         return converse(rt, colors);
     }
@@ -119,10 +119,10 @@ fn run(rt: &HostRuntime, colors: Colors, script: Script) -> Result<u8, Refusal> 
 }
 
 /// Whether the script is typed at a terminal, and errors are seen there.
-fn is_typed(rt: &HostRuntime, script: Script) -> bool {
+fn is_typed(rt: &HostRuntime, script: Input) -> bool {
     match script {
-        Script::StandardInput => rt.stdin().is_terminal() && rt.stderr().is_terminal(),
-        Script::File(_) => false,
+        Input::StandardInput => rt.stdin().is_terminal() && rt.stderr().is_terminal(),
+        Input::File(_) => false,
     }
 }
 
@@ -140,7 +140,7 @@ fn converse(rt: &HostRuntime, colors: Colors) -> Result<u8, Refusal> {
     ))
 }
 
-fn json(rt: &HostRuntime, script: Script) -> Result<u8, Refusal> {
+fn json(rt: &HostRuntime, script: Input) -> Result<u8, Refusal> {
     let mut source = Source::open(rt, script, rt.stdin())?;
     Ok(json_script(rt.alloc(), &mut source, &mut rt.stdout(), &mut rt.stderr()))
 }
@@ -186,7 +186,7 @@ fn tap_version(rt: &HostRuntime) -> u64 {
     }
 }
 
-fn explain(rt: &HostRuntime, colors: Colors, script: Script) -> Result<u8, Refusal> {
+fn explain(rt: &HostRuntime, colors: Colors, script: Input) -> Result<u8, Refusal> {
     let mut source = Source::open(rt, script, rt.stdin())?;
     Ok(explain_script(
         rt.alloc(),

@@ -16,7 +16,7 @@ use crate::subcommands::RUN;
 use clap::Error;
 use clap::error::ErrorKind;
 use point_core::Refusal;
-use source_core::Script;
+use source_core::Input;
 use std::alloc::Global;
 use std::fs;
 use std::rt::Files;
@@ -41,7 +41,7 @@ pub(crate) fn action_of<'a>(
     ensures refusals { IfErr result (IsUsageFault (map string_bytes words.entry.now)) }
 {
     if is_run_alone(words) {
-        return Ok(Action::Run(Script::StandardInput));
+        return Ok(Action::Run(Input::StandardInput));
     }
     match matches_of(alloc, words) {
         Ok(matches) => action_by(alloc, &matches),
@@ -77,7 +77,7 @@ fn action_instead<'a>(
     if error.kind() == ErrorKind::InvalidSubcommand {
         if let [_, name] = words {
             if is_file(rt, name.as_str()) {
-                return Ok(Action::Run(Script::File(name.as_str())));
+                return Ok(Action::Run(Input::File(name.as_str())));
             }
         }
     }

@@ -4,7 +4,7 @@
 
 use fencectl_core::{FAULT, report_unread_word, run_script, tell_fault};
 use point_core::Refusal;
-use source_core::{Script, Source};
+use source_core::{Input, Source};
 use std::env;
 use std::process::ExitCode;
 
@@ -29,15 +29,15 @@ fn start(rt: &HostRuntime) -> Result<u8, Refusal> {
 
 /// The script that the words of the command line ask for: the file that the word after the program's own names, or standard input
 /// if there is no such word.
-fn script_of(words: &[String]) -> Option<Script<'_>> {
+fn script_of(words: &[String]) -> Option<Input<'_>> {
     match words {
-        [_] => Some(Script::StandardInput),
-        [_, name] => Some(Script::named(name.as_str())),
+        [_] => Some(Input::StandardInput),
+        [_, name] => Some(Input::named(name.as_str())),
         _ => None,
     }
 }
 
-fn run(rt: &HostRuntime, script: Script<'_>) -> Result<u8, Refusal> {
+fn run(rt: &HostRuntime, script: Input<'_>) -> Result<u8, Refusal> {
     let mut source = Source::open(rt, script, rt.stdin())?;
     Ok(run_script(rt.alloc(), &mut source, &mut rt.stdout(), &mut rt.stderr()))
 }

@@ -1,3 +1,3 @@
-pub mod Replace
-pub mod Script
+pub mod FileBytes
+pub mod Input
 pub mod Source

@@ -1,14 +1,12 @@
 //! Files and standard input for `fencectl`: opens scripts, lists folders, and replaces files atomically.
 #![tactic(auto)]
 
+mod file_bytes;
+mod input;
 mod listing;
 mod prompt;
-mod replace;
-mod script;
-mod source;
 
+pub use file_bytes::{put_file, read_file, replace_file};
+pub use input::{Input, STANDARD_INPUT, Source, reported};
 pub use listing::script_files;
 pub use prompt::Prompted;
-pub use replace::{put_file, read_file, replace_file};
-pub use script::{STANDARD_INPUT, Script};
-pub use source::{Source, reported};

@@ -1,6 +1,5 @@
 //! Expands paths to scripts: a folder is expanded to the scripts below it.
-use crate::script::STANDARD_INPUT;
-use crate::source::reported;
+use crate::input::{STANDARD_INPUT, reported};
 use std::alloc::{AllocError, Global};
 use std::fs::{DirEntry, ReadDir};
 use std::rt::Files;

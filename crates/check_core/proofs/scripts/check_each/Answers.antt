@@ -1,6 +1,6 @@
 use Rattle.std.proofs.Common.{ℕ, List, length, Some, refl, subst, String, Global, string_bytes}
 use Rattle.std.proofs.lemmas.Option.{slice_get_read}
-use Rattle.source_core.specs.Script.{file_named}
+use Rattle.source_core.specs.Input.{file_named}
 use Rattle.source_core.specs.Source.{HasUnread}
 use Rattle.check_core.specs.Outcome.{CameOf, Opens}
 use Rattle.check_core.proofs.Outcomes.{CameOfEach-next}

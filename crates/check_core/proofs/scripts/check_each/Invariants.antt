@@ -1,6 +1,6 @@
 use Rattle.std.proofs.Common.{◌≡◌, length, Some}
 use Rattle.std.specs.Prelude.{string_bytes}
-use Rattle.source_core.specs.Script.{file_named}
+use Rattle.source_core.specs.Input.{file_named}
 use Rattle.source_core.specs.Source.{HasUnread}
 use Rattle.check_core.specs.Outcome.{CameOfEach}
 use Rattle.check_core.proofs.scripts.check_each.Given as goal

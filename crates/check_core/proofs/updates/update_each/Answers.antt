@@ -1,7 +1,7 @@
 use Rattle.std.proofs.Common.{◌≡◌, ℕ, ◌+◌, List, ◌++◌, String, Global, string_bytes, subst}
 use Rattle.std.specs.Io.KnownBytes.{Appends}
 use Rattle.line_core.specs.declared.script.TheConstants.{SCRIPT_BYTES}
-use Rattle.source_core.specs.Replace.{HasFront, WasGiven}
+use Rattle.source_core.specs.FileBytes.{HasFront, WasGiven}
 use Rattle.check_core.specs.Update.{IsUpdate, update_text}
 use Rattle.check_core.proofs.Reported.{each-next, reported-next}
 use Rattle.check_core.proofs.updates.update_each.Goals as goal

@@ -2,7 +2,7 @@ use Rattle.std.proofs.Common.{◌≡◌, ◌+◌, length, take, string_bytes}
 use Rattle.std.specs.Io.KnownBytes.{Appends}
 use Rattle.std.specs.Prelude.{All}
 use Rattle.line_core.specs.declared.script.TheConstants.{SCRIPT_BYTES}
-use Rattle.source_core.specs.Replace.{HasFront, WasGiven}
+use Rattle.source_core.specs.FileBytes.{HasFront, WasGiven}
 use Rattle.check_core.specs.Update.{IsUpdate, updates_text}
 use Rattle.check_core.proofs.updates.update_each.Given as goal
 

@@ -1,16 +1,40 @@
-//! `Source`: a script that is opened for reading. Errors of the system are reported here, with the file's name.
-ghost use Rattle.std.specs.Prelude.{◌≡◌, IfOk, IfErr};
+//! `Input`: standard input or a file, as an argument names it; and `Source`: an input that is opened for reading. Errors of
+//! the system are reported here, with the file's name. `fencectl` reads scripts and traces by it.
+ghost use Rattle.std.specs.Prelude.{◌≡◌, IfOk, IfErr, Some};
 ghost use Rattle.point_core.specs.declared.refusal.Refusal.TheVariants.{Read as ReadFault};
-ghost use Rattle.source_core.specs.Script.{file_of};
+ghost use Rattle.source_core.specs.Input.{file_named, file_of};
 ghost use Rattle.source_core.specs.Source.{HasUnread, bytes_of};
 
-use crate::script::Script;
 use point_core::Refusal;
 use std::io::Read;
 use std::rt::Files;
 use std::{fs, io};
 
-/// A script's reader. If a file can't be opened or read, the reason is reported on standard error, with its name.
+/// The argument that names standard input.
+pub const STANDARD_INPUT: &str = "-";
+
+/// Where a script or a trace comes from.
+#[derive(Clone, Copy)]
+pub enum Input<'a> {
+    StandardInput,
+    /// A file with this name.
+    File(&'a str),
+}
+
+impl<'a> Input<'a> {
+    /// The input that an argument names.
+    pub fn named(name: &'a str) -> Input<'a>
+        ensures { file_of result ≡ file_named (Some name.entry.now) }
+    {
+        if name == STANDARD_INPUT {
+            Input::StandardInput
+        } else {
+            Input::File(name)
+        }
+    }
+}
+
+/// The reader of an input. If a file can't be opened or read, the reason is reported on standard error, with its name.
 #[derive(Drop)]
 pub enum Source<'r, 'a, R: Files, S> {
     StandardInput(S),
@@ -22,21 +46,21 @@ pub enum Source<'r, 'a, R: Files, S> {
 }
 
 impl<'r, 'a, R: Files + Eprint, S: Read + Drop> Source<'r, 'a, R, S> {
-    /// Opens a script.
+    /// Opens an input.
     ///
     /// Fails with `Read` if it can't be opened.
     pub fn open(
         rt: &'r R,
-        script: Script<'a>,
+        input: Input<'a>,
         standard_input: S,
     ) -> Result<Source<'r, 'a, R, S>, Refusal>
-        ensures unread { IfOk result (λ source. HasUnread R.File.remaining S.remaining (file_of script.entry) standard_input
+        ensures unread { IfOk result (λ source. HasUnread R.File.remaining S.remaining (file_of input.entry) standard_input
             (bytes_of R.File.remaining S.remaining source)) }
         ensures refusal { IfErr result (λ e. e ≡ ReadFault) }
     {
-        match script {
-            Script::StandardInput => Ok(Source::StandardInput(standard_input)),
-            Script::File(name) => match reported(rt, name, fs::open(rt, name)) {
+        match input {
+            Input::StandardInput => Ok(Source::StandardInput(standard_input)),
+            Input::File(name) => match reported(rt, name, fs::open(rt, name)) {
                 Ok(file) => Ok(Source::File { rt, name, file }),
                 Err(_) => Err(Refusal::Read),
             },

@@ -1,6 +1,6 @@
 //! Reads a file as a whole, and replaces one atomically. `check --update` and `draw` use it.
 ghost use Rattle.std.specs.Prelude.{◌+◌, ◌-◌, ◌^◌, min, IfOk, OnOk};
-ghost use Rattle.source_core.specs.Replace.{HasFront, WasGiven};
+ghost use Rattle.source_core.specs.FileBytes.{HasFront, WasGiven};
 
 use std::fs::{File, OpenFile};
 use std::io::{Read, Write};
