@@ -7,8 +7,8 @@ use Rattle.point_core.specs.declared.refusal.Refusal.TheVariants.{Memory}
 use Rattle.command_core.specs.declared.command.Command.{Command}
 use Rattle.command_core.specs.declared.answer.Answer.{Answer}
 use Rattle.command_core.specs.declared.answer.Answer.TheVariants as answer
-use Rattle.desk_core.specs.Answer.{OnRefused}
-use Rattle.desk_core.specs.Desk.{HasHistory}
+use Rattle.desk_core.specs.theorem.Answer.{OnRefused}
+use Rattle.desk_core.specs.theorem.Desk.{HasHistory}
 use Rattle.line_core.specs.declared.line.Body.{Body}
 use Rattle.line_core.specs.declared.line.Body.TheVariants.{Cmd, Bad}
 use Rattle.c_desk.specs.declared.handle.DeskHandle.{DeskHandle}

@@ -7,10 +7,10 @@ use Rattle.command_core.specs.declared.command.Command.{Command}
 use Rattle.command_core.specs.declared.command.Command.TheVariants as command
 use Rattle.command_core.specs.declared.answer.Answer.{Answer}
 use Rattle.command_core.specs.declared.answer.Answer.TheVariants as answer
-use Rattle.desk_core.specs.World.{World, empty_world, after, fires_some}
-use Rattle.desk_core.specs.Answer.{causes, first_of, reported, answer_to, refused_or, is_refused, takes_memory}
-use Rattle.desk_core.specs.History.{world_of, IsAnswer, history_after}
-use Rattle.desk_core.specs.Desk.{DeskState, HasHistory, Holds}
+use Rattle.desk_core.specs.theorem.World.{World, empty_world, after, fires_some}
+use Rattle.desk_core.specs.theorem.Answer.{causes, first_of, reported, answer_to, refused_or, is_refused, takes_memory}
+use Rattle.desk_core.specs.theorem.History.{world_of, IsAnswer, history_after}
+use Rattle.desk_core.specs.theorem.Desk.{DeskState, HasHistory, Holds}
 use Rattle.desk_core.proofs.Answering.{world_from-push}
 use Rattle.c_desk.specs.Line.{has_rows}
 use Rattle.c_desk.specs.Service.{cookies_of}

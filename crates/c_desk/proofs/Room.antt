@@ -13,12 +13,12 @@ use Rattle.command_core.specs.declared.command.Command.TheVariants as command
 use Rattle.command_core.specs.declared.answer.Answer.{Answer}
 use Rattle.command_core.specs.declared.answer.Answer.TheVariants as answer
 use Rattle.fence_core.specs.declared.watches.TheConstants.{WATCHES, WATCHES_EVER}
-use Rattle.desk_core.specs.World.{World, MadeFile, MadeWatch, after, file_named, has_file, has_made_watch, put_set, watch_made, is_due, raised_reach, shut_reach, cookies_of as made_cookies}
-use Rattle.desk_core.specs.Answer.{causes, first_of, reported, info_reported, answer_to, refused_or, is_refused, is_full, is_signalled}
-use Rattle.desk_core.specs.History.{world_of, IsAnswer, history_after}
-use Rattle.desk_core.specs.Desk.{DeskState, HasHistory}
+use Rattle.desk_core.specs.theorem.World.{World, MadeFile, MadeWatch, after, file_named, has_file, has_made_watch, put_set, watch_made, is_due, raised_reach, shut_reach, cookies_of as made_cookies}
+use Rattle.desk_core.specs.theorem.Answer.{causes, first_of, reported, info_reported, answer_to, refused_or, is_refused, is_full, is_signalled}
+use Rattle.desk_core.specs.theorem.History.{world_of, IsAnswer, history_after}
+use Rattle.desk_core.specs.theorem.Desk.{DeskState, HasHistory}
 use Rattle.desk_core.proofs.Answering.{world_from-push}
-use Rattle.desk_core.specs.World.{empty_world}
+use Rattle.desk_core.specs.theorem.World.{empty_world}
 use Rattle.c_desk.specs.Service.{cookies_of, IsReadyFor}
 
 same_length : {A B : Type 0} (R : A → B → Type 0) (xs : List A) (ys : List B) → AllZip R xs ys → length xs ≡ length ys

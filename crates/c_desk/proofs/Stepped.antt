@@ -3,8 +3,8 @@ use Rattle.std.proofs.Common.{◌≡◌, ◌∙◌, ℕ, List, ◌++◌}
 use Rattle.std.proofs.lemmas.List.{append-nil}
 use Rattle.command_core.specs.declared.answer.Answer.{Answer}
 use Rattle.command_core.specs.declared.answer.Answer.TheVariants as answer
-use Rattle.desk_core.specs.Answer.{OnRefused}
-use Rattle.desk_core.specs.Desk.{DeskState}
+use Rattle.desk_core.specs.theorem.Answer.{OnRefused}
+use Rattle.desk_core.specs.theorem.Desk.{DeskState}
 use Rattle.c_desk.specs.Service.{ServiceState, cookies_of}
 
 abbrev state : DeskState → List ℕ → ServiceState

@@ -6,7 +6,7 @@ use Rattle.point_core.specs.declared.refusal.Refusal.TheVariants.{NoEntry, Exist
 use Rattle.command_core.specs.declared.command.Command.{Command}
 use Rattle.command_core.specs.declared.answer.Answer.{Answer}
 use Rattle.command_core.specs.declared.answer.Answer.TheVariants as answer
-use Rattle.desk_core.specs.Desk.{HasHistory}
+use Rattle.desk_core.specs.theorem.Desk.{HasHistory}
 use Rattle.c_desk.specs.declared.handle.DeskHandle.{DeskHandle}
 use Rattle.c_desk.specs.Handle.{is_open}
 use Rattle.c_handle.specs.Rows.{over}

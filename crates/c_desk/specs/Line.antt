@@ -5,8 +5,8 @@ use Rattle.point_core.specs.declared.refusal.Refusal.TheVariants.{Syntax, Memory
 use Rattle.command_core.specs.declared.command.Command.{Command}
 use Rattle.command_core.specs.declared.answer.Answer.{Answer}
 use Rattle.command_core.specs.declared.answer.Answer.TheVariants as answer
-use Rattle.desk_core.specs.Answer.{OnRefused}
-use Rattle.desk_core.specs.Desk.{HasHistory}
+use Rattle.desk_core.specs.theorem.Answer.{OnRefused}
+use Rattle.desk_core.specs.theorem.Desk.{HasHistory}
 use Rattle.line_core.specs.Line.{body_of}
 use Rattle.line_core.specs.Script.{lines_of}
 use Rattle.line_core.specs.declared.line.Body.{Body}

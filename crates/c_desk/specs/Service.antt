@@ -5,9 +5,9 @@ use Rattle.command_core.specs.declared.command.Command.TheVariants as command
 use Rattle.command_core.specs.declared.answer.Answer.{Answer}
 use Rattle.command_core.specs.declared.answer.Answer.TheVariants as answer
 use Rattle.fence_core.specs.declared.watches.TheConstants.{WATCHES}
-use Rattle.desk_core.specs.Answer.{OnRefused}
-use Rattle.desk_core.specs.Desk.{DeskState, HasHistory, Answers}
-use Rattle.desk_core.specs.History.{history_after}
+use Rattle.desk_core.specs.theorem.Answer.{OnRefused}
+use Rattle.desk_core.specs.theorem.Desk.{DeskState, HasHistory, Answers}
+use Rattle.desk_core.specs.theorem.History.{history_after}
 
 pub record ServiceState : Type 0 where
   pub desk : DeskState

@@ -3,7 +3,7 @@ ghost use Rattle.std.specs.Prelude.{◌≡◌, ◌≤◌, ◌+◌, [], ◌++◌,
 ghost use Rattle.std.specs.VecDeque.{deque_len, deque_capacity};
 ghost use Rattle.command_core.specs.declared.command.Command.{Command};
 ghost use Rattle.command_core.specs.declared.answer.Answer.TheVariants as answer;
-ghost use Rattle.desk_core.specs.Desk.{Answers, HasHistory};
+ghost use Rattle.desk_core.specs.theorem.Desk.{Answers, HasHistory};
 ghost use Rattle.fence_core.specs.declared.watches.TheConstants.{WATCHES};
 ghost use Rattle.c_handle.specs.Rows.{over};
 ghost use Rattle.c_desk.specs.Service.{IsStep, cookies_of, IsReadyFor};

@@ -5,7 +5,7 @@ use Rattle.std.proofs.lemmas.Bool.{cases_lt, lt-ltb, le-leb}
 use Rattle.std.proofs.lemmas.List.{take_all, length_push}
 use Rattle.point_core.specs.declared.refusal.Refusal.TheVariants.{LongLine}
 use Rattle.command_core.specs.declared.answer.Answer.{Answer}
-use Rattle.desk_core.specs.Desk.{HasHistory}
+use Rattle.desk_core.specs.theorem.Desk.{HasHistory}
 use Rattle.line_core.specs.declared.line.Body.{Body}
 use Rattle.line_core.specs.declared.line.Body.TheVariants.{Bad}
 use Rattle.line_core.specs.declared.line.Line.{Line}

@@ -2,7 +2,7 @@
 use Rattle.std.specs.Prelude.{◌≡◌, ◌↔◌, ℕ, ◌+◌, ◌<◌, List, [], ◌∷◌, ◌++◌, length, Option, None, Some, option_to_list}
 use Rattle.std.specs.Io.KnownBytes.{Consumes, Keeps}
 use Rattle.command_core.specs.declared.answer.Answer.{Answer}
-use Rattle.desk_core.specs.Desk.{HasHistory}
+use Rattle.desk_core.specs.theorem.Desk.{HasHistory}
 use Rattle.line_core.specs.declared.line.Body.{Body}
 use Rattle.line_core.specs.declared.line.Line.{Line}
 use Rattle.line_core.specs.declared.script.Ending.{Ending}

@@ -15,12 +15,12 @@ use Rattle.command_core.specs.declared.answer.Answer.{Answer}
 use Rattle.command_core.specs.declared.answer.Answer.TheVariants as answer
 use Rattle.fence_core.specs.Watch.{Watch, IsWatchOf, cookies_of as kept_cookies}
 use Rattle.timeline_core.specs.Timeline.{reach_of}
-use Rattle.desk_core.specs.World.{World, MadeFile, MadeWatch, empty_world, after, file_named, has_file, put_set, has_made_watch, watches_without, watch_made, is_due, raised_reach, shut_reach, other_watches, fired_watches, shut_watches, cookies_of}
-use Rattle.desk_core.specs.Answer.{first_of, causes, reported, info_reported, answer_to, refused_or, is_refused, is_full, is_signalled, number_if}
-use Rattle.desk_core.specs.History.{world_from, world_of, AreAccepted, IsHistory, IsAnswer, history_after, history_of, AreAnswers}
-use Rattle.desk_core.specs.Desk.{DeskState, HasHistory}
-use Rattle.desk_core.specs.Times.{is_unwatch_of, reports_one, fired_reported, registers, removes, times_registered, times_removed, times_fired, times_pending}
-use Rattle.desk_core.specs.Headline.{ReportsEachWatch}
+use Rattle.desk_core.specs.theorem.World.{World, MadeFile, MadeWatch, empty_world, after, file_named, has_file, put_set, has_made_watch, watches_without, watch_made, is_due, raised_reach, shut_reach, other_watches, fired_watches, shut_watches, cookies_of}
+use Rattle.desk_core.specs.theorem.Answer.{first_of, causes, reported, info_reported, answer_to, refused_or, is_refused, is_full, is_signalled, number_if}
+use Rattle.desk_core.specs.theorem.History.{world_from, world_of, AreAccepted, IsHistory, IsAnswer, history_after, history_of, AreAnswers}
+use Rattle.desk_core.specs.theorem.Desk.{DeskState, HasHistory}
+use Rattle.desk_core.specs.theorem.Times.{is_unwatch_of, reports_one, fired_reported, registers, removes, times_registered, times_removed, times_fired, times_pending}
+use Rattle.desk_core.specs.theorem.Headline.{ReportsEachWatch}
 use Rattle.desk_core.proofs.Answering.{world_from-push, is_refused-reported, AreAccepted-push}
 use Rattle.desk_core.proofs.Watching.{cookie_of, put_of}
 

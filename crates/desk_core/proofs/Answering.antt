@@ -12,15 +12,15 @@ use Rattle.command_core.specs.declared.command.Command.TheVariants as command
 use Rattle.command_core.specs.declared.answer.Answer.{Answer}
 use Rattle.command_core.specs.declared.answer.Answer.TheVariants as answer
 use Rattle.point_core.specs.Refusal.{IsRefusedFor}
-use Rattle.desk_core.specs.World.{World, MadeFile, file_named, empty_world, after, fires_some}
-use Rattle.desk_core.specs.Answer.{first_of, causes, reported, info_reported, answer_to, refused_or, is_refused, takes_memory, OnRefused}
-use Rattle.desk_core.specs.History.{world_from, world_of, AreAccepted, IsAnswer, history_after, history_of, AreAnswers}
+use Rattle.desk_core.specs.theorem.World.{World, MadeFile, file_named, empty_world, after, fires_some}
+use Rattle.desk_core.specs.theorem.Answer.{first_of, causes, reported, info_reported, answer_to, refused_or, is_refused, takes_memory, OnRefused}
+use Rattle.desk_core.specs.theorem.History.{world_from, world_of, AreAccepted, IsAnswer, history_after, history_of, AreAnswers}
 use Rattle.timeline_core.specs.Timeline.{Timeline}
 use Rattle.syncfile_core.specs.SyncFile.{File}
 use Rattle.dmabuf_core.specs.Buffers.{Buffer}
 use Rattle.fence_core.specs.Watch.{Registry}
 use Rattle.fence_core.specs.Watches.{no_watches}
-use Rattle.desk_core.specs.Desk.{DeskState, Holds, HasHistory, Answers}
+use Rattle.desk_core.specs.theorem.Desk.{DeskState, Holds, HasHistory, Answers}
 use Rattle.desk_core.specs.Keeping.{Keeps, cause_of, fires_kept, IsDone, answer_of}
 use Rattle.desk_core.proofs.Sound.{IsSound-history, none_distinct}
 use Rattle.desk_core.proofs.Stepping.{causes-keeps}

@@ -14,7 +14,7 @@ use Rattle.point_core.proofs.Agreement.{AgreesAbove-append, AgreesAbove-trans}
 use Rattle.point_core.proofs.Named.{has_named-names, named-All}
 use Rattle.resv_core.specs.Resv.{Reservation, empty}
 use Rattle.dmabuf_core.specs.Buffers.{Buffer, has_buffer, entries_of, names_of, OnlyChanges}
-use Rattle.desk_core.specs.World.{MadeBuffer, has_made_buffer, buffer_named, buffer_put_set, buffer_of, with_more, put_into}
+use Rattle.desk_core.specs.theorem.World.{MadeBuffer, has_made_buffer, buffer_named, buffer_put_set, buffer_of, with_more, put_into}
 
 abbrev pub made_buffer_names : List MadeBuffer → List (List ℕ)
 made_buffer_names bs = map (λ (b : MadeBuffer). b.name) bs

@@ -17,9 +17,9 @@ use Rattle.timeline_core.specs.Timeline.{Timeline, new_timeline, context_of, clo
 use Rattle.syncfile_core.specs.SyncFile.{File, plain_file, file_of}
 use Rattle.syncfile_core.specs.Files.{file_at as sync_file_at, without_file}
 use Rattle.syncfile_core.specs.Merge.{merge_of}
-use Rattle.desk_core.specs.World.{World, MadeFile, file_named, put_set, buffer_put_set}
-use Rattle.desk_core.specs.Answer.{listed_points, fence_row, or_stub, info_reported, number_if}
-use Rattle.desk_core.specs.Desk.{DeskState}
+use Rattle.desk_core.specs.theorem.World.{World, MadeFile, file_named, put_set, buffer_put_set}
+use Rattle.desk_core.specs.theorem.Answer.{listed_points, fence_row, or_stub, info_reported, number_if}
+use Rattle.desk_core.specs.theorem.Desk.{DeskState}
 use Rattle.desk_core.specs.Keeping.{points_at, Keeps, IsDone, AreMade, HaveTimelines, info_at}
 use Rattle.desk_core.proofs.Keeping.{points_of-files_at, sync_file_at-points, sync_file_at-All, AgreesAbove-keeps}
 use Rattle.desk_core.proofs.Signalling.{all_reached-keeps, IsReached-table, common_status-reported}

@@ -11,7 +11,7 @@ use Rattle.syncfile_core.specs.Files.{cause_to_refuse}
 use Rattle.dmabuf_core.specs.Buffers.{has_buffer, cause_by_flags}
 use Rattle.dmabuf_core.specs.Flags.{is_sync_flags}
 use Rattle.command_core.specs.declared.command.Command.TheVariants as command
-use Rattle.desk_core.specs.Desk.{DeskState}
+use Rattle.desk_core.specs.theorem.Desk.{DeskState}
 use Rattle.desk_core.specs.Keeping.{cause_of}
 use denote.Bor.{Bor}
 

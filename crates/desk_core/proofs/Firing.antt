@@ -9,17 +9,18 @@ use Rattle.point_core.proofs.Reached.{all_reached-IsReached}
 use Rattle.timeline_core.specs.Timeline.{has_timeline, value_of, is_closed}
 use Rattle.command_core.specs.declared.command.Command.{Command}
 use Rattle.command_core.specs.declared.command.Command.TheVariants as command
-use Rattle.desk_core.specs.World.{World, MadeWatch, empty_world, put_set, after, is_due, raised_reach, shut_reach, due_watches, other_watches, fired_watches, shut_watches, watch_made}
+use Rattle.desk_core.specs.theorem.World.{World, MadeWatch, empty_world, put_set, after, is_due, raised_reach, shut_reach, due_watches, other_watches, fired_watches, shut_watches, watch_made}
 use Rattle.std.proofs.Common.{◌^◌}
 use Rattle.timeline_core.specs.Timeline.{reach_of}
 use Rattle.fence_core.proofs.Once.{Contains-filter, Contains-filtered}
-use Rattle.desk_core.specs.Desk.{DeskState, HasHistory}
-use Rattle.desk_core.specs.Headline.{ReportsWhatFires, put_into_file}
-use Rattle.desk_core.specs.History.{world_of}
-use Rattle.desk_core.specs.World.{cookies_of}
+use Rattle.desk_core.specs.theorem.Desk.{DeskState, HasHistory}
+use Rattle.desk_core.specs.theorem.Headline.{ReportsWhatFires, put_into_file}
+use Rattle.desk_core.specs.theorem.History.{world_of}
+use Rattle.desk_core.specs.theorem.World.{cookies_of}
 use Rattle.desk_core.proofs.Answering.{world_from-push}
 use Rattle.desk_core.proofs.Sums.{reported_raised, reported_closed}
-use Rattle.desk_core.specs.Fired.{fired_from, fired_along, pending_after, IsLeftBy}
+use Rattle.desk_core.specs.theorem.Fired.{fired_from, fired_along, pending_after}
+use Rattle.desk_core.specs.Removals.{IsLeftBy}
 use Rattle.std.proofs.lemmas.Bool.{ne_eqb}
 use Rattle.std.proofs.lemmas.List.Elements.{Contains-append_left}
 

@@ -16,7 +16,7 @@ use Rattle.syncfile_core.specs.Files.{is_named, without_file}
 use Rattle.syncfile_core.specs.Merge.{merge_of}
 use Rattle.fence_core.specs.Watch.{Registry}
 use Rattle.fence_core.specs.Watches.{no_watches, after_rise_to, with_watch, without_watch}
-use Rattle.desk_core.specs.Desk.{DeskState}
+use Rattle.desk_core.specs.theorem.Desk.{DeskState}
 use Rattle.desk_core.specs.Keeping.{AreMade, HasNoneBehind, IsOfItsTimelines}
 use Rattle.desk_core.proofs.Behind.{HasNoneBehind-AgreesAbove, HasNoneBehind-append, HasNoneBehind-made, HasNoneBehind-later, AreMade-behind}
 use Rattle.desk_core.proofs.Buffers.{same_or_other, entries_of-new, entries_in}

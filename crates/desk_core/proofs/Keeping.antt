@@ -14,9 +14,9 @@ use Rattle.timeline_core.specs.Timeline.{Timeline, reach_of}
 use Rattle.syncfile_core.specs.SyncFile.{File}
 use Rattle.syncfile_core.specs.Files.{has_file as has_sync_file, without_file, file_at as sync_file_at}
 use Rattle.syncfile_core.specs.Merge.{files_at, points_of}
-use Rattle.desk_core.specs.World.{World, MadeFile, files_without, has_file, file_named, put_set}
-use Rattle.desk_core.specs.Answer.{listed_points}
-use Rattle.desk_core.specs.Desk.{DeskState}
+use Rattle.desk_core.specs.theorem.World.{World, MadeFile, files_without, has_file, file_named, put_set}
+use Rattle.desk_core.specs.theorem.Answer.{listed_points}
+use Rattle.desk_core.specs.theorem.Desk.{DeskState}
 use Rattle.desk_core.specs.Sound.{WasMade, IsFilePoint}
 use Rattle.desk_core.specs.Keeping.{points_at, Keeps}
 

@@ -8,8 +8,8 @@ use Rattle.command_core.specs.declared.command.Command.TheVariants as command
 use Rattle.command_core.specs.declared.answer.Answer.{Answer}
 use Rattle.command_core.specs.declared.answer.Answer.TheVariants as answer
 use Rattle.command_core.specs.declared.answer.Maker.TheVariants.{SwSync}
-use Rattle.desk_core.specs.World.{World, empty_world, after}
-use Rattle.desk_core.specs.Answer.{answer_to, is_refused}
+use Rattle.desk_core.specs.theorem.World.{World, empty_world, after}
+use Rattle.desk_core.specs.theorem.Answer.{answer_to, is_refused}
 
 -- the answers of commands that run after one another, with no want of memory
 abbrev pub answers_from : World → List Command → List Answer

@@ -11,8 +11,8 @@ use Rattle.point_core.specs.Clocks.{reach_of_clocks, status_of, some_cancelled, 
 use Rattle.point_core.proofs.Reached.{IsReached-AgreesAbove, all_reached-AgreesAbove, all_reached-points}
 use Rattle.timeline_core.specs.Timeline.{reach_of}
 use Rattle.dmabuf_core.specs.Buffers.{entries_of}
-use Rattle.desk_core.specs.World.{World, put_set, buffer_put_set}
-use Rattle.desk_core.specs.Desk.{DeskState}
+use Rattle.desk_core.specs.theorem.World.{World, put_set, buffer_put_set}
+use Rattle.desk_core.specs.theorem.Desk.{DeskState}
 use Rattle.desk_core.specs.Keeping.{points_at, Keeps}
 use Rattle.desk_core.proofs.Keeping.{AgreesAbove-keeps}
 

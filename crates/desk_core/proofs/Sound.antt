@@ -31,12 +31,12 @@ use Rattle.timeline_core.proofs.Storing.{reach_of-new, AreTimelines-new}
 use Rattle.command_core.specs.declared.answer.Answer.{Answer}
 use Rattle.command_core.specs.declared.command.Command.{Command}
 use Rattle.command_core.specs.declared.command.Command.TheVariants as command
-use Rattle.desk_core.specs.World.{World, MadeFile, MadeBuffer, put_set, has_made_buffer, buffer_put_set, buffer_of, with_put, after, empty_world}
+use Rattle.desk_core.specs.theorem.World.{World, MadeFile, MadeBuffer, put_set, has_made_buffer, buffer_put_set, buffer_of, with_put, after, empty_world}
 use Rattle.point_core.specs.Named.{same_name}
 use Rattle.resv_core.specs.Resv.{entry_of}
 use Rattle.dmabuf_core.specs.Flags.{exported, imported, export_usage, import_usage, is_within, at_strongest, with_usage}
-use Rattle.desk_core.specs.Answer.{first_of, cause, making_file, causes, refused_or, is_refused, reported}
-use Rattle.desk_core.specs.History.{world_from, world_of, AreAccepted, IsHistory}
+use Rattle.desk_core.specs.theorem.Answer.{first_of, cause, making_file, causes, refused_or, is_refused, reported}
+use Rattle.desk_core.specs.theorem.History.{world_from, world_of, AreAccepted, IsHistory}
 use Rattle.desk_core.specs.Sound.{WasMade, IsFilePoint, IsOfMade, IsOfTimelines, IsSound}
 use Rattle.desk_core.proofs.Buffers.{put_into-All, buffer_put_set-All}
 use Rattle.desk_core.proofs.Keeping.{put_set-made}

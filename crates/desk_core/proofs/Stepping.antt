@@ -14,9 +14,9 @@ use Rattle.timeline_core.specs.Timeline.{Timeline, new_timeline, has_timeline, c
 use Rattle.syncfile_core.specs.SyncFile.{File, plain_file, file_of}
 use Rattle.syncfile_core.specs.Files.{has_file as has_sync_file, without_file, cause_to_refuse}
 use Rattle.syncfile_core.specs.Merge.{merge_of}
-use Rattle.desk_core.specs.World.{World, MadeFile, has_file, after, has_made_buffer, buffer_of, MadeBuffer, with_put, has_made_watch, other_watches}
-use Rattle.desk_core.specs.Answer.{first_of, cause, is_full, causes, making_file, listed_points}
-use Rattle.desk_core.specs.Desk.{DeskState, Holds}
+use Rattle.desk_core.specs.theorem.World.{World, MadeFile, has_file, after, has_made_buffer, buffer_of, MadeBuffer, with_put, has_made_watch, other_watches}
+use Rattle.desk_core.specs.theorem.Answer.{first_of, cause, is_full, causes, making_file, listed_points}
+use Rattle.desk_core.specs.theorem.Desk.{DeskState, Holds}
 use Rattle.desk_core.specs.Keeping.{points_at, Keeps, cause_of, first_cause}
 use Rattle.desk_core.proofs.Signalling.{all_reached-keeps, put_reached}
 use Rattle.desk_core.proofs.Keeping.{points_of-files_at, has_sync_file-names, length-names, without_file-names, without_file-points, listing-keeps, AgreesAbove-keeps}

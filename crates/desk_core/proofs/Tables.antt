@@ -22,9 +22,9 @@ use Rattle.command_core.specs.declared.answer.ShowRow.{ShowRow}
 use Rattle.command_core.specs.declared.answer.FileRow.{FileRow}
 use Rattle.command_core.specs.declared.answer.BufferRows.{BufferRows}
 use Rattle.command_core.specs.Tables.{Tables}
-use Rattle.desk_core.specs.World.{World, MadeFile, MadeBuffer, buffer_put_set}
-use Rattle.desk_core.specs.Answer.{listed_points, fence_count, show_row, show_rows, file_row, buffer_rows, report_of}
-use Rattle.desk_core.specs.Desk.{DeskState}
+use Rattle.desk_core.specs.theorem.World.{World, MadeFile, MadeBuffer, buffer_put_set}
+use Rattle.desk_core.specs.theorem.Answer.{listed_points, fence_count, show_row, show_rows, file_row, buffer_rows, report_of}
+use Rattle.desk_core.specs.theorem.Desk.{DeskState}
 use Rattle.desk_core.specs.Sound.{WasMade}
 use Rattle.desk_core.specs.Keeping.{Keeps, IsDone, file_row_at, buffer_rows_at, report_at}
 use Rattle.desk_core.proofs.Keeping.{kept_names, kept_points, made_names, made_points, AgreesAbove-listed_points}

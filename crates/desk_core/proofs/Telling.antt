@@ -15,12 +15,12 @@ use Rattle.command_core.specs.declared.answer.Info.{Info}
 use Rattle.timeline_core.specs.Timeline.{clocks_of, reach_of}
 use Rattle.syncfile_core.specs.SyncFile.{File}
 use Rattle.syncfile_core.specs.Files.{file_at as sync_file_at}
-use Rattle.desk_core.specs.World.{World, MadeFile, has_file, file_named, put_set, has_made_buffer}
-use Rattle.desk_core.specs.Answer.{refused_or, listed_points, info_of, info_reported, number_if}
-use Rattle.desk_core.specs.Desk.{DeskState, HasHistory, Answers}
-use Rattle.desk_core.specs.History.{world_of}
+use Rattle.desk_core.specs.theorem.World.{World, MadeFile, has_file, file_named, put_set, has_made_buffer}
+use Rattle.desk_core.specs.theorem.Answer.{refused_or, listed_points, info_of, info_reported, number_if}
+use Rattle.desk_core.specs.theorem.Desk.{DeskState, HasHistory, Answers}
+use Rattle.desk_core.specs.theorem.History.{world_of}
 use Rattle.desk_core.specs.Keeping.{points_at, Keeps}
-use Rattle.desk_core.specs.Headline.{ReportsWhatWasPut, values_after, put_into_file, IsFileReached, ReportsWhatIsInBuffers, put_into_buffer, IsBufferReached}
+use Rattle.desk_core.specs.theorem.Headline.{ReportsWhatWasPut, values_after, put_into_file, IsFileReached, ReportsWhatIsInBuffers, put_into_buffer, IsBufferReached}
 use Rattle.desk_core.proofs.Answering.{Keeps-stands}
 use Rattle.desk_core.proofs.Finding.{has_sync_file-found}
 use Rattle.desk_core.proofs.Keeping.{sync_file_at-points, has_sync_file-names, AgreesAbove-keeps}

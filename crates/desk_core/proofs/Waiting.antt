@@ -16,7 +16,7 @@ use Rattle.point_core.specs.Reach.{is_reached}
 use Rattle.point_core.specs.Refusal.{IsRefusedFor}
 use Rattle.syncfile_core.specs.Files.{is_named, has_file as has_sync_file, file_at as sync_file_at, without_file}
 use Rattle.command_core.specs.declared.command.Command.TheVariants as command
-use Rattle.desk_core.specs.Desk.{DeskState}
+use Rattle.desk_core.specs.theorem.Desk.{DeskState}
 use Rattle.desk_core.specs.Keeping.{cause_of}
 use Rattle.desk_core.proofs.Finding.{has_sync_file-found}
 use Rattle.std.specs.List.{list_all}

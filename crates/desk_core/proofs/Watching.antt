@@ -23,9 +23,9 @@ use Rattle.fence_core.specs.Fence.{are_reached}
 use Rattle.fence_core.specs.Watch.{IsWatchOf}
 use Rattle.fence_core.specs.Watches.{has_watch, has_room, fired_by, cause_to_refuse, cause_to_refuse_watch, if_none}
 use Rattle.fence_core.proofs.Firing.{AllZip-later, fired-none, cookies_of-fires, list_any-fires, list_any-is_for}
-use Rattle.desk_core.specs.World.{World, MadeWatch, has_made_watch, raised_reach, shut_reach, due_watches, has_due_watch, fired_watches, shut_watches, fires_some, cookies_of}
-use Rattle.desk_core.specs.Answer.{is_full}
-use Rattle.desk_core.specs.Desk.{DeskState, AreWatchesOf, Holds}
+use Rattle.desk_core.specs.theorem.World.{World, MadeWatch, has_made_watch, raised_reach, shut_reach, due_watches, has_due_watch, fired_watches, shut_watches, fires_some, cookies_of}
+use Rattle.desk_core.specs.theorem.Answer.{is_full}
+use Rattle.desk_core.specs.theorem.Desk.{DeskState, AreWatchesOf, Holds}
 use Rattle.desk_core.specs.Keeping.{points_at, Keeps, cause_of, keeps_due, fires_kept}
 use Rattle.command_core.specs.declared.command.Command.{Command}
 use Rattle.command_core.specs.declared.command.Command.TheVariants as command

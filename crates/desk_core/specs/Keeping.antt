@@ -29,9 +29,9 @@ use Rattle.command_core.specs.declared.answer.Answer.{Answer}
 use Rattle.command_core.specs.declared.answer.Answer.TheVariants as answer
 use Rattle.command_core.specs.declared.command.Command.{Command}
 use Rattle.command_core.specs.declared.command.Command.TheVariants as command
-use Rattle.desk_core.specs.World.{World, after, reach_by}
-use Rattle.desk_core.specs.Answer.{reported, is_refused, fence_row, or_stub, show_rows, fence_count}
-use Rattle.desk_core.specs.Desk.{DeskState, Holds}
+use Rattle.desk_core.specs.theorem.World.{World, after, reach_by}
+use Rattle.desk_core.specs.theorem.Answer.{reported, is_refused, fence_row, or_stub, show_rows, fence_count}
+use Rattle.desk_core.specs.theorem.Desk.{DeskState, Holds}
 use Rattle.desk_core.specs.Sound.{IsSound}
 
 -- each point is of a timeline that was made

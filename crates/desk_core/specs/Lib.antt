@@ -1,9 +1,4 @@
-pub mod Answer
-pub mod Desk
-pub mod Fired
-pub mod Headline
-pub mod History
 pub mod Keeping
+pub mod Removals
 pub mod Sound
-pub mod Times
-pub mod World
+pub mod theorem

@@ -4,7 +4,7 @@ use Rattle.point_core.specs.declared.entry.Entry.{Entry}
 use Rattle.point_core.specs.declared.entry.Usage.TheVariants.{Kernel}
 use Rattle.point_core.specs.Reach.{GREATEST, IsAtLeast}
 use Rattle.timeline_core.specs.Timeline.{Timeline, reach_of, AreTimelines}
-use Rattle.desk_core.specs.World.{MadeFile, MadeBuffer, World}
+use Rattle.desk_core.specs.theorem.World.{MadeFile, MadeBuffer, World}
 
 -- an entry is of a timeline that was made
 abbrev pub IsOfMade : ℕ → Entry → Type 0

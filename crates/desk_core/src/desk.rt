@@ -25,7 +25,7 @@ pub struct Desk {
 }
 
 impl Model for Desk {
-    ghost use Rattle.desk_core.specs.Desk.{DeskState};
+    ghost use Rattle.desk_core.specs.theorem.Desk.{DeskState};
     ghost use Rattle.desk_core.specs.Keeping.{IsOfItsTimelines};
 
     ghost Value = { DeskState };
@@ -37,7 +37,7 @@ impl Model for Desk {
 }
 
 impl Desk {
-    ghost use Rattle.desk_core.specs.Answer.{OnRefused, takes_memory};
+    ghost use Rattle.desk_core.specs.theorem.Answer.{OnRefused, takes_memory};
     ghost use Rattle.point_core.specs.Clocks.{status_at};
     ghost use Rattle.timeline_core.specs.Timeline.{has_timeline, name_at, clocks_of, value_of};
     ghost use Rattle.syncfile_core.specs.SyncFile.{File};
@@ -45,8 +45,8 @@ impl Desk {
     ghost use Rattle.syncfile_core.specs.Files.{file_at};
     ghost use Rattle.dmabuf_core.specs.Buffers.{has_buffer};
     ghost use Rattle.fence_core.specs.Watches.{has_watch};
-    ghost use Rattle.desk_core.specs.History.{history_after};
-    ghost use Rattle.desk_core.specs.Desk.{HasHistory, Answers};
+    ghost use Rattle.desk_core.specs.theorem.History.{history_after};
+    ghost use Rattle.desk_core.specs.theorem.Desk.{HasHistory, Answers};
     ghost use Rattle.desk_core.specs.Keeping.{cause_of, fires_kept, IsDone};
 
     /// A desk without timelines, files, buffers and watches. It takes no memory yet, so it is never refused.

@@ -1,7 +1,7 @@
 // File information.
 ghost use Rattle.std.specs.Prelude.{◌≡◌, ◌≤◌, [], ◌∷◌, length, map, IfOk, IfErr};
 ghost use Rattle.timeline_core.specs.Timeline.{clocks_of};
-ghost use Rattle.desk_core.specs.Answer.{fence_row, stub_row, or_stub};
+ghost use Rattle.desk_core.specs.theorem.Answer.{fence_row, stub_row, or_stub};
 ghost use Rattle.desk_core.specs.Keeping.{AreMade, info_at};
 
 use command_core::{FenceRow, Info, Maker};

@@ -3,14 +3,15 @@ ghost use Rattle.std.specs.Prelude.{◌≡◌, ℕ, ◌≤◌, nat_eq, count_by,
 ghost use Rattle.command_core.specs.declared.command.Command.{Command};
 ghost use Rattle.command_core.specs.declared.answer.Answer.{Answer};
 ghost use Rattle.timeline_core.specs.Run.{AreSums};
-ghost use Rattle.desk_core.specs.Answer.{causes, first_of};
-ghost use Rattle.desk_core.specs.History.{world_of, IsHistory, increments_in, history_of, AreAnswers};
+ghost use Rattle.desk_core.specs.theorem.Answer.{causes, first_of};
+ghost use Rattle.desk_core.specs.theorem.History.{world_of, IsHistory, increments_in, history_of, AreAnswers};
 ghost use Rattle.desk_core.specs.Sound.{IsSound};
-ghost use Rattle.desk_core.specs.Desk.{DeskState, HasHistory};
+ghost use Rattle.desk_core.specs.theorem.Desk.{DeskState, HasHistory};
 ghost use Rattle.desk_core.specs.Keeping.{cause_of};
-ghost use Rattle.desk_core.specs.World.{MadeWatch, watch_made};
-ghost use Rattle.desk_core.specs.Fired.{fired_along, pending_after, IsLeftBy};
-ghost use Rattle.desk_core.specs.Headline.{ReportsSums, ReportsWhatWasPut, ReportsWhatIsInBuffers, ReportsWhatFires, ReportsEachWatch, put_into_file};
+ghost use Rattle.desk_core.specs.theorem.World.{MadeWatch, watch_made};
+ghost use Rattle.desk_core.specs.theorem.Fired.{fired_along, pending_after};
+ghost use Rattle.desk_core.specs.Removals.{IsLeftBy};
+ghost use Rattle.desk_core.specs.theorem.Headline.{ReportsSums, ReportsWhatWasPut, ReportsWhatIsInBuffers, ReportsWhatFires, ReportsEachWatch, put_into_file};
 
 /// What was put into files and buffers is of timelines that were made, and no value has fallen since; there are no more
 /// timelines than contexts.

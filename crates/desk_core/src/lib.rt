@@ -1,6 +1,6 @@
 //! The desk: one command in, one answer out, and a run over a list of commands.
 //!
-//! The accepted commands make a world (`specs/World.antt`), and nothing in its put sets is ever dropped, replaced or
+//! The accepted commands make a world (`specs/theorem/World.antt`), and nothing in its put sets is ever dropped, replaced or
 //! compacted. The desk keeps less than its world, and answers as the world does.
 #![tactic(auto)]
 

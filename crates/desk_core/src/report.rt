@@ -3,7 +3,7 @@ ghost use Rattle.std.specs.Prelude.{◌≡◌, ◌≤◌, List, ℕ, length, map
 ghost use Rattle.point_core.specs.declared.limits.TheConstants.{BUFFERS};
 ghost use Rattle.timeline_core.specs.Timeline.{reach_of};
 ghost use Rattle.dmabuf_core.specs.Buffers.{names_of, entries_of};
-ghost use Rattle.desk_core.specs.Answer.{show_row};
+ghost use Rattle.desk_core.specs.theorem.Answer.{show_row};
 ghost use Rattle.desk_core.specs.Keeping.{AreRowsMade, HasNoneBehind, file_row_at, buffer_rows_at, report_at};
 
 use command_core::{BufferRows, FileRow, Report, ShowRow};

@@ -1,8 +1,8 @@
 // A run over a list of commands.
 ghost use Rattle.std.specs.Prelude.{◌≡◌, [], IfOk, IfErr, length, vec_len, vec_capacity};
-ghost use Rattle.desk_core.specs.History.{history_of, AreAnswers};
-ghost use Rattle.desk_core.specs.Desk.{HasHistory};
-ghost use Rattle.desk_core.specs.Headline.{ReportsSums, ReportsWhatWasPut, ReportsWhatIsInBuffers, ReportsWhatFires, ReportsEachWatch};
+ghost use Rattle.desk_core.specs.theorem.History.{history_of, AreAnswers};
+ghost use Rattle.desk_core.specs.theorem.Desk.{HasHistory};
+ghost use Rattle.desk_core.specs.theorem.Headline.{ReportsSums, ReportsWhatWasPut, ReportsWhatIsInBuffers, ReportsWhatFires, ReportsEachWatch};
 
 use crate::desk::Desk;
 use command_core::{Answer, Command};

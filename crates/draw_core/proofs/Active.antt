@@ -14,7 +14,7 @@ use Rattle.point_core.specs.Reach.{GREATEST}
 use Rattle.point_core.specs.Status.{is_signalled}
 use Rattle.timeline_core.specs.Timeline.{AreTimelines, Timeline, clock_named, clocks_of, has_timeline, name_at, own_clock, own_clocks, value_of}
 use Rattle.timeline_core.proofs.Places.{clock_named-place, has_timeline-name, name-place, place-of}
-use Rattle.desk_core.specs.Answer.{name_of}
+use Rattle.desk_core.specs.theorem.Answer.{name_of}
 use Rattle.picture_core.specs.Waits.{edge_to}
 use Rattle.picture_core.specs.declared.graph.Waiter.{Waiter}
 use Rattle.draw_core.specs.Found.{edges_of, is_waited_for}

@@ -9,11 +9,11 @@ use Rattle.command_core.specs.declared.answer.Answer.TheVariants as answer
 use Rattle.command_core.specs.declared.command.Command.{Command}
 use Rattle.command_core.specs.declared.command.Command.TheVariants.{Report}
 use Rattle.command_core.specs.Tables.{Tables}
-use Rattle.desk_core.specs.Answer.{buffer_rows, file_row, name_of, report_of}
-use Rattle.desk_core.specs.Desk.{Answers, DeskState, HasHistory}
-use Rattle.desk_core.specs.History.{history_after, world_of}
+use Rattle.desk_core.specs.theorem.Answer.{buffer_rows, file_row, name_of, report_of}
+use Rattle.desk_core.specs.theorem.Desk.{Answers, DeskState, HasHistory}
+use Rattle.desk_core.specs.theorem.History.{history_after, world_of}
 use Rattle.desk_core.specs.Keeping.{Keeps}
-use Rattle.desk_core.specs.World.{MadeBuffer, MadeFile, World, empty_world}
+use Rattle.desk_core.specs.theorem.World.{MadeBuffer, MadeFile, World, empty_world}
 use Rattle.desk_core.proofs.Answering.{Keeps-stands, world_from-push}
 use Rattle.desk_core.proofs.Keeping.{points_at-keeps}
 use Rattle.picture_core.specs.Waits.{edge_to}

@@ -23,9 +23,9 @@ use Rattle.syncfile_core.specs.Files.{file_at}
 use Rattle.point_core.specs.declared.refusal.Refusal.TheVariants.{NoEntry, Flags, Cancelled as AlreadyClosed}
 use Rattle.dmabuf_core.specs.Flags.{is_sync_flags}
 use Rattle.desk_core.proofs.Sound.{first_of-none}
-use Rattle.desk_core.specs.World.{World, MadeFile, file_named, files_without, has_file, has_made_buffer, after}
-use Rattle.desk_core.specs.Answer.{first_of, causes, cause, making_file, file_status, listed_points}
-use Rattle.desk_core.specs.Desk.{DeskState}
+use Rattle.desk_core.specs.theorem.World.{World, MadeFile, file_named, files_without, has_file, has_made_buffer, after}
+use Rattle.desk_core.specs.theorem.Answer.{first_of, causes, cause, making_file, file_status, listed_points}
+use Rattle.desk_core.specs.theorem.Desk.{DeskState}
 use Rattle.desk_core.specs.Keeping.{Keeps}
 use Rattle.desk_core.specs.Sound.{IsSound, WasMade}
 use Rattle.desk_core.proofs.Keeping.{AgreesAbove-listed_points, sync_file_at-points, file_named-All}

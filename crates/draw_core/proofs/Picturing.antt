@@ -2,7 +2,7 @@
 use Rattle.std.proofs.Common.{◌≡◌, ◌∙◌, ℕ, Bool, true, false, cond, List, [], ◌∷◌, Some, ap, refl, sym, subst}
 use Rattle.std.proofs.lemmas.List.Elements.{All-get_or}
 use Rattle.line_core.specs.declared.line.Line.{Line}
-use Rattle.desk_core.specs.World.{World}
+use Rattle.desk_core.specs.theorem.World.{World}
 use Rattle.picture_core.specs.Bars.{drawn_at, is_there}
 use Rattle.picture_core.specs.Picture.{ShowsHistory}
 use Rattle.picture_core.specs.Shapes.{fill_of}

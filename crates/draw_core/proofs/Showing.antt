@@ -9,10 +9,10 @@ use Rattle.command_core.specs.declared.answer.Answer.{Answer}
 use Rattle.line_core.specs.declared.line.Body.{Body}
 use Rattle.line_core.specs.declared.line.Body.TheVariants.{Cmd, Bad}
 use Rattle.line_core.specs.declared.line.Line.{Line}
-use Rattle.desk_core.specs.World.{World, empty_world}
-use Rattle.desk_core.specs.Answer.{first_of, causes, is_refused}
-use Rattle.desk_core.specs.History.{world_of, IsAnswer}
-use Rattle.desk_core.specs.Desk.{DeskState, HasHistory}
+use Rattle.desk_core.specs.theorem.World.{World, empty_world}
+use Rattle.desk_core.specs.theorem.Answer.{first_of, causes, is_refused}
+use Rattle.desk_core.specs.theorem.History.{world_of, IsAnswer}
+use Rattle.desk_core.specs.theorem.Desk.{DeskState, HasHistory}
 use Rattle.desk_core.proofs.Answering.{Keeps-stands, world_from-push}
 use Rattle.desk_core.proofs.Sound.{causes-accepted}
 use Rattle.script_core.specs.Output.{AreLineAnswers, IsLineAnswer, history_after_line}

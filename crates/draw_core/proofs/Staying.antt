@@ -24,8 +24,8 @@ use Rattle.timeline_core.proofs.Raising.{clocks_of-raised, clocks_of-shut, is_cl
 use Rattle.timeline_core.proofs.Storing.{clocks_of-new, reach_of-new}
 use Rattle.command_core.specs.declared.command.Command.{Command}
 use Rattle.command_core.specs.declared.command.Command.TheVariants as command
-use Rattle.desk_core.specs.World.{World, MadeFile, has_file, file_named, files_without, after}
-use Rattle.desk_core.specs.Answer.{first_of, cause, causes, making_file, file_status, listed_points}
+use Rattle.desk_core.specs.theorem.World.{World, MadeFile, has_file, file_named, files_without, after}
+use Rattle.desk_core.specs.theorem.Answer.{first_of, cause, causes, making_file, file_status, listed_points}
 use Rattle.desk_core.specs.Sound.{IsSound, WasMade}
 use Rattle.desk_core.proofs.Keeping.{AgreesAbove-listed_points}
 use Rattle.desk_core.proofs.Sound.{first_of-none, not-false, IsAtLeast-raised, IsAtLeast-shut}

@@ -8,9 +8,9 @@ use Rattle.point_core.specs.declared.entry.Point.{Point}
 use Rattle.timeline_core.specs.Timeline.{Timeline}
 use Rattle.syncfile_core.specs.SyncFile.{File}
 use Rattle.syncfile_core.specs.Files.{file_at}
-use Rattle.desk_core.specs.World.{World, MadeFile, file_named}
-use Rattle.desk_core.specs.Answer.{listed_points}
-use Rattle.desk_core.specs.Desk.{DeskState}
+use Rattle.desk_core.specs.theorem.World.{World, MadeFile, file_named}
+use Rattle.desk_core.specs.theorem.Answer.{listed_points}
+use Rattle.desk_core.specs.theorem.Desk.{DeskState}
 use Rattle.desk_core.specs.Keeping.{Keeps}
 use Rattle.desk_core.proofs.Answering.{Keeps-stands}
 use Rattle.desk_core.proofs.Keeping.{sync_file_at-points}

@@ -8,7 +8,7 @@ use Rattle.point_core.specs.declared.status.Status.TheVariants.{Active}
 use Rattle.timeline_core.specs.Timeline.{clocks_of, name_at, value_of}
 use Rattle.syncfile_core.specs.SyncFile.{File}
 use Rattle.syncfile_core.specs.Files.{file_at}
-use Rattle.desk_core.specs.Desk.{DeskState}
+use Rattle.desk_core.specs.theorem.Desk.{DeskState}
 use Rattle.picture_core.specs.Bars.{drawn_at}
 use Rattle.picture_core.specs.declared.bar.Bar.{Bar}
 use Rattle.picture_core.specs.declared.waiting.Waiting.{Waiting}

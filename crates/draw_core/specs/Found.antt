@@ -11,8 +11,8 @@ use Rattle.command_core.specs.Tables.{Tables}
 use Rattle.syncfile_core.specs.SyncFile.{File}
 use Rattle.syncfile_core.specs.Files.{file_at}
 use Rattle.timeline_core.specs.Timeline.{Timeline, clocks_of, name_at}
-use Rattle.desk_core.specs.Answer.{name_of}
-use Rattle.desk_core.specs.Desk.{DeskState}
+use Rattle.desk_core.specs.theorem.Answer.{name_of}
+use Rattle.desk_core.specs.theorem.Desk.{DeskState}
 use Rattle.picture_core.specs.Waits.{edge_to}
 use Rattle.picture_core.specs.declared.graph.Edge.{Edge}
 use Rattle.picture_core.specs.declared.graph.Waiter.{Waiter}

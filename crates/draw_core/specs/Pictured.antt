@@ -2,7 +2,7 @@
 use Rattle.std.specs.Prelude.{◌≡◌, ◌<◌, ◌≤◌, ℕ, if◌then◌else◌, List, [], ◌∷◌, length, get_or, Option, None, Some}
 use Rattle.point_core.specs.declared.status.Status.{Status}
 use Rattle.line_core.specs.declared.line.Line.{Line}
-use Rattle.desk_core.specs.World.{World}
+use Rattle.desk_core.specs.theorem.World.{World}
 use Rattle.picture_core.specs.Bars.{is_there}
 use Rattle.picture_core.specs.Picture.{ShowsHistory}
 use Rattle.picture_core.specs.Shapes.{fill_of, fills_at}

@@ -6,9 +6,9 @@ use Rattle.line_core.specs.declared.line.Body.TheVariants.{Cmd, Bad}
 use Rattle.line_core.specs.declared.line.Line.{Line}
 use Rattle.syncfile_core.specs.SyncFile.{File}
 use Rattle.syncfile_core.specs.Files.{file_at}
-use Rattle.desk_core.specs.Answer.{is_refused}
-use Rattle.desk_core.specs.World.{World, file_named}
-use Rattle.desk_core.specs.Desk.{DeskState, HasHistory}
+use Rattle.desk_core.specs.theorem.Answer.{is_refused}
+use Rattle.desk_core.specs.theorem.World.{World, file_named}
+use Rattle.desk_core.specs.theorem.Desk.{DeskState, HasHistory}
 use Rattle.script_core.specs.Output.{AreLineAnswers}
 use Rattle.script_core.specs.Answering.{history_along}
 use Rattle.point_core.specs.declared.entry.Point.{Point}

@@ -9,9 +9,9 @@ use Rattle.command_core.specs.declared.command.Command.{Command}
 use Rattle.command_core.specs.declared.answer.Answer.{Answer}
 use Rattle.line_core.specs.declared.line.Line.{Line}
 use Rattle.timeline_core.specs.Timeline.{Timeline, clocks_of, name_at, value_of}
-use Rattle.desk_core.specs.World.{World, MadeFile, file_named}
-use Rattle.desk_core.specs.Answer.{file_status, listed_points}
-use Rattle.desk_core.specs.History.{world_of}
+use Rattle.desk_core.specs.theorem.World.{World, MadeFile, file_named}
+use Rattle.desk_core.specs.theorem.Answer.{file_status, listed_points}
+use Rattle.desk_core.specs.theorem.History.{world_of}
 use Rattle.script_core.specs.Output.{AreLineAnswers, history_after_line}
 use Rattle.script_core.specs.Answering.{history_along}
 use Rattle.draw_core.specs.declared.window.Window.{Window}

@@ -8,9 +8,9 @@ use Rattle.command_core.specs.declared.answer.BufferRows.{BufferRows}
 use Rattle.command_core.specs.declared.answer.ShowRow.{ShowRow}
 use Rattle.line_core.specs.declared.line.Line.{Line}
 use Rattle.timeline_core.specs.Timeline.{Timeline, clocks_of, has_timeline, name_at, value_of}
-use Rattle.desk_core.specs.Answer.{buffer_rows, listed_points, name_of}
-use Rattle.desk_core.specs.Desk.{DeskState, HasHistory}
-use Rattle.desk_core.specs.World.{MadeBuffer, MadeFile, World, file_named}
+use Rattle.desk_core.specs.theorem.Answer.{buffer_rows, listed_points, name_of}
+use Rattle.desk_core.specs.theorem.Desk.{DeskState, HasHistory}
+use Rattle.desk_core.specs.theorem.World.{MadeBuffer, MadeFile, World, file_named}
 use Rattle.script_core.specs.Answering.{history_along}
 use Rattle.script_core.specs.Output.{AreLineAnswers}
 use Rattle.picture_core.specs.Waits.{edge_to}

@@ -1,8 +1,8 @@
 //! `Run`: a script's run, recorded as a history. Lines before the window only change the desk.
 ghost use Rattle.std.specs.Prelude.{◌≡◌, ◌<◌, ◌≤◌, ◌+◌, ◌∷◌, ◌++◌, [], List, All, length, true, IfOk, OnOk};
-ghost use Rattle.desk_core.specs.Answer.{is_refused};
-ghost use Rattle.desk_core.specs.Desk.{HasHistory};
-ghost use Rattle.desk_core.specs.History.{world_of};
+ghost use Rattle.desk_core.specs.theorem.Answer.{is_refused};
+ghost use Rattle.desk_core.specs.theorem.Desk.{HasHistory};
+ghost use Rattle.desk_core.specs.theorem.History.{world_of};
 ghost use Rattle.command_core.specs.declared.command.Command.{Command as CommandModel};
 ghost use Rattle.line_core.specs.declared.line.Line.{Line as LineModel};
 ghost use Rattle.line_core.specs.Script.{script_of};

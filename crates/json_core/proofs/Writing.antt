@@ -9,8 +9,8 @@ use Rattle.std.proofs.lemmas.List.{get_or_at, length_push, take_all, take-append
 use Rattle.std.proofs.lemmas.List.Sums.{sum_by-append}
 use Rattle.command_core.specs.declared.command.Command.{Command}
 use Rattle.command_core.specs.declared.answer.Answer.{Answer}
-use Rattle.desk_core.specs.Answer.{is_refused}
-use Rattle.desk_core.specs.Desk.{DeskState, HasHistory}
+use Rattle.desk_core.specs.theorem.Answer.{is_refused}
+use Rattle.desk_core.specs.theorem.Desk.{DeskState, HasHistory}
 use Rattle.line_core.specs.declared.line.Body.{Body}
 use Rattle.line_core.specs.declared.line.Line.{Line}
 use Rattle.line_core.specs.declared.script.Ending.{Ending}

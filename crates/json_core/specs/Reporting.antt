@@ -3,8 +3,8 @@ use Rattle.std.specs.Prelude.{◌≡◌, ◌+◌, ℕ, if◌then◌else◌, List
 use Rattle.std.specs.Str.Lossy.{utf8_lossy}
 use Rattle.command_core.specs.declared.command.Command.{Command}
 use Rattle.command_core.specs.declared.answer.Answer.{Answer}
-use Rattle.desk_core.specs.Answer.{is_refused}
-use Rattle.desk_core.specs.Desk.{DeskState, HasHistory}
+use Rattle.desk_core.specs.theorem.Answer.{is_refused}
+use Rattle.desk_core.specs.theorem.Desk.{DeskState, HasHistory}
 use Rattle.line_core.specs.declared.line.Body.{Body}
 use Rattle.script_core.specs.declared.totals.Totals.{Totals}
 use Rattle.report_core.specs.Bytes.{AppendsFront}

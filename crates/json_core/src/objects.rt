@@ -3,7 +3,7 @@ ghost use Rattle.std.specs.Prelude.{◌≡◌, ◌+◌, ◌<◌, ◌≤◌, ◌�
 ghost use Rattle.std.specs.Prelude.{MatchOption, OnErr, OnOk};
 ghost use Rattle.std.specs.Io.KnownBytes.{Appends};
 ghost use Rattle.std.specs.Str.Lossy.{utf8_lossy};
-ghost use Rattle.desk_core.specs.Desk.{HasHistory};
+ghost use Rattle.desk_core.specs.theorem.Desk.{HasHistory};
 ghost use Rattle.line_core.specs.declared.line.Line.{Line as LineModel};
 ghost use Rattle.line_core.specs.Cutting.{cut};
 ghost use Rattle.line_core.specs.Script.{answered};

@@ -7,8 +7,8 @@ use Rattle.std.specs.Io.KnownBytes.{Appends, Keeps}
 use Rattle.std.proofs.KnownBytes.{Appends-nil, Appends-trans, Appends-kept}
 use Rattle.command_core.specs.declared.command.Command.{Command}
 use Rattle.command_core.specs.declared.answer.Answer.{Answer}
-use Rattle.desk_core.specs.Answer.{is_refused}
-use Rattle.desk_core.specs.Desk.{DeskState, HasHistory}
+use Rattle.desk_core.specs.theorem.Answer.{is_refused}
+use Rattle.desk_core.specs.theorem.Desk.{DeskState, HasHistory}
 use Rattle.line_core.specs.declared.line.Line.{Line}
 use Rattle.script_core.specs.declared.totals.Totals.{Totals}
 use Rattle.report_core.specs.Bytes.{AppendsFront}

@@ -6,7 +6,7 @@ use Rattle.point_core.specs.declared.refusal.Refusal.TheVariants.{Write as Write
 use Rattle.line_core.specs.declared.line.Body.{Body}
 use Rattle.command_core.specs.declared.command.Command.{Command}
 use Rattle.command_core.specs.declared.answer.Answer.{Answer}
-use Rattle.desk_core.specs.Desk.{DeskState, HasHistory}
+use Rattle.desk_core.specs.theorem.Desk.{DeskState, HasHistory}
 use Rattle.line_core.specs.declared.line.Line.{Line}
 use Rattle.line_core.specs.declared.script.Ending.{Ending}
 use Rattle.line_core.specs.declared.script.TheConstants.{SCRIPT_BYTES}

@@ -7,8 +7,8 @@ use Rattle.point_core.specs.declared.refusal.Refusal.TheVariants.{Memory}
 use Rattle.command_core.specs.declared.command.Command.{Command}
 use Rattle.command_core.specs.declared.answer.Answer.{Answer}
 use Rattle.command_core.specs.declared.answer.Answer.TheVariants as answer
-use Rattle.desk_core.specs.Answer.{answer_to, is_refused}
-use Rattle.desk_core.specs.History.{world_of, IsAnswer, history_after}
+use Rattle.desk_core.specs.theorem.Answer.{answer_to, is_refused}
+use Rattle.desk_core.specs.theorem.History.{world_of, IsAnswer, history_after}
 use Rattle.script_core.specs.declared.totals.Totals.{Totals}
 use Rattle.line_core.specs.declared.line.Body.{Body}
 use Rattle.line_core.specs.declared.line.Body.TheVariants.{Cmd, Bad}

@@ -4,7 +4,7 @@ ghost use Rattle.std.specs.Prelude.{◌≡◌, ◌+◌, ◌<◌, ◌≤◌, ◌�
 ghost use Rattle.std.specs.Io.KnownBytes.{Keeps};
 ghost use Rattle.point_core.specs.declared.refusal.Refusal.TheVariants.{Write as WriteFault, Memory};
 ghost use Rattle.command_core.specs.declared.command.Command.{Command};
-ghost use Rattle.desk_core.specs.Desk.{HasHistory};
+ghost use Rattle.desk_core.specs.theorem.Desk.{HasHistory};
 ghost use Rattle.line_core.specs.declared.line.Line.{Line as LineModel};
 ghost use Rattle.line_core.specs.Script.{answered};
 ghost use Rattle.script_core.specs.Output.{IsLineAnswer, history_after_line, refusal_of, WritesPrefix};

@@ -1,6 +1,6 @@
 //! `Totals`: how many lines of a script were answered, and how many of these were refused.
 ghost use Rattle.std.specs.Prelude.{◌≡◌, ◌+◌, ◌^◌, ◌<◌, [], if◌then◌else◌};
-ghost use Rattle.desk_core.specs.Answer.{is_refused};
+ghost use Rattle.desk_core.specs.theorem.Answer.{is_refused};
 
 use command_core::Answer;
 

@@ -3,8 +3,8 @@ use Rattle.std.proofs.Common.{◌≡◌, ◌↔◌, ℕ, true, false, List, [], 
 use Rattle.point_core.specs.declared.entry.Usage.TheVariants.{Write}
 use Rattle.command_core.specs.declared.command.Command.{Command}
 use Rattle.command_core.specs.declared.command.Command.TheVariants as command
-use Rattle.desk_core.specs.Answer.{is_signalled}
-use Rattle.desk_core.specs.History.{world_of}
+use Rattle.desk_core.specs.theorem.Answer.{is_signalled}
+use Rattle.desk_core.specs.theorem.History.{world_of}
 use Rattle.uses.specs.declared.example.frame.Frame.{Frame}
 use Rattle.uses.specs.declared.example.frame.Frame.TheVariants.{Shown, Late}
 

@@ -1,9 +1,9 @@
 //! One frame of a compositor, on a desk: all of the service on one thread.
 ghost use Rattle.std.specs.Prelude.{◌≡◌, ◌↔◌, List, [], ◌∷◌, ◌++◌, true, IfOk, OnOk};
 ghost use Rattle.command_core.specs.declared.command.Command.{Command};
-ghost use Rattle.desk_core.specs.Answer.{is_signalled};
-ghost use Rattle.desk_core.specs.Desk.{HasHistory};
-ghost use Rattle.desk_core.specs.History.{world_of};
+ghost use Rattle.desk_core.specs.theorem.Answer.{is_signalled};
+ghost use Rattle.desk_core.specs.theorem.Desk.{HasHistory};
+ghost use Rattle.desk_core.specs.theorem.History.{world_of};
 
 use command_core::{Answer, Command};
 use desk_core::Desk;

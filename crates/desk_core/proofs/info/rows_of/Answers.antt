@@ -1,5 +1,5 @@
 use Rattle.std.proofs.Common.{◌∙◌, arith}
-use Rattle.desk_core.specs.Answer.{fence_row}
+use Rattle.desk_core.specs.theorem.Answer.{fence_row}
 use Rattle.desk_core.proofs.Reporting.{rows-next}
 use Rattle.desk_core.proofs.info.rows_of.Goals as goal
 

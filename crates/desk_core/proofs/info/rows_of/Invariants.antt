@@ -1,5 +1,5 @@
 use Rattle.std.proofs.Common.{◌≡◌, ◌≤◌, length, map, take, vec_len, vec_capacity}
-use Rattle.desk_core.specs.Answer.{fence_row}
+use Rattle.desk_core.specs.theorem.Answer.{fence_row}
 use Rattle.desk_core.proofs.info.rows_of.Given as goal
 
 abbrev pub invariant-loop-point : goal.invariant-loop-point

@@ -3,7 +3,7 @@ use Rattle.std.proofs.lemmas.Result.{err_from_is_err_and}
 use Rattle.resv_core.specs.Resv.{rows_of}
 use Rattle.dmabuf_core.specs.Buffers.{names_of, has_buffer, entries_of}
 use Rattle.command_core.specs.declared.answer.BufferRows.{BufferRows}
-use Rattle.desk_core.specs.Answer.{show_row}
+use Rattle.desk_core.specs.theorem.Answer.{show_row}
 use Rattle.desk_core.specs.Keeping.{buffer_rows_at}
 use Rattle.desk_core.proofs.Reporting.{rows_of-made, rows-next, has_buffer-reported, Memory-reported, within-BUFFERS}
 use Rattle.desk_core.proofs.report.buffer_rows.Goals as goal

@@ -1,5 +1,5 @@
 use Rattle.std.proofs.Common.{◌∙◌, arith}
-use Rattle.desk_core.specs.Answer.{show_row}
+use Rattle.desk_core.specs.theorem.Answer.{show_row}
 use Rattle.desk_core.proofs.Reporting.{rows-next}
 use Rattle.desk_core.proofs.report.show_rows.Goals as goal
 

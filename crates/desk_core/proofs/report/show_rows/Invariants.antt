@@ -1,5 +1,5 @@
 use Rattle.std.proofs.Common.{◌≡◌, ◌≤◌, length, map, take, vec_len, vec_capacity}
-use Rattle.desk_core.specs.Answer.{show_row}
+use Rattle.desk_core.specs.theorem.Answer.{show_row}
 use Rattle.desk_core.proofs.report.show_rows.Given as goal
 
 abbrev pub invariant-loop-top : goal.invariant-loop-top

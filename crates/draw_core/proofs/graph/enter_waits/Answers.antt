@@ -1,6 +1,6 @@
 use Rattle.std.proofs.Common.{sym}
 use Rattle.point_core.specs.declared.entry.Point.{Point}
-use Rattle.desk_core.specs.Answer.{name_of}
+use Rattle.desk_core.specs.theorem.Answer.{name_of}
 use Rattle.picture_core.specs.Waits.{edge_to}
 use Rattle.draw_core.specs.Found.{is_waited_for}
 use Rattle.draw_core.proofs.Edges.{edge-point, kept-in, kept-out}

@@ -2,8 +2,8 @@ use Rattle.std.proofs.Common.{◌≡◌, ◌+◌, ◌≤◌, sym, ap, subst, ◌
 use Rattle.std.specs.VecDeque.{deque_len, deque_capacity}
 use Rattle.std.proofs.lemmas.List.{append-nil}
 use Rattle.command_core.specs.declared.answer.Answer.TheVariants as answer
-use Rattle.desk_core.specs.Desk.{Answers, HasHistory}
-use Rattle.desk_core.specs.History.{history_after}
+use Rattle.desk_core.specs.theorem.Desk.{Answers, HasHistory}
+use Rattle.desk_core.specs.theorem.History.{history_after}
 use Rattle.c_desk.specs.Service.{ServiceState, IsStep, cookies_of}
 use Rattle.c_desk.proofs.Room.{room-after}
 use Rattle.c_desk.proofs.Stepped.{refused_same}

@@ -5,7 +5,7 @@ use Rattle.syncfile_core.specs.Drafts.{pending_of}
 use Rattle.syncfile_core.specs.Files.{cause_to_refuse}
 use Rattle.dmabuf_core.specs.Buffers.{entries_of, cause_by_flags}
 use Rattle.dmabuf_core.specs.Flags.{export_usage}
-use Rattle.desk_core.specs.Desk.{DeskState}
+use Rattle.desk_core.specs.theorem.Desk.{DeskState}
 use Rattle.desk_core.proofs.Doing.{IsDone-export}
 use Rattle.desk_core.proofs.Exporting.{cause_of-export_buffer, cause_of-export_file, pending_of-listing}
 use Rattle.desk_core.proofs.Inside.{inside-export}

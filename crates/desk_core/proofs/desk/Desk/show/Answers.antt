@@ -2,7 +2,7 @@ use Rattle.std.proofs.Common.{◌≡◌, length, map, ap, ◌∙◌}
 use Rattle.timeline_core.specs.Timeline.{reach_of}
 use Rattle.resv_core.specs.Resv.{rows_of}
 use Rattle.dmabuf_core.specs.Buffers.{entries_of}
-use Rattle.desk_core.specs.Answer.{show_row}
+use Rattle.desk_core.specs.theorem.Answer.{show_row}
 use Rattle.desk_core.proofs.Reporting.{rows_of-made}
 use Rattle.desk_core.proofs.Tables.{IsDone-show}
 use Rattle.desk_core.proofs.desk.Desk.show.Goals as goal

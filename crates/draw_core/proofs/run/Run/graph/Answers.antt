@@ -1,5 +1,5 @@
 use Rattle.std.specs.Prelude.{◌≡◌, IfOk, Result, Ok, Err}
-use Rattle.desk_core.specs.History.{world_of}
+use Rattle.desk_core.specs.theorem.History.{world_of}
 use Rattle.picture_core.specs.declared.graph.Graph.{Graph}
 use Rattle.draw_core.specs.Found.{IsReportOf, edges_by}
 use Rattle.draw_core.specs.Waiting.{edges_in}

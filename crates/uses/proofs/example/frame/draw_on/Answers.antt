@@ -1,5 +1,5 @@
 use Rattle.std.proofs.Common.{ap, [], Ok}
-use Rattle.desk_core.specs.Desk.{HasHistory}
+use Rattle.desk_core.specs.theorem.Desk.{HasHistory}
 use Rattle.uses.proofs.Frames.{begun, late, shown}
 use Rattle.uses.proofs.example.frame.draw_on.Goals as goal
 

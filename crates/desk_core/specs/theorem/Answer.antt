@@ -25,7 +25,7 @@ use Rattle.point_core.specs.declared.entry.Entry.{Entry}
 use Rattle.point_core.specs.declared.listing.TopRow.{TopRow}
 use Rattle.resv_core.specs.Resv.{rows_of}
 use Rattle.timeline_core.specs.Timeline.{Timeline, has_timeline, name_at, clocks_of, reach_of, value_of, is_closed, rows_of as timeline_rows}
-use Rattle.desk_core.specs.World.{MadeFile, MadeBuffer, World, has_file, file_named, put_set, has_made_buffer, buffer_put_set, has_made_watch, fired_watches, shut_watches, cookies_of}
+use Rattle.desk_core.specs.theorem.World.{MadeFile, MadeBuffer, World, has_file, file_named, put_set, has_made_buffer, buffer_put_set, has_made_watch, fired_watches, shut_watches, cookies_of}
 use Rattle.point_core.specs.declared.limits.TheConstants.{BUFFERS}
 use Rattle.dmabuf_core.specs.Flags.{is_sync_flags}
 use Rattle.syncfile_core.specs.declared.files.TheConstants.{FILES}

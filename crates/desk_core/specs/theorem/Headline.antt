@@ -19,12 +19,12 @@ use Rattle.syncfile_core.specs.SyncFile.{File}
 use Rattle.syncfile_core.specs.Files.{file_at as sync_file_at}
 use Rattle.resv_core.specs.declared.resv.TheConstants.{PLACES}
 use Rattle.dmabuf_core.specs.Buffers.{has_buffer, entries_of}
-use Rattle.desk_core.specs.World.{MadeFile, MadeWatch, file_named, put_set, buffer_put_set, fired_watches, shut_watches, cookies_of}
-use Rattle.desk_core.specs.Answer.{listed_points}
-use Rattle.desk_core.specs.History.{world_of, increments_in}
-use Rattle.desk_core.specs.Fired.{fired_along, pending_after}
-use Rattle.desk_core.specs.Desk.{DeskState, Answers}
-use Rattle.desk_core.specs.Times.{times_registered, times_removed, times_fired, times_pending}
+use Rattle.desk_core.specs.theorem.World.{MadeFile, MadeWatch, file_named, put_set, buffer_put_set, fired_watches, shut_watches, cookies_of}
+use Rattle.desk_core.specs.theorem.Answer.{listed_points}
+use Rattle.desk_core.specs.theorem.History.{world_of, increments_in}
+use Rattle.desk_core.specs.theorem.Fired.{fired_along, pending_after}
+use Rattle.desk_core.specs.theorem.Desk.{DeskState, Answers}
+use Rattle.desk_core.specs.theorem.Times.{times_registered, times_removed, times_fired, times_pending}
 
 -- both have the same entries, in whatever order and however often
 pub record HasSameEntries (es fs : List Entry) : Type 0 where

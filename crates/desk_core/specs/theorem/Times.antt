@@ -6,8 +6,8 @@ use Rattle.command_core.specs.declared.command.Command.TheVariants as command
 use Rattle.command_core.specs.declared.answer.Answer.{Answer}
 use Rattle.command_core.specs.declared.answer.Answer.TheVariants as answer
 use Rattle.fence_core.specs.Watch.{cookies_of}
-use Rattle.desk_core.specs.Answer.{is_refused}
-use Rattle.desk_core.specs.Desk.{DeskState}
+use Rattle.desk_core.specs.theorem.Answer.{is_refused}
+use Rattle.desk_core.specs.theorem.Desk.{DeskState}
 
 -- the command is a `watch` of that cookie
 abbrev pub is_watch_of : ℕ → Command → Bool

@@ -5,11 +5,11 @@ use Rattle.timeline_core.specs.Timeline.{Timeline, reach_of}
 use Rattle.syncfile_core.specs.SyncFile.{File}
 use Rattle.dmabuf_core.specs.Buffers.{Buffer, AreBuffers, names_of, entries_of}
 use Rattle.fence_core.specs.Watch.{Watch, Registry, IsWatchOf}
-use Rattle.desk_core.specs.World.{MadeFile, MadeBuffer, MadeWatch, World, buffer_put_set}
-use Rattle.desk_core.specs.Answer.{listed_points}
+use Rattle.desk_core.specs.theorem.World.{MadeFile, MadeBuffer, MadeWatch, World, buffer_put_set}
+use Rattle.desk_core.specs.theorem.Answer.{listed_points}
 use Rattle.command_core.specs.declared.answer.Answer.{Answer}
 use Rattle.command_core.specs.declared.command.Command.{Command}
-use Rattle.desk_core.specs.History.{world_of, IsHistory, IsAnswer}
+use Rattle.desk_core.specs.theorem.History.{world_of, IsHistory, IsAnswer}
 use Rattle.point_core.specs.Agreement.{AgreesAbove}
 
 pub record DeskState : Type 0 where
