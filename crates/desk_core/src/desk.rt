@@ -1,4 +1,5 @@
-// One command in, one answer out.
+//! `Desk`: one command in, one answer out. Files, buffers and the desk's own watches have only points of timelines that
+//! were made, and the watches know the timelines' values; `step` keeps that. `run` and `script_core` call `step`.
 ghost use Rattle.std.specs.Prelude.{◌≡◌, ◌≢◌, ◌↔◌, false, List, [], option_copied, option_map, IsTrue, IsSome, IfSome, IsOk, IfOk, IfErr, OnErr, OnOk};
 ghost use Rattle.command_core.specs.declared.command.Command.{Command};
 

@@ -1,4 +1,5 @@
-// File information.
+//! The rows of `info`: a row for each point that a file lists, with the name of its timeline. `Desk` calls `of_points`
+//! with points of timelines that were made.
 ghost use Rattle.std.specs.Prelude.{◌≡◌, ◌≤◌, [], ◌∷◌, length, map, IfOk, IfErr};
 ghost use Rattle.timeline_core.specs.Timeline.{clocks_of};
 ghost use Rattle.desk_core.specs.theorem.Answer.{fence_row, stub_row, or_stub};

@@ -1,4 +1,5 @@
-// Theorems about histories, and about every desk that refines one.
+//! Theorems about histories, and about every desk that refines one: each law is the contract of a function with an
+//! empty body, which no caller runs.
 ghost use Rattle.std.specs.Prelude.{◌≡◌, ℕ, ◌≤◌, nat_eq, count_by, List, [], ◌∷◌, ◌++◌, Contains};
 ghost use Rattle.command_core.specs.declared.command.Command.{Command};
 ghost use Rattle.command_core.specs.declared.answer.Answer.{Answer};

@@ -1,4 +1,5 @@
-// Tables: what `show` and `report` list.
+//! The tables of `show` and `report`. `Desk` calls `of_all` and `show_rows` with entries of timelines that were made,
+//! so each row has a name.
 ghost use Rattle.std.specs.Prelude.{◌≡◌, ◌≤◌, List, ℕ, length, map, IfOk, IfErr};
 ghost use Rattle.point_core.specs.declared.limits.TheConstants.{BUFFERS};
 ghost use Rattle.timeline_core.specs.Timeline.{reach_of};

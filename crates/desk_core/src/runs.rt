@@ -1,4 +1,5 @@
-// A run over a list of commands.
+//! `run`: a list of commands on a new desk. Its contract is this crate's main theorem; `specs/theorem/` has the
+//! statement.
 ghost use Rattle.std.specs.Prelude.{◌≡◌, [], IfOk, IfErr, length, vec_len, vec_capacity};
 ghost use Rattle.desk_core.specs.theorem.History.{history_of, AreAnswers};
 ghost use Rattle.desk_core.specs.theorem.Desk.{HasHistory};

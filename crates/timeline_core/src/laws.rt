@@ -1,5 +1,5 @@
-// Theorems about all timelines that `create`, `inc`, `shut`, `raise_to` and `close` leave. Each is the contract of a function
-// with an empty body.
+//! Theorems about all timelines that `create`, `inc`, `shut`, `raise_to` and `close` leave: each law is the contract of
+//! a function with an empty body, which no caller runs.
 ghost use Rattle.std.specs.Prelude.{◌≡◌, ℕ, List, [], ◌++◌, IsTrue, IsPermutation};
 ghost use Rattle.timeline_core.specs.Timeline.{Timeline, has_timeline, timeline_at, value_of, is_closed, AreTimelines};
 ghost use Rattle.timeline_core.specs.Run.{AreSums, Increment, IsRun, Step, all_increments, incremented, last_timelines};

@@ -1,4 +1,5 @@
-// The timelines of a service, by name and by context.
+//! `Timelines`: the timelines of a service, by name and by context. Names are distinct, contexts are given out in order
+//! of making, and the clocks of all other contexts are new. The desk keeps one.
 ghost use Rattle.std.specs.Prelude.{◌≡◌, List, ℕ, ◌+◌, ◌<◌, ◌≤◌, ◌^◌, ◌↔◌, [], ◌∷◌, ◌++◌, true, false, length, map, is_ok, IsTrue, IsSome, IsOk, IfSome, IfOk, IfErr, OnOk, OnErr, MatchOption};
 ghost use Rattle.point_core.specs.declared.context.TheConstants.{CONTEXTS};
 
