@@ -18,13 +18,15 @@ module _ {A : Type 0} where
   IsFoundIf false Answers given = given ≡ None
 
   -- what was found, and that the device and the files that wait are as they were
-  pub record IsLook (old new : DeviceHandle) (Answers : DeviceState → Result A Refusal → Type 0) (found : Option (Result A Refusal)) : Type 0 where
+  pub record IsLook (old new : DeviceHandle) (Answers : DeviceState → Result A Refusal → Type 0)
+      (found : Option (Result A Refusal)) : Type 0 where
     pub is : IsFoundIf (is_open old) (Answers old.service.device) found
     pub opened : is_open new ≡ is_open old
     pub service : is_open old ≡ true → new.service ≡ old.service
 
-  -- the same of a call, which returns a number and stores something
-  pub record IsLookCall (old new : DeviceHandle) (Answers : DeviceState → Result A Refusal → Type 0) (returned : ℤ) (Stores : Option (Result A Refusal) → Type 0) : Type 0 where
+  -- a call that looks: it returns the number of what was found, and stores it
+  pub record IsLookCall (old new : DeviceHandle) (Answers : DeviceState → Result A Refusal → Type 0) (returned : ℤ)
+      (Stores : Option (Result A Refusal) → Type 0) : Type 0 where
     pub found : Option (Result A Refusal)
     pub look : IsLook old new Answers found
     pub number : returned ≡ number_of found
