@@ -7,7 +7,7 @@ use Rattle.point_core.specs.declared.entry.Entry.{Entry}
 use Rattle.point_core.specs.declared.status.Status.TheVariants.{Active}
 use Rattle.syncfile_core.specs.Running.{IsBorneOut, HasPolled, HasRunOut}
 use Rattle.syncfile_core.specs.SyncFile.{File, StandsFor, file_of, plain_file}
-use Rattle.words_core.specs.Loads.{clocks_seen, reach_seen, HasLoadedAll, HasLoadedClocks}
+use Rattle.words_core.specs.theorem.Loads.{clocks_seen, reach_seen, HasLoadedAll, HasLoadedClocks}
 use Rattle.c_words.specs.Member.{MemberModel}
 
 -- the name of every file of C programs; no call shows it

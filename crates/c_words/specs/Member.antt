@@ -3,11 +3,11 @@ use Rattle.std.specs.Prelude.{◌≡◌, ℕ, ◌+◌, ◌<◌, ◌≤◌, [], �
 use Rattle.point_core.specs.declared.context.TheConstants.{CONTEXTS}
 use Rattle.point_core.specs.declared.entry.Usage.{Usage}
 use Rattle.point_core.specs.declared.limits.TheConstants.{BUFFERS}
-use Rattle.words_core.specs.Driver.{DriverModel}
-use Rattle.words_core.specs.Layout.{board_word, claim_word, flag_word, mark_word, value_word}
-use Rattle.words_core.specs.Seat.{SeatModel, seen, tests_of, with_step, without_parts, parted, both_of}
-use Rattle.words_core.specs.Trace.{add, load, won, lost, raise, shut}
-use Rattle.words_core.specs.Words.{WordsModel}
+use Rattle.words_core.specs.theorem.Driver.{DriverModel}
+use Rattle.words_core.specs.theorem.Layout.{board_word, claim_word, flag_word, mark_word, value_word}
+use Rattle.words_core.specs.theorem.Seat.{SeatModel, seen, tests_of, with_step, without_parts, parted, both_of}
+use Rattle.words_core.specs.theorem.Trace.{add, load, won, lost, raise, shut}
+use Rattle.words_core.specs.theorem.Words.{WordsModel}
 use Rattle.words_core.specs.declared.seat.TheConstants.{PARTS}
 use Rattle.words_core.specs.declared.words.TheConstants.{FLAGS}
 use Rattle.c_words.specs.declared.limits.TheConstants.{LEAST_PARTS}

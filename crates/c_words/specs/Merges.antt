@@ -1,5 +1,5 @@
 -- The effect of a merge that is refused.
-use Rattle.words_core.specs.Loads.{reach_seen, HasLoadedAll}
+use Rattle.words_core.specs.theorem.Loads.{reach_seen, HasLoadedAll}
 use Rattle.syncfile_core.specs.Running.{IsBorneOut}
 use Rattle.syncfile_core.specs.SyncFile.{File}
 use Rattle.c_words.specs.FileCalls.{HasLooked}

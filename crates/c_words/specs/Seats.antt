@@ -2,7 +2,7 @@
 use Rattle.std.specs.Prelude.{◌≡◌, true, false}
 use Rattle.c_handle.specs.Owning.{is_block}
 use Rattle.c_words.specs.Member.{MemberModel}
-use Rattle.words_core.specs.Seat.{SeatModel}
+use Rattle.words_core.specs.theorem.Seat.{SeatModel}
 use Rattle.c_words.specs.declared.seat_handle.SeatHandle.{SeatHandle}
 
 abbrev pub IsOpen : SeatHandle → Type 0

@@ -6,7 +6,7 @@ ghost use Rattle.point_core.specs.Reach.{GREATEST};
 ghost use Rattle.point_core.specs.Refusal.{refusal_number};
 ghost use Rattle.point_core.specs.Status.{status_number};
 ghost use Rattle.syncfile_core.specs.Running.{IsBorneOut};
-ghost use Rattle.words_core.specs.Loads.{reach_seen, HasLoadedAll};
+ghost use Rattle.words_core.specs.theorem.Loads.{reach_seen, HasLoadedAll};
 ghost use Rattle.words_core.specs.declared.seat.TheConstants.{PARTS};
 ghost use Rattle.c_words.specs.declared.limits.TheConstants.{LEAST_PARTS};
 ghost use Rattle.c_words.specs.Shares.{share_of};
@@ -49,7 +49,7 @@ impl Member {
     ghost use Rattle.c_words.specs.FileCalls.{HasLooked, ReportsStatus, FindsForeign};
     ghost use Rattle.c_words.specs.FileCalls.{HasWaited, HasTimedOut, TurnsForeign, HasMerged};
     ghost use Rattle.c_words.specs.Exports.{HasExportedFile, HasOnlyLooked};
-    ghost use Rattle.words_core.specs.Seat.{both_of};
+    ghost use Rattle.words_core.specs.theorem.Seat.{both_of};
 
     /// The first member of new words.
     ///

@@ -16,7 +16,7 @@ use Rattle.point_core.specs.declared.entry.Usage.{Usage}
 use Rattle.point_core.specs.declared.listing.Listing.{Listing}
 use Rattle.point_core.specs.declared.refusal.Refusal.{Refusal}
 use Rattle.point_core.specs.declared.refusal.Refusal.TheVariants.{TimedOut}
-use Rattle.words_core.specs.Seat.{SeatModel}
+use Rattle.words_core.specs.theorem.Seat.{SeatModel}
 use Rattle.resv_core.specs.declared.plan.Act.{Act}
 use Rattle.resv_core.specs.declared.plan.Act.TheVariants.{Inc, Put, Look}
 use Rattle.resv_core.specs.Resv.{entry_of}

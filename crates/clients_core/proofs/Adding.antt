@@ -4,7 +4,7 @@ use Rattle.std.specs.List.{range_with_len}
 use Rattle.std.proofs.lemmas.List.{map_more, get_or-map}
 use Rattle.std.proofs.lemmas.List.FromFn.{get_or-map-range_with_len, map-range_with_len_more}
 use Rattle.point_core.specs.Reach.{value_at}
-use Rattle.words_core.specs.Seat.{SeatModel, added_to}
+use Rattle.words_core.specs.theorem.Seat.{SeatModel, added_to}
 use Rattle.resv_core.specs.declared.plan.Act.{Act}
 use Rattle.resv_core.specs.Settled.{increments_of, values_of, gathered_values}
 use Rattle.clients_core.proofs.Gathering.{map-contexts}

@@ -19,9 +19,9 @@ use Rattle.resv_core.specs.declared.plan.Act.{Act}
 use Rattle.resv_core.specs.Settled.{all_puts, tables_of}
 use Rattle.resv_core.specs.Shared.{HasClosedNone}
 use Rattle.words_core.specs.declared.trace.Step.{Step}
-use Rattle.words_core.specs.Layout.{mark_word, value_word}
-use Rattle.words_core.specs.Trace.{load, on, added, raised, amount_of, is_shut, shuts_of, total}
-use Rattle.words_core.specs.Seat.{SeatModel, added_to, raised_to, with_step, with_steps}
+use Rattle.words_core.specs.theorem.Layout.{mark_word, value_word}
+use Rattle.words_core.specs.theorem.Trace.{load, on, added, raised, amount_of, is_shut, shuts_of, total}
+use Rattle.words_core.specs.theorem.Seat.{SeatModel, added_to, raised_to, with_step, with_steps}
 use Rattle.words_core.proofs.Totals.{total-append}
 use Rattle.words_core.proofs.Traces.{on-append, raised-append}
 

@@ -4,8 +4,8 @@ use Rattle.std.proofs.lemmas.List.{append-nil}
 use Rattle.point_core.specs.declared.listing.Listing.{Listing}
 use Rattle.point_core.specs.declared.refusal.Refusal.{Refusal}
 use Rattle.words_core.specs.declared.trace.Step.{Step}
-use Rattle.words_core.specs.Loads.{HasLoadedAll}
-use Rattle.words_core.specs.Seat.{SeatModel}
+use Rattle.words_core.specs.theorem.Loads.{HasLoadedAll}
+use Rattle.words_core.specs.theorem.Seat.{SeatModel}
 use Rattle.resv_core.specs.Shared.{HasLoadedOnce}
 
 pub HasLoadedOnce-alone : {reach : List ℕ} {before after : SeatModel} → HasLoadedAll before after reach → HasLoadedOnce reach before after

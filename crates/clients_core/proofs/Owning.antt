@@ -13,8 +13,8 @@ use Rattle.point_core.specs.Reach.{value_at}
 use Rattle.point_core.specs.Usage.{usage_number}
 use Rattle.point_core.proofs.Agreement.{raised_to-pending, top-listing}
 use Rattle.point_core.proofs.Latest.{applies-true, put_if, put_if-above, raised_to-if}
-use Rattle.words_core.specs.Seat.{SeatModel, raised_to}
-use Rattle.words_core.specs.Words.{WordsModel}
+use Rattle.words_core.specs.theorem.Seat.{SeatModel, raised_to}
+use Rattle.words_core.specs.theorem.Words.{WordsModel}
 use Rattle.clients_core.specs.Board.{HasLooked, IsNoLess, IsRaisedBy, Place, place_of, place_to, places_at, places_to, word_at}
 use Rattle.clients_core.specs.Looks.{shows_all}
 use Rattle.clients_core.proofs.Looking.{entry-shown, shown_at}

@@ -7,8 +7,8 @@ use Rattle.point_core.specs.declared.entry.Usage.TheVariants.{Bookkeep}
 use Rattle.point_core.specs.declared.listing.TopRow.{TopRow}
 use Rattle.point_core.specs.Reach.{value_at}
 use Rattle.point_core.specs.Agreement.{AgreesAbove, pending, top}
-use Rattle.words_core.specs.Seat.{SeatModel, added_to, raised_to}
-use Rattle.words_core.specs.Words.{WordsModel}
+use Rattle.words_core.specs.theorem.Seat.{SeatModel, added_to, raised_to}
+use Rattle.words_core.specs.theorem.Words.{WordsModel}
 use Rattle.resv_core.specs.declared.plan.Act.{Act}
 use Rattle.resv_core.specs.Resv.{rows_of}
 use Rattle.resv_core.specs.Settled.{all_puts, gathered_values}

@@ -22,11 +22,11 @@ use Rattle.point_core.proofs.Agreement.{listing-contexts}
 use Rattle.point_core.proofs.Latest.{applies-true, raised_to-top-append}
 use Rattle.point_core.proofs.Listings.{filter_map-contexts, filter_map-range_more, filter_map-range_same}
 use Rattle.words_core.specs.declared.trace.Step.{Step}
-use Rattle.words_core.specs.Loads.{HasLoadedAll, clock_seen, loads_at, loads_of}
-use Rattle.words_core.specs.Seat.{SeatModel, raised_to, seen, with_step, with_steps}
-use Rattle.words_core.specs.Trace.{load, on, raised, shown, total}
-use Rattle.words_core.specs.Layout.{mark_word, value_word}
-use Rattle.words_core.specs.Words.{WordsModel}
+use Rattle.words_core.specs.theorem.Loads.{HasLoadedAll, clock_seen, loads_at, loads_of}
+use Rattle.words_core.specs.theorem.Seat.{SeatModel, raised_to, seen, with_step, with_steps}
+use Rattle.words_core.specs.theorem.Trace.{load, on, raised, shown, total}
+use Rattle.words_core.specs.theorem.Layout.{mark_word, value_word}
+use Rattle.words_core.specs.theorem.Words.{WordsModel}
 use Rattle.words_core.proofs.Seen.{seen_stays}
 use Rattle.words_core.proofs.Traces.{on-append, raised-append}
 use Rattle.resv_core.specs.Shared.{HasLoadedOnce, is_load}

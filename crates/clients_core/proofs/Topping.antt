@@ -8,8 +8,8 @@ use Rattle.point_core.specs.declared.entry.Entry.{Entry}
 use Rattle.point_core.specs.declared.context.TheConstants.{CONTEXTS}
 use Rattle.point_core.specs.Agreement.{point_of}
 use Rattle.point_core.proofs.Agreement.{HasContexts-append}
-use Rattle.words_core.specs.Seat.{SeatModel, raised_to, with_steps}
-use Rattle.words_core.specs.Words.{WordsModel}
+use Rattle.words_core.specs.theorem.Seat.{SeatModel, raised_to, with_steps}
+use Rattle.words_core.specs.theorem.Words.{WordsModel}
 use Rattle.words_core.specs.declared.trace.Step.{Step}
 use Rattle.resv_core.specs.declared.tops.Tops.{Tops}
 use Rattle.resv_core.specs.Resv.{entry_of}

@@ -6,10 +6,10 @@ use Rattle.point_core.specs.declared.listing.Listing.{Listing}
 use Rattle.point_core.specs.declared.refusal.Refusal.{Refusal}
 use Rattle.point_core.specs.declared.refusal.Refusal.TheVariants.{TimedOut, Torn}
 use Rattle.point_core.specs.Usage.{usage_number}
-use Rattle.words_core.specs.Driver.{DriverModel}
-use Rattle.words_core.specs.Layout.{value_word}
-use Rattle.words_core.specs.Seat.{SeatModel, with_step}
-use Rattle.words_core.specs.Trace.{add}
+use Rattle.words_core.specs.theorem.Driver.{DriverModel}
+use Rattle.words_core.specs.theorem.Layout.{value_word}
+use Rattle.words_core.specs.theorem.Seat.{SeatModel, with_step}
+use Rattle.words_core.specs.theorem.Trace.{add}
 use Rattle.resv_core.specs.declared.plan.Act.{Act}
 use Rattle.resv_core.specs.declared.plan.Act.TheVariants.{Inc, Put, Look}
 use Rattle.resv_core.specs.Resv.{entry_of}

@@ -10,11 +10,11 @@ use Rattle.point_core.specs.Agreement.{AgreesAbove, HasContexts, listing, pendin
 use Rattle.point_core.specs.Latest.{raised_to as later_value}
 use Rattle.point_core.specs.Usage.{usage_number}
 use Rattle.words_core.specs.declared.trace.Step.{Step}
-use Rattle.words_core.specs.Layout.{board_word}
-use Rattle.words_core.specs.Loads.{HasLoadedAll}
-use Rattle.words_core.specs.Seat.{SeatModel, raised_to, seen, with_step, with_steps}
-use Rattle.words_core.specs.Trace.{raise, shown}
-use Rattle.words_core.specs.Words.{WordsModel}
+use Rattle.words_core.specs.theorem.Layout.{board_word}
+use Rattle.words_core.specs.theorem.Loads.{HasLoadedAll}
+use Rattle.words_core.specs.theorem.Seat.{SeatModel, raised_to, seen, with_step, with_steps}
+use Rattle.words_core.specs.theorem.Trace.{raise, shown}
+use Rattle.words_core.specs.theorem.Words.{WordsModel}
 use Rattle.resv_core.specs.declared.plan.Act.{Act}
 use Rattle.resv_core.specs.Resv.{entry_of}
 use Rattle.resv_core.specs.Settled.{all_puts}

@@ -5,11 +5,11 @@ use Rattle.std.specs.declared.thread.PromisedHandle.{PromisedHandle}
 use Rattle.point_core.specs.declared.refusal.Refusal.{Refusal}
 use Rattle.point_core.specs.declared.refusal.Refusal.TheVariants.{Memory, Torn}
 use Rattle.words_core.specs.declared.trace.Step.{Step}
-use Rattle.words_core.specs.Driver.{DriverModel}
-use Rattle.words_core.specs.Layout.{claim_word}
-use Rattle.words_core.specs.Seat.{SeatModel, both_of, with_step}
-use Rattle.words_core.specs.Trace.{won}
-use Rattle.words_core.specs.Words.{WordsModel}
+use Rattle.words_core.specs.theorem.Driver.{DriverModel}
+use Rattle.words_core.specs.theorem.Layout.{claim_word}
+use Rattle.words_core.specs.theorem.Seat.{SeatModel, both_of, with_step}
+use Rattle.words_core.specs.theorem.Trace.{won}
+use Rattle.words_core.specs.theorem.Words.{WordsModel}
 use Rattle.resv_core.specs.declared.plan.Act.{Act}
 use Rattle.clients_core.specs.declared.workers.Ended.{Ended}
 use Rattle.clients_core.specs.declared.workers.Loan.{Loan}

@@ -30,7 +30,7 @@ pub struct Board {
 }
 
 impl Model for Board {
-    ghost use Rattle.words_core.specs.Words.{WordsModel};
+    ghost use Rattle.words_core.specs.theorem.Words.{WordsModel};
 
     ghost Value = { WordsModel };
 

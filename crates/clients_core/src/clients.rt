@@ -5,7 +5,7 @@ ghost use Rattle.std.specs.List.{range_with_len};
 ghost use Rattle.point_core.specs.declared.context.TheConstants.{CONTEXTS};
 ghost use Rattle.point_core.specs.Reach.{value_at};
 ghost use Rattle.words_core.specs.declared.seat.TheConstants.{PARTS};
-ghost use Rattle.words_core.specs.Seat.{SeatModel};
+ghost use Rattle.words_core.specs.theorem.Seat.{SeatModel};
 ghost use Rattle.resv_core.specs.Settled.{increments_of, values_of};
 ghost use Rattle.clients_core.specs.Clients.{IsClientRefusal, ArePlans};
 ghost use Rattle.clients_core.specs.Plans.{cause_to_refuse_plans, settled_of};

@@ -5,7 +5,7 @@ ghost use Rattle.std.specs.List.{range_with_len};
 ghost use Rattle.point_core.specs.declared.context.TheConstants.{CONTEXTS};
 ghost use Rattle.point_core.specs.declared.refusal.Refusal.TheVariants as refusal;
 ghost use Rattle.point_core.specs.Reach.{value_at};
-ghost use Rattle.words_core.specs.Seat.{added_to, raised_to};
+ghost use Rattle.words_core.specs.theorem.Seat.{added_to, raised_to};
 ghost use Rattle.resv_core.specs.Shared.{HasClosedNone, HasStepped};
 
 use point_core::{Context, Point, Reach, Refusal};

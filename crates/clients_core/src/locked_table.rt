@@ -5,7 +5,7 @@ ghost use Rattle.point_core.specs.Agreement.{AllAbove, HasRisingContexts, listin
 ghost use Rattle.point_core.specs.declared.refusal.Refusal.TheVariants as refusal;
 ghost use Rattle.point_core.specs.Usage.{usage_number};
 ghost use Rattle.resv_core.specs.Resv.{entry_of};
-ghost use Rattle.words_core.specs.Loads.{reach_seen, HasLoadedAll};
+ghost use Rattle.words_core.specs.theorem.Loads.{reach_seen, HasLoadedAll};
 
 use crate::expected::expected_in;
 use crate::gathered::{gathered_open, listed};
@@ -30,7 +30,7 @@ pub struct LockedTable {
 
 impl Model for LockedTable {
     ghost use Rattle.std.specs.Prelude.{◌≡◌, vec_len};
-    ghost use Rattle.words_core.specs.Words.{WordsModel};
+    ghost use Rattle.words_core.specs.theorem.Words.{WordsModel};
 
     ghost Value = { WordsModel };
 

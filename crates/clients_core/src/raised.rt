@@ -5,7 +5,7 @@ ghost use Rattle.std.specs.List.{range_with_len};
 ghost use Rattle.point_core.specs.declared.refusal.Refusal.TheVariants as refusal;
 ghost use Rattle.point_core.specs.Agreement.{AgreesAbove, HasContexts};
 ghost use Rattle.point_core.specs.declared.entry.Usage.TheVariants.{Bookkeep};
-ghost use Rattle.words_core.specs.Seat.{raised_to};
+ghost use Rattle.words_core.specs.theorem.Seat.{raised_to};
 ghost use Rattle.resv_core.specs.Resv.{rows_of};
 ghost use Rattle.resv_core.specs.Settled.{all_puts};
 ghost use Rattle.resv_core.specs.Shared.{HasStepped};

@@ -2,7 +2,7 @@
 //! back both of its seats, as its `Loan` promises, so all parts are there again at the end. `run_clients` calls it.
 ghost use Rattle.std.specs.Prelude.{◌≡◌, ◌+◌, ◌*◌, ◌^◌, ◌<◌, ◌≤◌, [], length, All, IfErr, IfOk, OnOk, vec_len, vec_capacity};
 ghost use Rattle.point_core.specs.declared.refusal.Refusal.TheVariants as refusal;
-ghost use Rattle.words_core.specs.Seat.{both_of};
+ghost use Rattle.words_core.specs.theorem.Seat.{both_of};
 ghost use Rattle.point_core.specs.declared.context.TheConstants.{CONTEXTS};
 ghost use Rattle.clients_core.specs.Clients.{IsClientRefusal, IsSinglePart, IsGivenBack, IsPlan, ArePlans};
 ghost use Rattle.clients_core.specs.Working.{AreWorkedOff, AreWorkers, HasEnded, HasRefused, HaveJoined, IsFreshPart, IsWorkerOf};

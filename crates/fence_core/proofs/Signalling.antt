@@ -4,8 +4,8 @@ use Rattle.std.proofs.lemmas.Bool.{and_parts, leb-true}
 use Rattle.std.proofs.lemmas.List.{take_more, take-append-drop}
 use Rattle.point_core.specs.declared.entry.Point.{Point}
 use Rattle.point_core.specs.Clocks.{open_clock, reached_by}
-use Rattle.words_core.specs.Loads.{clock_seen, loads_at}
-use Rattle.words_core.specs.Seat.{SeatModel, with_steps}
+use Rattle.words_core.specs.theorem.Loads.{clock_seen, loads_at}
+use Rattle.words_core.specs.theorem.Seat.{SeatModel, with_steps}
 use Rattle.fence_core.specs.SharedFence.{are_within, AreWithin}
 use Rattle.fence_core.specs.Signal.{HasFound, HaveFound, IsPendingAt}
 

@@ -5,8 +5,8 @@ use Rattle.point_core.specs.declared.entry.Point.{Point}
 use Rattle.point_core.specs.declared.refusal.Refusal.{Refusal}
 use Rattle.point_core.specs.declared.refusal.Refusal.TheVariants.{Exists, Limit, Signalled, Foreign, Memory}
 use Rattle.point_core.specs.declared.refusal.LimitKind.TheVariants.{Watches as WatchesKind}
-use Rattle.words_core.specs.Words.{WordsModel}
-use Rattle.words_core.specs.Won.{WonModel}
+use Rattle.words_core.specs.theorem.Words.{WordsModel}
+use Rattle.words_core.specs.theorem.Won.{WonModel}
 
 -- the words that it is of, its flag, and its points
 pub record SharedFenceModel : Type 0 where

@@ -4,10 +4,10 @@ use Rattle.point_core.specs.declared.clocks.Clock.{Clock}
 use Rattle.point_core.specs.Clocks.{open_clock, reached_by}
 use Rattle.point_core.specs.declared.entry.Point.{Point}
 use Rattle.words_core.specs.declared.trace.Step.{Step}
-use Rattle.words_core.specs.Layout.{flag_word}
-use Rattle.words_core.specs.Loads.{clock_seen, loads_at, KeepsClosing}
-use Rattle.words_core.specs.Seat.{SeatModel, with_step, with_steps}
-use Rattle.words_core.specs.Won.{WonModel}
+use Rattle.words_core.specs.theorem.Layout.{flag_word}
+use Rattle.words_core.specs.theorem.Loads.{clock_seen, loads_at, KeepsClosing}
+use Rattle.words_core.specs.theorem.Seat.{SeatModel, with_step, with_steps}
+use Rattle.words_core.specs.theorem.Won.{WonModel}
 use Rattle.fence_core.specs.SharedFence.{SharedFenceModel}
 use Rattle.fence_core.specs.declared.shared_fence.Signal.{Signal}
 use Rattle.fence_core.specs.declared.shared_fence.Signal.TheVariants.{NotYet, First, Already}

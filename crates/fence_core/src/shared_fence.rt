@@ -8,8 +8,8 @@ ghost use Rattle.point_core.specs.Clocks.{open_clock, reached_by};
 ghost use Rattle.point_core.specs.Refusal.{IsRefusedFor};
 ghost use Rattle.fence_core.specs.SharedFence.{shared_fence_of, token_of, are_within, cause_to_refuse_shared, IsCallbackRefusal};
 ghost use Rattle.fence_core.specs.Signal.{IfNotYet, IfFirst, IfAlready, IsPendingAt, SetsFlag};
-ghost use Rattle.words_core.specs.Layout.{flag_word};
-ghost use Rattle.words_core.specs.Trace.{won, lost, wins_of};
+ghost use Rattle.words_core.specs.theorem.Layout.{flag_word};
+ghost use Rattle.words_core.specs.theorem.Trace.{won, lost, wins_of};
 
 use crate::callback_list::CallbackList;
 use crate::fence::Fence;

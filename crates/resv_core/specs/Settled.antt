@@ -3,7 +3,7 @@ use Rattle.std.specs.Prelude.{ℕ, ◌==◌, ◌<◌, ◌≤◌, if◌then◌els
 use Rattle.std.specs.List.{flat_map, range_with_len}
 use Rattle.point_core.specs.declared.entry.Entry.{Entry}
 use Rattle.point_core.specs.declared.listing.TopRow.{TopRow}
-use Rattle.words_core.specs.Seat.{SeatModel, added_to}
+use Rattle.words_core.specs.theorem.Seat.{SeatModel, added_to}
 use Rattle.resv_core.specs.declared.plan.Act.{Act}
 use Rattle.resv_core.specs.declared.plan.Act.TheVariants.{Inc, Put, Look}
 use Rattle.resv_core.specs.Resv.{entry_of, rows_of}

@@ -2,10 +2,10 @@
 use Rattle.std.specs.Prelude.{◌≡◌, ℕ, ◌≤◌, List}
 use Rattle.words_core.specs.declared.trace.Step.{Step}
 use Rattle.words_core.specs.declared.trace.StepKind.TheVariants.{Load}
-use Rattle.words_core.specs.Layout.{mark_word}
-use Rattle.words_core.specs.Trace.{if_kind, shuts_of, total}
-use Rattle.words_core.specs.Loads.{HasLoadedAll}
-use Rattle.words_core.specs.Seat.{SeatModel, with_steps}
+use Rattle.words_core.specs.theorem.Layout.{mark_word}
+use Rattle.words_core.specs.theorem.Trace.{if_kind, shuts_of, total}
+use Rattle.words_core.specs.theorem.Loads.{HasLoadedAll}
+use Rattle.words_core.specs.theorem.Seat.{SeatModel, with_steps}
 
 -- it is the seat, with more steps
 abbrev pub HasStepped : SeatModel → SeatModel → Type 0

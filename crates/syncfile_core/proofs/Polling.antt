@@ -18,8 +18,8 @@ use Rattle.point_core.specs.Agreement.{IsReached}
 use Rattle.point_core.specs.Clocks.{common_status}
 use Rattle.words_core.proofs.LoadingAll.{reach_seen-is}
 use Rattle.words_core.proofs.Staying.{common_status-stays}
-use Rattle.words_core.specs.Loads.{clocks_seen, reach_seen, HasLoadedClocks}
-use Rattle.words_core.specs.Seat.{SeatModel}
+use Rattle.words_core.specs.theorem.Loads.{clocks_seen, reach_seen, HasLoadedClocks}
+use Rattle.words_core.specs.theorem.Seat.{SeatModel}
 use Rattle.syncfile_core.specs.SyncFile.{File, StandsFor}
 use Rattle.syncfile_core.proofs.Reached.{ReportsSetsOf-always}
 use Rattle.syncfile_core.specs.Running.{IsBorneOutAt, IsBorneOut, IsActivePoll, HasRunOut, HasPolled}

@@ -8,8 +8,8 @@ use Rattle.point_core.specs.Agreement.{HasRisingContexts}
 use Rattle.point_core.specs.Reach.{value_at, IsAtLeast}
 use Rattle.point_core.specs.Clocks.{clock_at, common_status, reached_by}
 use Rattle.point_core.specs.TwoLists.{AllFrom}
-use Rattle.words_core.specs.Loads.{clocks_seen, reach_seen, HasLoadedClocks}
-use Rattle.words_core.specs.Seat.{SeatModel}
+use Rattle.words_core.specs.theorem.Loads.{clocks_seen, reach_seen, HasLoadedClocks}
+use Rattle.words_core.specs.theorem.Seat.{SeatModel}
 use Rattle.syncfile_core.specs.declared.running.Found.{Found}
 use Rattle.syncfile_core.specs.SyncFile.{File}
 

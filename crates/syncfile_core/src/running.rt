@@ -11,7 +11,7 @@ ghost use Rattle.point_core.specs.Agreement.{merged, point_of, IsReached};
 ghost use Rattle.point_core.specs.Reach.{value_at};
 ghost use Rattle.point_core.specs.Used.{used_of};
 ghost use Rattle.syncfile_core.specs.SyncFile.{file_of, StandsFor};
-ghost use Rattle.words_core.specs.Loads.{clocks_seen, reach_seen, HasLoadedAll, HasLoadedClocks};
+ghost use Rattle.words_core.specs.theorem.Loads.{clocks_seen, reach_seen, HasLoadedAll, HasLoadedClocks};
 ghost use Rattle.syncfile_core.specs.Running.{IsBorneOutAt, IsBorneOut, HasFoundTo, HasPassedTo, HasPolled, HasRunOut};
 
 use crate::sync_file::SyncFile;

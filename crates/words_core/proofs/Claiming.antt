@@ -10,8 +10,8 @@ use Rattle.words_core.specs.declared.trace.Step.{Step}
 use Rattle.words_core.specs.declared.trace.View.{View}
 use Rattle.words_core.specs.declared.words.Sizes.{Sizes}
 use Rattle.words_core.specs.declared.words.TheConstants.{CLAIM}
-use Rattle.words_core.specs.Layout.{value_place, claim_place, mark_place, IsClaimOrFlag}
-use Rattle.words_core.specs.Trace.{on, total, added, is_win, is_test, wins_of, shuts_of, set_once_step}
+use Rattle.words_core.specs.theorem.Layout.{value_place, claim_place, mark_place, IsClaimOrFlag}
+use Rattle.words_core.specs.theorem.Trace.{on, total, added, is_win, is_test, wins_of, shuts_of, set_once_step}
 use Rattle.words_core.specs.Rule.{context_trace, mark_trace, word_trace, made_in, known_in, wins_on, AddsAsDriver, ShutsAsDriver, IsKept}
 use Rattle.words_core.specs.Plays.{Holder, view_with, tests_by, claims_context, sets_once}
 use Rattle.words_core.proofs.Totals.{total_at, total-append, total-map, Each-at}

@@ -3,9 +3,9 @@ use Rattle.std.proofs.Common.{◌≡◌, ◌≢◌, ℕ, ◌+◌, ◌-◌, ◌<�
 use Rattle.std.proofs.lemmas.Bool.{lt-ltb, false≢true}
 use Rattle.std.proofs.lemmas.List.{append_assoc}
 use Rattle.words_core.specs.declared.trace.Step.{Step}
-use Rattle.words_core.specs.Layout.{value_place, claim_place, value_word, claim_word, mark_word}
-use Rattle.words_core.specs.Trace.{on, amount_of, total, added, is_win, is_shut, is_test, add, won, lost, shut, wins_of, shuts_of, mark_of, set_once_step}
-use Rattle.words_core.specs.Seat.{SeatModel, with_step, both_of, added_to, tests_of}
+use Rattle.words_core.specs.theorem.Layout.{value_place, claim_place, value_word, claim_word, mark_word}
+use Rattle.words_core.specs.theorem.Trace.{on, amount_of, total, added, is_win, is_shut, is_test, add, won, lost, shut, wins_of, shuts_of, mark_of, set_once_step}
+use Rattle.words_core.specs.theorem.Seat.{SeatModel, with_step, both_of, added_to, tests_of}
 use Rattle.words_core.proofs.Totals.{total-append}
 use Rattle.words_core.proofs.ValueSteps.{none_or_some}
 use Rattle.words_core.proofs.MarkSteps.{mark_none}

@@ -6,7 +6,7 @@ use native.Mathlib.Decide.{dec_le}
 use lib.ListN.{get_elem?}
 use Rattle.std.proofs.Math.Nat.{max-eq_left, le-max_left, le-max_right}
 use Rattle.words_core.specs.declared.trace.Step.{Step}
-use Rattle.words_core.specs.Trace.{total, target_of, is_raise_to, is_sight_of, raise, shown}
+use Rattle.words_core.specs.theorem.Trace.{total, target_of, is_raise_to, is_sight_of, raise, shown}
 use Rattle.words_core.specs.Rule.{WordTrace, made_in, RaisesNoMore, IsEntry}
 use Rattle.words_core.proofs.Totals.{Each-set, Each-at, Each-weaker}
 use Rattle.words_core.proofs.Traces.{max_both, raised-append_le, shown_value, raise_value, raise_target}

@@ -9,8 +9,8 @@ use Rattle.atomic_table.proofs.Lists.{at_map}
 use Rattle.words_core.specs.declared.trace.Step.{Step}
 use Rattle.words_core.specs.declared.trace.View.{View}
 use Rattle.words_core.specs.declared.words.Sizes.{Sizes}
-use Rattle.words_core.specs.Layout.{value_place, claim_place, mark_place, word_count, IsClaimOrFlag, IsBoardWord, IsUnused}
-use Rattle.words_core.specs.Trace.{on, total, is_win}
+use Rattle.words_core.specs.theorem.Layout.{value_place, claim_place, mark_place, word_count, IsClaimOrFlag, IsBoardWord, IsUnused}
+use Rattle.words_core.specs.theorem.Trace.{on, total, is_win}
 use Rattle.words_core.specs.Rule.{Each, WordTrace, claimed_trace, context_trace, mark_trace, word_trace, wins_on, parts_of, IsEmptyIfSpent, KnowsSizes, IsValue, IsMark, IsSetOnce, IsEntry, IsKept}
 use Rattle.words_core.specs.Plays.{view_with}
 use Rattle.words_core.proofs.Totals.{total-set, total-append, Each-set, Each-at, map-set_same}

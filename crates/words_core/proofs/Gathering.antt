@@ -9,8 +9,8 @@ use Rattle.words_core.specs.declared.trace.Step.{Step}
 use Rattle.words_core.specs.declared.trace.View.{View}
 use Rattle.words_core.specs.declared.words.Sizes.{Sizes}
 use Rattle.words_core.specs.declared.words.TheConstants.{MARK}
-use Rattle.words_core.specs.Layout.{value_place, claim_place, mark_place, IsClaimOrFlag, IsBoardWord}
-use Rattle.words_core.specs.Trace.{on, amount_of, total, raised, is_win, is_loss, is_shut, shut_to, is_test, is_load_of, is_add_to, is_raise_to, is_sight_of, load, shown, IsDecided}
+use Rattle.words_core.specs.theorem.Layout.{value_place, claim_place, mark_place, IsClaimOrFlag, IsBoardWord}
+use Rattle.words_core.specs.theorem.Trace.{on, amount_of, total, raised, is_win, is_loss, is_shut, shut_to, is_test, is_load_of, is_add_to, is_raise_to, is_sight_of, load, shown, IsDecided}
 use Rattle.words_core.specs.Rule.{WordTrace, context_trace, mark_trace, word_trace, made_in, known_in, wins_on, IsAtMost, KnowsZeroOr, RaisesNoMore, parts_of, IsEmptyIfSpent, IsKept}
 use Rattle.words_core.specs.Plays.{Holder, view_with, tests_by, loads_total, loads_total_mark, loads_flag, loads_top}
 use Rattle.words_core.proofs.Totals.{total_at, Each-at, Each-weaker, total_alone, total-map}

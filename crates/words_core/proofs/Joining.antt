@@ -10,8 +10,8 @@ use Rattle.atomic_table.proofs.Lists.{at_map, set_again, set_else}
 use Rattle.words_core.specs.declared.trace.Step.{Step}
 use Rattle.words_core.specs.declared.trace.View.{View}
 use Rattle.words_core.specs.declared.words.Sizes.{Sizes}
-use Rattle.words_core.specs.Layout.{value_place, claim_place, mark_place}
-use Rattle.words_core.specs.Trace.{on, amount_of, total, added, is_add, is_win, is_shut, shut_to, is_test, is_load_of, is_add_to, is_raise_to, is_sight_of, HasRunningSums}
+use Rattle.words_core.specs.theorem.Layout.{value_place, claim_place, mark_place}
+use Rattle.words_core.specs.theorem.Trace.{on, amount_of, total, added, is_add, is_win, is_shut, shut_to, is_test, is_load_of, is_add_to, is_raise_to, is_sight_of, HasRunningSums}
 use Rattle.words_core.specs.Rule.{Each, WordTrace, claimed_trace, context_trace, mark_trace, word_trace, made_in, known_in, wins_in, wins_on, IsAtMost, RaisesNoMore, HasSums, AddsAsDriver, ShutsAsDriver, KnowsZeroOr, parts_of, IsEmptyIfSpent, KnowsSizes, IsTraced, IsValue, IsMark, IsSetOnce, IsEntry, IsKept}
 use Rattle.words_core.specs.Plays.{Holder, counts_parts, joined_view, joined_from}
 use Rattle.words_core.proofs.Totals.{total-append, total_at, Each-set, Each-at, total-joined, total_two, total-map}

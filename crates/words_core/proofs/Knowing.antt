@@ -2,8 +2,8 @@
 use Rattle.std.proofs.Common.{◌≡◌, ℕ, ◌+◌, ◌≤◌, List, [], ◌∷◌, ◌++◌, sym, ap, ◌∙◌, arith}
 use Rattle.std.proofs.lemmas.List.{append-nil, append_assoc}
 use Rattle.words_core.specs.declared.trace.Step.{Step}
-use Rattle.words_core.specs.Trace.{on, total, is_test}
-use Rattle.words_core.specs.Seat.{SeatModel, tests_of, with_step, parted, both_of}
+use Rattle.words_core.specs.theorem.Trace.{on, total, is_test}
+use Rattle.words_core.specs.theorem.Seat.{SeatModel, tests_of, with_step, parted, both_of}
 use Rattle.words_core.proofs.Totals.{total-append}
 use Rattle.words_core.proofs.Traces.{on-append}
 

@@ -4,8 +4,8 @@ use Rattle.point_core.specs.declared.entry.Usage.{Usage}
 use Rattle.point_core.specs.declared.entry.Usage.TheVariants.{Kernel, Write, Read, Bookkeep}
 use Rattle.point_core.specs.Usage.{usage_number}
 use Rattle.words_core.specs.declared.words.TheConstants.{LINE_WORDS}
-use Rattle.words_core.specs.Layout.{board_word, value_word}
-use Rattle.words_core.specs.Words.{WordsModel}
+use Rattle.words_core.specs.theorem.Layout.{board_word, value_word}
+use Rattle.words_core.specs.theorem.Words.{WordsModel}
 
 pub usage_number_le : (usage : Usage) → usage_number usage ≤ 3
 usage_number_le Kernel = omega arith

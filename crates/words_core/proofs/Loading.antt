@@ -8,8 +8,8 @@ use Rattle.words_core.specs.declared.trace.Step.{Step}
 use Rattle.words_core.specs.declared.trace.View.{View}
 use Rattle.words_core.specs.declared.words.Sizes.{Sizes}
 use Rattle.words_core.specs.declared.words.TheConstants.{MARK}
-use Rattle.words_core.specs.Layout.{value_place, mark_place}
-use Rattle.words_core.specs.Trace.{load, on, total, greatest, is_shut}
+use Rattle.words_core.specs.theorem.Layout.{value_place, mark_place}
+use Rattle.words_core.specs.theorem.Trace.{load, on, total, greatest, is_shut}
 use Rattle.words_core.specs.Rule.{WordTrace, context_trace, mark_trace, made_in, IsAtMost, KnowsZeroOr, IsKept}
 use Rattle.words_core.specs.Plays.{Holder, view_with, seen_by, loads_value, loads_mark}
 use Rattle.words_core.proofs.Totals.{Each-at}

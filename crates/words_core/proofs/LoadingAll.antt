@@ -14,11 +14,11 @@ use Rattle.point_core.specs.Clocks.{clock_of, clock_at, open_clock, new_clock, r
 use Rattle.point_core.specs.Reach.{value_at, with_value, IsAtLeast}
 use Rattle.point_core.proofs.Values.{IsAtLeast-below}
 use Rattle.words_core.specs.declared.trace.Step.{Step}
-use Rattle.words_core.specs.Layout.{value_word, mark_word}
-use Rattle.words_core.specs.Trace.{load, on, greatest}
-use Rattle.words_core.specs.Words.{WordsModel}
-use Rattle.words_core.specs.Seat.{SeatModel, seen, with_steps}
-use Rattle.words_core.specs.Loads.{clock_marked, clock_seen, known_clock, clocks_seen, value_seen, reach_seen, loads_at, loads_of, KeepsClosing, HasLoadedAll, HasLoadedClocks}
+use Rattle.words_core.specs.theorem.Layout.{value_word, mark_word}
+use Rattle.words_core.specs.theorem.Trace.{load, on, greatest}
+use Rattle.words_core.specs.theorem.Words.{WordsModel}
+use Rattle.words_core.specs.theorem.Seat.{SeatModel, seen, with_steps}
+use Rattle.words_core.specs.theorem.Loads.{clock_marked, clock_seen, known_clock, clocks_seen, value_seen, reach_seen, loads_at, loads_of, KeepsClosing, HasLoadedAll, HasLoadedClocks}
 use Rattle.words_core.proofs.Traces.{on-append_other}
 use Rattle.words_core.proofs.Seen.{seen-with_steps, seen_stays}
 

@@ -1,8 +1,8 @@
 -- Consequences of loading all contexts.
 use Rattle.std.proofs.Common.{◌≡◌, ℕ, List, sym, ap, ◌∙◌, subst}
-use Rattle.words_core.specs.Loads.{reach_seen, HasLoadedAll}
-use Rattle.words_core.specs.Seat.{SeatModel}
-use Rattle.words_core.specs.Words.{WordsModel}
+use Rattle.words_core.specs.theorem.Loads.{reach_seen, HasLoadedAll}
+use Rattle.words_core.specs.theorem.Seat.{SeatModel}
+use Rattle.words_core.specs.theorem.Words.{WordsModel}
 
 -- the reach is what the seat has now seen
 pub HasLoadedAll-seen : {before after : SeatModel} {reach : List ℕ} → HasLoadedAll before after reach → HasLoadedAll before after (reach_seen after)

@@ -5,7 +5,7 @@ use lib.ListN.{get_elem?}
 use Rattle.words_core.specs.declared.trace.StepKind.{StepKind}
 use Rattle.words_core.specs.declared.trace.StepKind.TheVariants.{Load, Add, Won, Lost, Raise, Shown, Shut}
 use Rattle.words_core.specs.declared.trace.Step.{Step}
-use Rattle.words_core.specs.Trace.{if_kind, total, greatest, is_win, is_shut, shut_to, load, shut}
+use Rattle.words_core.specs.theorem.Trace.{if_kind, total, greatest, is_win, is_shut, shut_to, load, shut}
 use Rattle.words_core.specs.Rule.{WordTrace, made_in, wins_in, ShutsAsDriver, IsZeroOr, KnowsZeroOr, IsMark}
 use Rattle.words_core.proofs.Totals.{total-set, total-append, Each-set, Each-at, Each-weaker}
 use Rattle.words_core.proofs.ValueSteps.{grown, claimed, total-grown}

@@ -6,8 +6,8 @@ use Rattle.atomic_table.specs.Table.{step, Allows, keeps}
 use Rattle.atomic_table.proofs.Lists.{at_map}
 use Rattle.words_core.specs.declared.trace.View.{View}
 use Rattle.words_core.specs.declared.words.Sizes.{Sizes}
-use Rattle.words_core.specs.Layout.{value_place, claim_place, mark_place}
-use Rattle.words_core.specs.Trace.{on, added, shut, wins_of, shuts_of}
+use Rattle.words_core.specs.theorem.Layout.{value_place, claim_place, mark_place}
+use Rattle.words_core.specs.theorem.Trace.{on, added, shut, wins_of, shuts_of}
 use Rattle.words_core.specs.Rule.{WordTrace, mark_trace, IsMark, IsKept}
 use Rattle.words_core.specs.Plays.{Holder, view_with, shuts_mark}
 use Rattle.words_core.proofs.ValueSteps.{grown}

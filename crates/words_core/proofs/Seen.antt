@@ -2,8 +2,8 @@
 use Rattle.std.proofs.Common.{◌≡◌, ℕ, ◌≤◌, max, List, [], ◌∷◌, ◌++◌, sym, refl, ap, ◌∙◌, arith}
 use Rattle.std.proofs.lemmas.List.{append-nil, append_assoc}
 use Rattle.words_core.specs.declared.trace.Step.{Step}
-use Rattle.words_core.specs.Trace.{on, greatest}
-use Rattle.words_core.specs.Seat.{SeatModel, seen, with_step, with_steps, parted, both_of}
+use Rattle.words_core.specs.theorem.Trace.{on, greatest}
+use Rattle.words_core.specs.theorem.Seat.{SeatModel, seen, with_step, with_steps, parted, both_of}
 use Rattle.words_core.proofs.Traces.{on-append, on-append_here, greatest-append}
 
 max_four : (a b d e : ℕ) → max (max a b) (max d e) ≡ max (max a d) (max b e)

@@ -5,7 +5,7 @@ use mathlib.Core.Logic.{dite}
 use native.Mathlib.Decide.{ℕ_discrete}
 use lib.ListN.{get_elem?}
 use Rattle.words_core.specs.declared.trace.Step.{Step}
-use Rattle.words_core.specs.Trace.{is_win, is_test, load, won, lost, set_once_step}
+use Rattle.words_core.specs.theorem.Trace.{is_win, is_test, load, won, lost, set_once_step}
 use Rattle.words_core.specs.Rule.{WordTrace, IsSetOnce}
 use Rattle.words_core.proofs.ValueSteps.{grown, total-grown, total-known_grown, below-grown, none_or_some}
 

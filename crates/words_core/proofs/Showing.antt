@@ -5,8 +5,8 @@ use Rattle.atomic_table.specs.Table.{step, Allows, keeps}
 use Rattle.atomic_table.proofs.Lists.{at_map}
 use Rattle.words_core.specs.declared.trace.View.{View}
 use Rattle.words_core.specs.declared.words.Sizes.{Sizes}
-use Rattle.words_core.specs.Layout.{IsBoardWord}
-use Rattle.words_core.specs.Trace.{raise, shown}
+use Rattle.words_core.specs.theorem.Layout.{IsBoardWord}
+use Rattle.words_core.specs.theorem.Trace.{raise, shown}
 use Rattle.words_core.specs.Rule.{WordTrace, word_trace, IsAtMost, RaisesNoMore, IsKept}
 use Rattle.words_core.specs.Plays.{Holder, view_with, loads_entry, raises_entry}
 use Rattle.words_core.proofs.Totals.{Each-at}

@@ -8,8 +8,8 @@ use Rattle.atomic_table.proofs.Lists.{at_map}
 use Rattle.words_core.specs.declared.trace.Step.{Step}
 use Rattle.words_core.specs.declared.trace.View.{View}
 use Rattle.words_core.specs.declared.words.Sizes.{Sizes}
-use Rattle.words_core.specs.Layout.{value_place, claim_place, mark_place}
-use Rattle.words_core.specs.Trace.{on, amount_of, total, greatest, is_win, is_shut, shut_to, is_test, is_load_of, is_add_to, is_raise_to, is_sight_of}
+use Rattle.words_core.specs.theorem.Layout.{value_place, claim_place, mark_place}
+use Rattle.words_core.specs.theorem.Trace.{on, amount_of, total, greatest, is_win, is_shut, shut_to, is_test, is_load_of, is_add_to, is_raise_to, is_sight_of}
 use Rattle.words_core.specs.Rule.{WordTrace, claimed_trace, context_trace, mark_trace, word_trace, made_in, known_in, wins_on, IsAtMost, RaisesNoMore, HasSums, AddsAsDriver, ShutsAsDriver, KnowsZeroOr, parts_of, IsEmptyIfSpent, KnowsSizes, IsTraced, IsValue, IsMark, IsSetOnce, IsEntry, IsKept}
 use Rattle.words_core.specs.Plays.{parent_view, child_view}
 use Rattle.words_core.proofs.Totals.{total-set, total-append, total_at, Each-set, Each-at, Each-last, map-set_same}

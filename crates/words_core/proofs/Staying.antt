@@ -12,10 +12,10 @@ use Rattle.point_core.specs.declared.status.Status.TheVariants.{Active}
 use Rattle.point_core.specs.Clocks.{clock_of, new_clock, clock_at, reached_by, reach_of_clocks, is_past_closing, is_cancelled, some_cancelled, status_of, common_status}
 use Rattle.point_core.specs.Reach.{is_reached, value_at}
 use Rattle.point_core.proofs.Ticking.{value_at-reach_of_clocks, status_of-not_active}
-use Rattle.words_core.specs.Layout.{value_word, mark_word}
-use Rattle.words_core.specs.Seat.{SeatModel, seen}
-use Rattle.words_core.specs.Words.{WordsModel}
-use Rattle.words_core.specs.Loads.{clock_marked, clock_seen, known_clock, clocks_seen, reach_seen, KeepsClosing, HasLoadedAll}
+use Rattle.words_core.specs.theorem.Layout.{value_word, mark_word}
+use Rattle.words_core.specs.theorem.Seat.{SeatModel, seen}
+use Rattle.words_core.specs.theorem.Words.{WordsModel}
+use Rattle.words_core.specs.theorem.Loads.{clock_marked, clock_seen, known_clock, clocks_seen, reach_seen, KeepsClosing, HasLoadedAll}
 use Rattle.words_core.proofs.Loads.{kept-loaded}
 use Rattle.words_core.proofs.LoadingAll.{clock_marked-closed, at-contexts, length-contexts, known_clock-within, known_clock-past, reach_seen-is}
 

@@ -4,7 +4,7 @@ use mathlib.Core.Option.{some, some-injective, some-ne-none}
 use lib.ListN.{get_elem?}
 use Rattle.std.proofs.lemmas.List.{map-set}
 use Rattle.atomic_table.proofs.Lists.{set_again, at_map, set_else}
-use Rattle.words_core.specs.Trace.{total}
+use Rattle.words_core.specs.theorem.Trace.{total}
 use Rattle.words_core.specs.Rule.{Each}
 
 module _ {A : Type 0} where

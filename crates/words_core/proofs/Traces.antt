@@ -9,7 +9,7 @@ use Rattle.std.proofs.lemmas.List.Elements.{filter-append}
 use Rattle.words_core.specs.declared.trace.StepKind.{StepKind}
 use Rattle.words_core.specs.declared.trace.StepKind.TheVariants.{Load, Add, Won, Lost, Raise, Shown, Shut}
 use Rattle.words_core.specs.declared.trace.Step.{Step}
-use Rattle.words_core.specs.Trace.{if_kind, amount_of, is_add, is_win, is_loss, is_test, is_load_of, is_add_to, target_of, is_raise_to, is_sight_of, load, add, raise, shown, total, on, greatest, raised, added, HasRunningSums}
+use Rattle.words_core.specs.theorem.Trace.{if_kind, amount_of, is_add, is_win, is_loss, is_test, is_load_of, is_add_to, target_of, is_raise_to, is_sight_of, load, add, raise, shown, total, on, greatest, raised, added, HasRunningSums}
 
 -- the steps on a word, after one more
 

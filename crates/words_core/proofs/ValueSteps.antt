@@ -5,7 +5,7 @@ use mathlib.Core.Logic.{dite}
 use native.Mathlib.Decide.{ℕ_discrete}
 use lib.ListN.{get_elem?}
 use Rattle.words_core.specs.declared.trace.Step.{Step}
-use Rattle.words_core.specs.Trace.{amount_of, total, added, is_add, is_win, is_load_of, is_add_to, load, add}
+use Rattle.words_core.specs.theorem.Trace.{amount_of, total, added, is_add, is_win, is_load_of, is_add_to, load, add}
 use Rattle.words_core.specs.Rule.{Each, WordTrace, made_in, known_in, wins_in, IsAtMost, HasSums, AddsAsDriver, IsTraced, IsValue}
 use Rattle.words_core.proofs.Totals.{total-set, total-append, Each-set, Each-at, Each-weaker}
 use Rattle.words_core.proofs.Traces.{greatest-append_le, greatest_one, HasRunningSums-append, load_value, add_value}

@@ -6,7 +6,7 @@ use Rattle.std.proofs.lemmas.Bool.{cases_lt}
 use Rattle.std.proofs.Math.Nat.{le-max_left, le-max_right, mul-le-mul_right}
 use Rattle.words_core.specs.declared.words.Sizes.{Sizes}
 use Rattle.words_core.specs.declared.words.TheConstants.{LINE_WORDS, USAGES, CLAIM, MARK}
-use Rattle.words_core.specs.Layout.{value_place, claim_place, mark_place, contexts_end, board_end, flags_start, word_count, IsValueOf, IsMarkOf, IsClaimOrFlag, IsBoardWord, IsUnused}
+use Rattle.words_core.specs.theorem.Layout.{value_place, claim_place, mark_place, contexts_end, board_end, flags_start, word_count, IsValueOf, IsMarkOf, IsClaimOrFlag, IsBoardWord, IsUnused}
 
 -- each context has a line, and so has each buffer for it
 pub lines_of : (z : Sizes) → (z.contexts ≤ max z.buffers 1 * z.contexts) × (z.buffers * z.contexts ≤ max z.buffers 1 * z.contexts)

@@ -1,10 +1,3 @@
-pub mod Driver
-pub mod Layout
-pub mod Loads
-pub mod Once
 pub mod Plays
 pub mod Rule
-pub mod Seat
-pub mod Trace
-pub mod Won
-pub mod Words
+pub mod theorem

@@ -5,7 +5,7 @@ use Rattle.words_core.specs.declared.seat.TheConstants.{PARTS}
 use Rattle.words_core.specs.declared.trace.Step.{Step}
 use Rattle.words_core.specs.declared.trace.View.{View}
 use Rattle.words_core.specs.declared.words.TheConstants.{CLAIM, MARK}
-use Rattle.words_core.specs.Trace.{load, add, raise, shown, set_once_step, is_test, total, on, greatest, raised, added, wins_of, shut, shuts_of, mark_of, LoadsWereLeft, SightsWereRaised, IsDecided}
+use Rattle.words_core.specs.theorem.Trace.{load, add, raise, shown, set_once_step, is_test, total, on, greatest, raised, added, wins_of, shut, shuts_of, mark_of, LoadsWereLeft, SightsWereRaised, IsDecided}
 use Rattle.words_core.specs.Rule.{view, spent_view, IsZeroOr}
 
 -- a seat's view, with no slots

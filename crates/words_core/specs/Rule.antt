@@ -4,8 +4,8 @@ use Rattle.words_core.specs.declared.seat.TheConstants.{PARTS}
 use Rattle.words_core.specs.declared.trace.Step.{Step}
 use Rattle.words_core.specs.declared.trace.View.{View}
 use Rattle.words_core.specs.declared.words.Sizes.{Sizes}
-use Rattle.words_core.specs.Layout.{value_place, claim_place, mark_place, word_count, IsClaimOrFlag, IsBoardWord, IsUnused}
-use Rattle.words_core.specs.Trace.{is_add, is_win, is_shut, shut_to, is_test, is_load_of, is_add_to, is_raise_to, is_sight_of, total, on, greatest, raised, added, HasRunningSums, wins_of}
+use Rattle.words_core.specs.theorem.Layout.{value_place, claim_place, mark_place, word_count, IsClaimOrFlag, IsBoardWord, IsUnused}
+use Rattle.words_core.specs.theorem.Trace.{is_add, is_win, is_shut, shut_to, is_test, is_load_of, is_add_to, is_raise_to, is_sight_of, total, on, greatest, raised, added, HasRunningSums, wins_of}
 
 abbrev pub view : Sizes → ℕ → List Step → List Step → View
 view sizes parts start trace = record { sizes = sizes; parts = parts; start = start; trace = trace }

@@ -1,10 +1,10 @@
 //! The board: a lock-free table of max-registers, one for each buffer, context and usage.
 ghost use Rattle.std.specs.Prelude.{◌≡◌, ◌<◌, ◌≤◌};
 ghost use Rattle.words_core.specs.declared.seat.TheConstants.{PARTS};
-ghost use Rattle.words_core.specs.Layout.{board_word, IsBoardWord};
-ghost use Rattle.words_core.specs.Seat.{seen, raised_to, with_step};
-ghost use Rattle.words_core.specs.Trace.{raise, shown, SightsWereRaised};
-ghost use Rattle.words_core.specs.Words.{sizes_of};
+ghost use Rattle.words_core.specs.theorem.Layout.{board_word, IsBoardWord};
+ghost use Rattle.words_core.specs.theorem.Seat.{seen, raised_to, with_step};
+ghost use Rattle.words_core.specs.theorem.Trace.{raise, shown, SightsWereRaised};
+ghost use Rattle.words_core.specs.theorem.Words.{sizes_of};
 
 use crate::plays::{LoadsEntry, LoadsTop, RaisesEntry};
 use crate::seat::Seat;

@@ -2,9 +2,9 @@
 ghost use Rattle.std.specs.Prelude.{◌≡◌, ◌≤◌, true, replicate};
 ghost use Rattle.point_core.specs.Clocks.{reached_by};
 ghost use Rattle.point_core.specs.declared.context.TheConstants.{CONTEXTS};
-ghost use Rattle.words_core.specs.Layout.{value_word};
-ghost use Rattle.words_core.specs.Loads.{clock_seen, loads_at, HasLoadedAll};
-ghost use Rattle.words_core.specs.Seat.{seen, with_steps};
+ghost use Rattle.words_core.specs.theorem.Layout.{value_word};
+ghost use Rattle.words_core.specs.theorem.Loads.{clock_seen, loads_at, HasLoadedAll};
+ghost use Rattle.words_core.specs.theorem.Seat.{seen, with_steps};
 
 use crate::seat::Seat;
 use crate::words::Words;

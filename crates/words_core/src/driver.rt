@@ -3,9 +3,9 @@
 ghost use Rattle.std.specs.Prelude.{◌≡◌, ◌+◌, ◌^◌, ◌<◌, ◌≤◌, ◌↔◌, IfOk, IfErr, IsErr, OnErr};
 ghost use Rattle.point_core.specs.Reach.{GREATEST};
 ghost use Rattle.point_core.specs.declared.refusal.Refusal.TheVariants as refusal;
-ghost use Rattle.words_core.specs.Layout.{value_word, claim_word, mark_word};
-ghost use Rattle.words_core.specs.Seat.{seen, added_to, with_step};
-ghost use Rattle.words_core.specs.Trace.{add, shut, wins_of, shuts_of};
+ghost use Rattle.words_core.specs.theorem.Layout.{value_word, claim_word, mark_word};
+ghost use Rattle.words_core.specs.theorem.Seat.{seen, added_to, with_step};
+ghost use Rattle.words_core.specs.theorem.Trace.{add, shut, wins_of, shuts_of};
 
 use crate::seat::Seat;
 use crate::words::Words;
@@ -22,10 +22,10 @@ pub struct Driver {
 
 impl Model for Driver {
     ghost use Rattle.std.specs.Prelude.{◌≡◌, ◌<◌, ◌≤◌};
-    ghost use Rattle.words_core.specs.Driver.{DriverModel};
-    ghost use Rattle.words_core.specs.Layout.{claim_word, mark_word};
-    ghost use Rattle.words_core.specs.Seat.{added_to};
-    ghost use Rattle.words_core.specs.Trace.{wins_of, shuts_of};
+    ghost use Rattle.words_core.specs.theorem.Driver.{DriverModel};
+    ghost use Rattle.words_core.specs.theorem.Layout.{claim_word, mark_word};
+    ghost use Rattle.words_core.specs.theorem.Seat.{added_to};
+    ghost use Rattle.words_core.specs.theorem.Trace.{wins_of, shuts_of};
 
     ghost Value = { DriverModel };
 

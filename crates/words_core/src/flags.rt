@@ -1,10 +1,10 @@
 //! Flags: ownership bits that are set once, as the kernel's `DMA_FENCE_FLAG_SIGNALED_BIT`.
 ghost use Rattle.std.specs.Prelude.{◌≡◌, ◌+◌, ◌<◌, ◌≤◌};
 ghost use Rattle.words_core.specs.declared.seat.TheConstants.{PARTS};
-ghost use Rattle.words_core.specs.Layout.{flag_word};
-ghost use Rattle.words_core.specs.Once.{IfFirst, IfAlready};
-ghost use Rattle.words_core.specs.Seat.{seen, tests_of, with_step};
-ghost use Rattle.words_core.specs.Trace.{load, won, lost, wins_of, IsDecided, set_once_step};
+ghost use Rattle.words_core.specs.theorem.Layout.{flag_word};
+ghost use Rattle.words_core.specs.theorem.Once.{IfFirst, IfAlready};
+ghost use Rattle.words_core.specs.theorem.Seat.{seen, tests_of, with_step};
+ghost use Rattle.words_core.specs.theorem.Trace.{load, won, lost, wins_of, IsDecided, set_once_step};
 
 use crate::plays::{LoadsFlag, SetsOnce};
 use crate::seat::Seat;
@@ -19,7 +19,7 @@ pub struct Won {
 }
 
 impl Model for Won {
-    ghost use Rattle.words_core.specs.Won.{WonModel};
+    ghost use Rattle.words_core.specs.theorem.Won.{WonModel};
 
     ghost Value = { WonModel };
 

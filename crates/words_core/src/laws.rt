@@ -7,10 +7,10 @@ ghost use Rattle.point_core.specs.declared.status.Status.TheVariants.{Active};
 ghost use Rattle.words_core.specs.declared.trace.Step.{Step};
 ghost use Rattle.words_core.specs.declared.words.TheConstants.{LINE_WORDS};
 ghost use Rattle.words_core.specs.declared.words.Sizes.{Sizes};
-ghost use Rattle.words_core.specs.Layout.{board_word, value_word, word_count, IsValueOf, IsMarkOf, IsClaimOrFlag, IsBoardWord, IsUnused};
-ghost use Rattle.words_core.specs.Loads.{clocks_seen, HasLoadedAll};
-ghost use Rattle.words_core.specs.Seat.{SeatModel, seen, tests_of, with_step, parted, both_of};
-ghost use Rattle.words_core.specs.Words.{WordsModel};
+ghost use Rattle.words_core.specs.theorem.Layout.{board_word, value_word, word_count, IsValueOf, IsMarkOf, IsClaimOrFlag, IsBoardWord, IsUnused};
+ghost use Rattle.words_core.specs.theorem.Loads.{clocks_seen, HasLoadedAll};
+ghost use Rattle.words_core.specs.theorem.Seat.{SeatModel, seen, tests_of, with_step, parted, both_of};
+ghost use Rattle.words_core.specs.theorem.Words.{WordsModel};
 
 /// No two entries of the board are one word, and entries of two buffers or two contexts are on two lines. An entry is
 /// on the line of a context's value exactly if it belongs to the first buffer and that context.

@@ -1,10 +1,10 @@
 //! Marks: a word for each context that says whether it is closed. Its driver sets it, once.
 ghost use Rattle.std.specs.Prelude.{◌≡◌, ◌+◌, ◌^◌, ◌<◌, ◌≤◌};
 ghost use Rattle.words_core.specs.declared.seat.TheConstants.{PARTS};
-ghost use Rattle.words_core.specs.Layout.{value_word, claim_word, mark_word};
+ghost use Rattle.words_core.specs.theorem.Layout.{value_word, claim_word, mark_word};
 ghost use Rattle.words_core.specs.Rule.{IsZeroOr};
-ghost use Rattle.words_core.specs.Seat.{seen, added_to, with_step};
-ghost use Rattle.words_core.specs.Trace.{load, shut, on, wins_of, shuts_of, mark_of};
+ghost use Rattle.words_core.specs.theorem.Seat.{seen, added_to, with_step};
+ghost use Rattle.words_core.specs.theorem.Trace.{load, shut, on, wins_of, shuts_of, mark_of};
 
 use crate::plays::{LoadsMark, LoadsTotalMark, ShutsMark};
 use crate::seat::Seat;

@@ -1,7 +1,7 @@
 //! The layout: the index of each word in the table.
 ghost use Rattle.std.specs.Prelude.{◌≡◌, ◌<◌, ◌≤◌};
-ghost use Rattle.words_core.specs.Layout.{board_word, flag_word, word_count, IsBoardWord};
-ghost use Rattle.words_core.specs.Words.{sizes_of};
+ghost use Rattle.words_core.specs.theorem.Layout.{board_word, flag_word, word_count, IsBoardWord};
+ghost use Rattle.words_core.specs.theorem.Words.{sizes_of};
 
 use crate::words::{LINE_WORDS, Words};
 use point_core::{Context, Usage};

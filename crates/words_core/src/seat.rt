@@ -22,8 +22,8 @@ pub struct Seat {
 impl Model for Seat {
     ghost use Rattle.std.specs.Prelude.{◌≡◌, ◌≤◌, []};
     ghost use Rattle.words_core.specs.declared.seat.TheConstants.{PARTS};
-    ghost use Rattle.words_core.specs.Seat.{SeatModel};
-    ghost use Rattle.words_core.specs.Words.{words_of};
+    ghost use Rattle.words_core.specs.theorem.Seat.{SeatModel};
+    ghost use Rattle.words_core.specs.theorem.Words.{words_of};
 
     ghost Value = { SeatModel };
 

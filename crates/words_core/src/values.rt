@@ -3,10 +3,10 @@ ghost use Rattle.std.specs.Prelude.{◌≡◌, ◌+◌, ◌^◌, ◌<◌, ◌≤
 ghost use Rattle.point_core.specs.declared.context.TheConstants.{CONTEXTS};
 ghost use Rattle.point_core.specs.declared.refusal.Refusal.TheVariants as refusal;
 ghost use Rattle.words_core.specs.declared.seat.TheConstants.{PARTS};
-ghost use Rattle.words_core.specs.Layout.{value_word, claim_word, mark_word};
-ghost use Rattle.words_core.specs.Loads.{HasLoadedAll};
-ghost use Rattle.words_core.specs.Seat.{seen, added_to, tests_of, with_step};
-ghost use Rattle.words_core.specs.Trace.{load, add, won, lost, wins_of, shuts_of, LoadsWereLeft, IsDecided};
+ghost use Rattle.words_core.specs.theorem.Layout.{value_word, claim_word, mark_word};
+ghost use Rattle.words_core.specs.theorem.Loads.{HasLoadedAll};
+ghost use Rattle.words_core.specs.theorem.Seat.{seen, added_to, tests_of, with_step};
+ghost use Rattle.words_core.specs.theorem.Trace.{load, add, won, lost, wins_of, shuts_of, LoadsWereLeft, IsDecided};
 
 use crate::driver::Driver;
 use crate::plays::{AddsToValue, ClaimsContext, LoadsTotal, LoadsValue};

@@ -1,9 +1,9 @@
 //! `Whole`: a seat with all parts (full permission), which therefore knows every step.
 ghost use Rattle.std.specs.Prelude.{◌≡◌, ◌+◌, ◌<◌, ◌≤◌, true, if◌then◌else◌};
-ghost use Rattle.words_core.specs.Layout.{value_word, claim_word, mark_word, board_word, flag_word};
+ghost use Rattle.words_core.specs.theorem.Layout.{value_word, claim_word, mark_word, board_word, flag_word};
 ghost use Rattle.words_core.specs.Rule.{IsZeroOr};
-ghost use Rattle.words_core.specs.Seat.{seen, tests_of, with_step, added_to, raised_to};
-ghost use Rattle.words_core.specs.Trace.{load, shown, on, wins_of, shuts_of, mark_of, LoadsWereLeft, SightsWereRaised, IsDecided};
+ghost use Rattle.words_core.specs.theorem.Seat.{seen, tests_of, with_step, added_to, raised_to};
+ghost use Rattle.words_core.specs.theorem.Trace.{load, shown, on, wins_of, shuts_of, mark_of, LoadsWereLeft, SightsWereRaised, IsDecided};
 
 use crate::seat::Seat;
 use crate::words::Words;
@@ -19,7 +19,7 @@ pub struct Whole {
 impl Model for Whole {
     ghost use Rattle.std.specs.Prelude.{◌≡◌};
     ghost use Rattle.words_core.specs.declared.seat.TheConstants.{PARTS};
-    ghost use Rattle.words_core.specs.Seat.{SeatModel};
+    ghost use Rattle.words_core.specs.theorem.Seat.{SeatModel};
 
     ghost Value = { SeatModel };
 

@@ -7,8 +7,8 @@ ghost use Rattle.point_core.specs.declared.refusal.LimitKind.TheVariants as limi
 ghost use Rattle.point_core.specs.declared.refusal.Refusal.TheVariants as refusal;
 ghost use Rattle.words_core.specs.declared.seat.TheConstants.{PARTS};
 ghost use Rattle.words_core.specs.declared.words.TheConstants.{FLAGS};
-ghost use Rattle.words_core.specs.Seat.{seen, without_parts, parted, both_of};
-ghost use Rattle.words_core.specs.Trace.{wins_of};
+ghost use Rattle.words_core.specs.theorem.Seat.{seen, without_parts, parted, both_of};
+ghost use Rattle.words_core.specs.theorem.Trace.{wins_of};
 
 use crate::plays::{CountsParts, JoinSeats, PartCount, SplitParts, WordsRule};
 use crate::seat::{PARTS, Seat};
@@ -62,8 +62,8 @@ impl Model for Words {
     ghost use Rattle.point_core.specs.declared.context.TheConstants.{CONTEXTS};
     ghost use Rattle.point_core.specs.declared.limits.TheConstants.{BUFFERS};
     ghost use Rattle.words_core.specs.declared.words.TheConstants.{FLAGS};
-    ghost use Rattle.words_core.specs.Layout.{word_count};
-    ghost use Rattle.words_core.specs.Words.{WordsModel, words_of};
+    ghost use Rattle.words_core.specs.theorem.Layout.{word_count};
+    ghost use Rattle.words_core.specs.theorem.Words.{WordsModel, words_of};
 
     ghost Value = { WordsModel };
 
@@ -219,7 +219,7 @@ pub struct WordsId {
 }
 
 impl Model for WordsId {
-    ghost use Rattle.words_core.specs.Words.{WordsModel};
+    ghost use Rattle.words_core.specs.theorem.Words.{WordsModel};
 
     ghost Value = { WordsModel };
 

@@ -1,7 +1,7 @@
 use Rattle.std.proofs.Common.{◌≡◌, ◌+◌, Bool, if◌then◌else◌, sym, ap, ◌∙◌, subst, arith}
-use Rattle.words_core.specs.Layout.{mark_word}
-use Rattle.words_core.specs.Seat.{SeatModel}
-use Rattle.words_core.specs.Trace.{mark_of}
+use Rattle.words_core.specs.theorem.Layout.{mark_word}
+use Rattle.words_core.specs.theorem.Seat.{SeatModel}
+use Rattle.words_core.specs.theorem.Trace.{mark_of}
 use Rattle.clients_core.proofs.Gathering.{HasOnlyLoaded, HasOnlyLoaded-more, HasClosedNone-more, HasClosedNone-not, added_to-HasOnlyLoaded, raised_to-HasOnlyLoaded}
 use Rattle.clients_core.proofs.gathered.are_open.Goals as goal
 

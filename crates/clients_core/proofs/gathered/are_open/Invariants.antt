@@ -1,6 +1,6 @@
 use Rattle.std.proofs.Common.{◌≡◌, ◌≤◌, ℕ}
-use Rattle.words_core.specs.Layout.{mark_word}
-use Rattle.words_core.specs.Trace.{shuts_of}
+use Rattle.words_core.specs.theorem.Layout.{mark_word}
+use Rattle.words_core.specs.theorem.Trace.{shuts_of}
 use Rattle.clients_core.proofs.Gathering.{HasOnlyLoaded}
 use Rattle.clients_core.proofs.gathered.are_open.Given as goal
 

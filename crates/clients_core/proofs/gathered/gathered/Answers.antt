@@ -3,8 +3,8 @@ use Rattle.std.proofs.lemmas.List.{length-set, length-replicate}
 use Rattle.point_core.specs.declared.context.TheConstants.{CONTEXTS}
 use Rattle.point_core.specs.Reach.{value_at, with_value}
 use Rattle.point_core.proofs.Values.{value_at-replicate}
-use Rattle.words_core.specs.Layout.{value_word}
-use Rattle.words_core.specs.Seat.{SeatModel, added_to}
+use Rattle.words_core.specs.theorem.Layout.{value_word}
+use Rattle.words_core.specs.theorem.Seat.{SeatModel, added_to}
 use Rattle.clients_core.proofs.Gathering.{HasOnlyLoaded, HasOnlyLoaded-none, HasOnlyLoaded-more, added_to-HasOnlyLoaded, raised_to-HasOnlyLoaded, values-more, past-more, raised_from_zero}
 use Rattle.clients_core.proofs.gathered.gathered.Goals as goal
 

@@ -1,7 +1,7 @@
 use Rattle.std.proofs.Common.{◌≡◌, ◌<◌, ◌≤◌, ℕ, length}
 use Rattle.point_core.specs.Reach.{value_at}
 use Rattle.point_core.specs.declared.context.TheConstants.{CONTEXTS}
-use Rattle.words_core.specs.Seat.{added_to}
+use Rattle.words_core.specs.theorem.Seat.{added_to}
 use Rattle.clients_core.proofs.Gathering.{HasOnlyLoaded}
 use Rattle.clients_core.proofs.gathered.gathered.Given as goal
 

@@ -1,6 +1,6 @@
 use Rattle.std.proofs.Common.{◌≡◌, ◌<◌, ℕ}
 use Rattle.point_core.specs.Agreement.{AgreesAbove}
-use Rattle.words_core.specs.Seat.{raised_to}
+use Rattle.words_core.specs.theorem.Seat.{raised_to}
 use Rattle.resv_core.specs.Settled.{all_puts}
 use Rattle.resv_core.specs.Shared.{HasStepped}
 use Rattle.clients_core.specs.Board.{raised_in}

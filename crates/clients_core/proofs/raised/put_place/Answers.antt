@@ -1,5 +1,5 @@
 use Rattle.std.proofs.Common.{ap, ◌∙◌}
-use Rattle.words_core.specs.Seat.{SeatModel, raised_to}
+use Rattle.words_core.specs.theorem.Seat.{SeatModel, raised_to}
 use Rattle.clients_core.proofs.Showing.{raised_to-shown}
 use Rattle.clients_core.proofs.raised.put_place.Goals as goal
 

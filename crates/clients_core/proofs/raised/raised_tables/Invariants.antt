@@ -1,6 +1,6 @@
 use Rattle.std.proofs.Common.{◌≡◌, ℕ, map, vec_len, vec_capacity}
 use Rattle.std.specs.List.{range_with_len}
-use Rattle.words_core.specs.Seat.{raised_to}
+use Rattle.words_core.specs.theorem.Seat.{raised_to}
 use Rattle.resv_core.specs.Resv.{rows_of}
 use Rattle.resv_core.specs.Shared.{HasStepped}
 use Rattle.clients_core.specs.Board.{raised_in}

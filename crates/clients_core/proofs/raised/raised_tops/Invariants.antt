@@ -1,7 +1,7 @@
 use Rattle.std.proofs.Common.{◌≡◌, ℕ, map}
 use Rattle.point_core.specs.Agreement.{HasContexts}
 use Rattle.point_core.specs.declared.entry.Usage.TheVariants.{Bookkeep}
-use Rattle.words_core.specs.Seat.{raised_to}
+use Rattle.words_core.specs.theorem.Seat.{raised_to}
 use Rattle.resv_core.specs.Shared.{HasStepped}
 use Rattle.resv_core.specs.Tops.{AreTops}
 use Rattle.clients_core.specs.Board.{places_to, raised_entry}

@@ -1,7 +1,7 @@
 use Rattle.std.proofs.Common.{◌≡◌, ℕ, ◌+◌, length, refl, sym, ap, subst, ◌∙◌, arith}
 use Rattle.std.proofs.lemmas.Option.{slice_get_read}
 use Rattle.std.proofs.lemmas.Result.{err_from_is_err_and}
-use Rattle.words_core.specs.Seat.{SeatModel}
+use Rattle.words_core.specs.theorem.Seat.{SeatModel}
 use Rattle.clients_core.specs.Working.{HasEnded}
 use Rattle.clients_core.proofs.Working.{AreWorkedOff-ended, HasRefused-ended, HaveAllEnded-joined}
 use Rattle.clients_core.proofs.workers.work_in.Goals as goal

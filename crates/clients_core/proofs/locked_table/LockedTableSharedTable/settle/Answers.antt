@@ -4,8 +4,8 @@ use Rattle.std.proofs.lemmas.List.FromFn.{map-range_with_len_more}
 use Rattle.point_core.specs.declared.entry.Entry.{Entry}
 use Rattle.point_core.specs.declared.listing.TopRow.{TopRow}
 use Rattle.point_core.specs.Reach.{value_at}
-use Rattle.words_core.specs.Seat.{added_to}
-use Rattle.words_core.specs.Words.{WordsModel}
+use Rattle.words_core.specs.theorem.Seat.{added_to}
+use Rattle.words_core.specs.theorem.Words.{WordsModel}
 use Rattle.resv_core.specs.Resv.{rows_of}
 use Rattle.resv_core.specs.Settled.{all_puts}
 use Rattle.clients_core.proofs.Gathering.{map-contexts, tables_of-same_values, value_at-listed}

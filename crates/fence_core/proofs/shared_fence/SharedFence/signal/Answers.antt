@@ -1,7 +1,7 @@
 use Rattle.std.proofs.Common.{◌≡◌, ◌≤◌, ap, ◌∙◌, subst}
 use Rattle.point_core.specs.Clocks.{reached_by}
-use Rattle.words_core.specs.Loads.{clock_seen, loads_at}
-use Rattle.words_core.specs.Seat.{SeatModel, with_steps}
+use Rattle.words_core.specs.theorem.Loads.{clock_seen, loads_at}
+use Rattle.words_core.specs.theorem.Seat.{SeatModel, with_steps}
 use Rattle.words_core.proofs.LoadingAll.{KeepsClosing-clock}
 use Rattle.fence_core.specs.SharedFence.{SharedFenceModel}
 use Rattle.fence_core.specs.Signal.{IsPendingAt}

@@ -1,8 +1,8 @@
 use Rattle.std.proofs.Common.{◌≡◌, ◌+◌, ◌<◌, ◌≤◌, ℕ, sym, ap, subst, ◌∙◌, arith}
 use Rattle.point_core.specs.Clocks.{clock_at, new_clock, reach_of_clocks}
-use Rattle.words_core.specs.Loads.{clocks_seen}
-use Rattle.words_core.specs.Seat.{SeatModel}
-use Rattle.words_core.specs.Words.{WordsModel}
+use Rattle.words_core.specs.theorem.Loads.{clocks_seen}
+use Rattle.words_core.specs.theorem.Seat.{SeatModel}
+use Rattle.words_core.specs.theorem.Words.{WordsModel}
 use Rattle.words_core.proofs.Loads.{kept-loaded}
 use Rattle.words_core.proofs.LoadingAll.{clock_at-seen, clock_at-past, clock_seen-kept, reach_seen-is, HasLoaded-none, HasLoaded-more, HasLoadedClocks-all}
 use Rattle.syncfile_core.specs.Running.{HasFoundTo, IsBorneOut, IsBorneOutAt}

@@ -1,6 +1,6 @@
 use Rattle.std.proofs.Common.{◌≡◌}
 use Rattle.words_core.proofs.LoadingAll.{HasLoaded}
-use Rattle.words_core.specs.Loads.{clocks_seen}
+use Rattle.words_core.specs.theorem.Loads.{clocks_seen}
 use Rattle.syncfile_core.specs.Running.{HasFoundTo}
 use Rattle.syncfile_core.proofs.sync_file.SyncFile.poll.Given as goal
 

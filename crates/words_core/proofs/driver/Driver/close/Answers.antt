@@ -1,8 +1,8 @@
 use Rattle.std.proofs.Common.{ℕ, sym, ap, ◌∙◌, ◌+◌, ◌≡◌, arith}
-use Rattle.words_core.specs.Driver.{DriverModel}
-use Rattle.words_core.specs.Layout.{mark_word}
-use Rattle.words_core.specs.Seat.{SeatModel}
-use Rattle.words_core.specs.Trace.{shuts_of}
+use Rattle.words_core.specs.theorem.Driver.{DriverModel}
+use Rattle.words_core.specs.theorem.Layout.{mark_word}
+use Rattle.words_core.specs.theorem.Seat.{SeatModel}
+use Rattle.words_core.specs.theorem.Trace.{shuts_of}
 use Rattle.words_core.proofs.Driving.{shuts_of-shut}
 use Rattle.words_core.proofs.driver.Driver.close.Goals as goal
 

@@ -1,7 +1,7 @@
 use Rattle.std.proofs.Common.{◌<◌, ◌≤◌, sym, ap, ◌∙◌, subst, arith}
-use Rattle.words_core.specs.Layout.{value_word, claim_word, mark_word}
-use Rattle.words_core.specs.Seat.{SeatModel, added_to}
-use Rattle.words_core.specs.Trace.{add, wins_of, shuts_of}
+use Rattle.words_core.specs.theorem.Layout.{value_word, claim_word, mark_word}
+use Rattle.words_core.specs.theorem.Seat.{SeatModel, added_to}
+use Rattle.words_core.specs.theorem.Trace.{add, wins_of, shuts_of}
 use Rattle.words_core.proofs.Driving.{wins_of-add, added_to-add, shuts_of-other}
 use Rattle.words_core.proofs.driver.Driver.inc.Goals as goal
 

@@ -1,7 +1,7 @@
 use Rattle.std.proofs.Common.{◌+◌, ◌∙◌, sym, ap, arith}
-use Rattle.words_core.specs.Layout.{mark_word}
-use Rattle.words_core.specs.Seat.{SeatModel, added_to}
-use Rattle.words_core.specs.Trace.{shuts_of, mark_of}
+use Rattle.words_core.specs.theorem.Layout.{mark_word}
+use Rattle.words_core.specs.theorem.Seat.{SeatModel, added_to}
+use Rattle.words_core.specs.theorem.Trace.{shuts_of, mark_of}
 use Rattle.words_core.proofs.Driving.{shuts_of-marked, shut_if_marked}
 use Rattle.words_core.proofs.whole.Whole.closed.Goals as goal
 

@@ -1,6 +1,6 @@
 use Rattle.std.proofs.Common.{sym, ap, ◌∙◌, arith}
-use Rattle.words_core.specs.Seat.{SeatModel}
-use Rattle.words_core.specs.Words.{WordsModel}
+use Rattle.words_core.specs.theorem.Seat.{SeatModel}
+use Rattle.words_core.specs.theorem.Words.{WordsModel}
 use Rattle.words_core.proofs.WordKinds.{lines_of}
 use Rattle.words_core.proofs.Joining.{join-allowed, counts_parts-allowed}
 use Rattle.words_core.proofs.words.Words.absorb.Goals as goal

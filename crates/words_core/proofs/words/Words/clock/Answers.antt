@@ -1,8 +1,8 @@
 use Rattle.std.proofs.Common.{◌≡◌, ◌∙◌, ℕ, sym, ap, arith}
-use Rattle.words_core.specs.Layout.{value_word, mark_word}
-use Rattle.words_core.specs.Loads.{clock_marked}
-use Rattle.words_core.specs.Seat.{SeatModel, seen}
-use Rattle.words_core.specs.Trace.{load}
+use Rattle.words_core.specs.theorem.Layout.{value_word, mark_word}
+use Rattle.words_core.specs.theorem.Loads.{clock_marked}
+use Rattle.words_core.specs.theorem.Seat.{SeatModel, seen}
+use Rattle.words_core.specs.theorem.Trace.{load}
 use Rattle.words_core.proofs.LoadingAll.{clock_marked-closed, seen_mark-loaded}
 use Rattle.words_core.proofs.Seen.{seen-with_step_later}
 use Rattle.words_core.proofs.words.Words.clock.Goals as goal

@@ -1,8 +1,8 @@
 use Rattle.std.proofs.Common.{◌≡◌, ◌<◌, ◌≤◌, sym, ap, ◌∙◌, refl, subst, arith}
-use Rattle.words_core.specs.Layout.{claim_word, mark_word}
-use Rattle.words_core.specs.Seat.{SeatModel, added_to}
-use Rattle.words_core.specs.Trace.{won, wins_of, shuts_of}
-use Rattle.words_core.specs.Words.{WordsModel}
+use Rattle.words_core.specs.theorem.Layout.{claim_word, mark_word}
+use Rattle.words_core.specs.theorem.Seat.{SeatModel, added_to}
+use Rattle.words_core.specs.theorem.Trace.{won, wins_of, shuts_of}
+use Rattle.words_core.specs.theorem.Words.{WordsModel}
 use Rattle.words_core.proofs.Driving.{wins_of-won, added_to-won, shuts_of-other}
 use Rattle.words_core.proofs.words.Words.driver.Goals as goal
 

@@ -1,6 +1,6 @@
 use Rattle.std.proofs.Common.{◌≤◌, ℕ, ap, ◌∙◌, subst}
-use Rattle.words_core.specs.Seat.{SeatModel, seen}
-use Rattle.words_core.specs.Trace.{wins_of}
+use Rattle.words_core.specs.theorem.Seat.{SeatModel, seen}
+use Rattle.words_core.specs.theorem.Trace.{wins_of}
 use Rattle.words_core.proofs.Driving.{wins_of-both_of}
 use Rattle.words_core.proofs.Seen.{seen-both_of}
 use Rattle.words_core.proofs.words.Words.join.Goals as goal

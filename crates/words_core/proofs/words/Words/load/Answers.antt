@@ -1,10 +1,10 @@
 use Rattle.std.proofs.Common.{◌≡◌, ◌++◌, ℕ, sym, ap, ◌∙◌, arith}
 use Rattle.words_core.specs.declared.words.Sizes.{Sizes}
-use Rattle.words_core.specs.Seat.{SeatModel}
-use Rattle.words_core.specs.Words.{WordsModel, words_of}
-use Rattle.words_core.specs.Layout.{value_place, value_word}
+use Rattle.words_core.specs.theorem.Seat.{SeatModel}
+use Rattle.words_core.specs.theorem.Words.{WordsModel, words_of}
+use Rattle.words_core.specs.theorem.Layout.{value_place, value_word}
 use Rattle.words_core.specs.Plays.{Holder}
-use Rattle.words_core.specs.Trace.{load, on, greatest}
+use Rattle.words_core.specs.theorem.Trace.{load, on, greatest}
 use Rattle.words_core.proofs.Seen.{seen-with_step_later}
 use Rattle.words_core.proofs.WordKinds.{lines_of}
 use Rattle.words_core.proofs.Loading.{loads_value-allowed}

@@ -1,7 +1,7 @@
 use Rattle.std.proofs.Common.{◌≡◌, ◌+◌, ℕ, List, sym, ap, ◌∙◌, subst, arith}
 use Rattle.point_core.specs.Clocks.{reached_by}
 use Rattle.point_core.specs.Reach.{with_value}
-use Rattle.words_core.specs.Words.{WordsModel}
+use Rattle.words_core.specs.theorem.Words.{WordsModel}
 use Rattle.words_core.proofs.LoadingAll.{reached_seen, clock_seen-kept, raised_from_zero, HasLoaded-none, HasLoaded-more, HasFound, HasFound-none, HasFound-more, HasLoadedAll-loaded}
 use Rattle.words_core.proofs.words.Words.load_all_into.Goals as goal
 

@@ -1,7 +1,7 @@
 use Rattle.std.proofs.Common.{◌≡◌, ◌+◌, ℕ, ap, ◌∙◌}
-use Rattle.words_core.specs.Layout.{flag_word}
-use Rattle.words_core.specs.Seat.{SeatModel, tests_of, with_step}
-use Rattle.words_core.specs.Trace.{wins_of, set_once_step}
+use Rattle.words_core.specs.theorem.Layout.{flag_word}
+use Rattle.words_core.specs.theorem.Seat.{SeatModel, tests_of, with_step}
+use Rattle.words_core.specs.theorem.Trace.{wins_of, set_once_step}
 use Rattle.words_core.proofs.Driving.{wins_of-won, tests_of-set_once}
 use Rattle.words_core.proofs.words.Words.set_once.Goals as goal
 

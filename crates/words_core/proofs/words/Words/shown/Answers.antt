@@ -1,6 +1,6 @@
 use Rattle.std.proofs.Common.{ap, sym, ◌∙◌, ℕ}
-use Rattle.words_core.specs.Seat.{SeatModel, seen}
-use Rattle.words_core.specs.Trace.{shown}
+use Rattle.words_core.specs.theorem.Seat.{SeatModel, seen}
+use Rattle.words_core.specs.theorem.Trace.{shown}
 use Rattle.words_core.proofs.Seen.{seen-with_step_later}
 use Rattle.words_core.proofs.words.Words.shown.Goals as goal
 

@@ -1,8 +1,8 @@
 use Rattle.std.proofs.Common.{◌<◌, ℕ, sym, ap, ◌∙◌, subst, arith}
 use Rattle.words_core.specs.declared.words.Sizes.{Sizes}
-use Rattle.words_core.specs.Layout.{IsBoardWord, word_count}
-use Rattle.words_core.specs.Seat.{SeatModel}
-use Rattle.words_core.specs.Words.{WordsModel, sizes_of}
+use Rattle.words_core.specs.theorem.Layout.{IsBoardWord, word_count}
+use Rattle.words_core.specs.theorem.Seat.{SeatModel}
+use Rattle.words_core.specs.theorem.Words.{WordsModel, sizes_of}
 use Rattle.words_core.proofs.WordKinds.{IsBoardWord-inside}
 use Rattle.words_core.proofs.Showing.{loads_entry-allowed}
 use Rattle.words_core.proofs.words.Words.shown_at.Goals as goal

@@ -1,9 +1,9 @@
 use Rattle.std.proofs.Common.{◌≡◌, ◌+◌, ◌-◌, ◌<◌, ℕ, sym, ap, ◌∙◌, subst, arith}
 use Rattle.words_core.specs.declared.words.Sizes.{Sizes}
-use Rattle.words_core.specs.Seat.{SeatModel}
-use Rattle.words_core.specs.Words.{WordsModel}
-use Rattle.words_core.specs.Layout.{value_place, claim_place, mark_place}
-use Rattle.words_core.specs.Trace.{on, added, wins_of, shuts_of}
+use Rattle.words_core.specs.theorem.Seat.{SeatModel}
+use Rattle.words_core.specs.theorem.Words.{WordsModel}
+use Rattle.words_core.specs.theorem.Layout.{value_place, claim_place, mark_place}
+use Rattle.words_core.specs.theorem.Trace.{on, added, wins_of, shuts_of}
 use Rattle.words_core.proofs.WordKinds.{lines_of}
 use Rattle.words_core.proofs.Marking.{shuts_mark-allowed}
 use Rattle.words_core.proofs.words.Words.shut.Goals as goal

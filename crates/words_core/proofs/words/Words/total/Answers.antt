@@ -1,7 +1,7 @@
 use Rattle.std.proofs.Common.{sym, ap, ◌∙◌, arith}
 use Rattle.words_core.specs.declared.words.Sizes.{Sizes}
-use Rattle.words_core.specs.Seat.{SeatModel}
-use Rattle.words_core.specs.Words.{WordsModel}
+use Rattle.words_core.specs.theorem.Seat.{SeatModel}
+use Rattle.words_core.specs.theorem.Words.{WordsModel}
 use Rattle.words_core.proofs.WordKinds.{lines_of}
 use Rattle.words_core.proofs.Gathering.{loads_total-allowed}
 use Rattle.words_core.proofs.words.Words.total.Goals as goal

@@ -1,8 +1,8 @@
 use Rattle.std.proofs.Common.{◌<◌, ℕ, sym, ap, ◌∙◌, subst, arith}
 use Rattle.words_core.specs.declared.words.Sizes.{Sizes}
-use Rattle.words_core.specs.Layout.{IsClaimOrFlag, word_count}
-use Rattle.words_core.specs.Seat.{SeatModel}
-use Rattle.words_core.specs.Words.{WordsModel, sizes_of}
+use Rattle.words_core.specs.theorem.Layout.{IsClaimOrFlag, word_count}
+use Rattle.words_core.specs.theorem.Seat.{SeatModel}
+use Rattle.words_core.specs.theorem.Words.{WordsModel, sizes_of}
 use Rattle.words_core.proofs.WordKinds.{IsClaimOrFlag-flag}
 use Rattle.words_core.proofs.Gathering.{loads_flag-allowed}
 use Rattle.words_core.proofs.words.Words.total_flag.Goals as goal

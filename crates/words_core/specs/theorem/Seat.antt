@@ -1,9 +1,9 @@
 -- A seat, as contracts see it.
 use Rattle.std.specs.Prelude.{ℕ, ◌+◌, ◌-◌, List, [], ◌∷◌, ◌++◌}
 use Rattle.words_core.specs.declared.trace.Step.{Step}
-use Rattle.words_core.specs.Layout.{value_word}
-use Rattle.words_core.specs.Trace.{is_test, total, on, greatest, raised, added}
-use Rattle.words_core.specs.Words.{WordsModel}
+use Rattle.words_core.specs.theorem.Layout.{value_word}
+use Rattle.words_core.specs.theorem.Trace.{is_test, total, on, greatest, raised, added}
+use Rattle.words_core.specs.theorem.Words.{WordsModel}
 
 -- the set of words, its parts, the steps that its parent knew when it was parted, and its own steps
 pub record SeatModel : Type 0 where

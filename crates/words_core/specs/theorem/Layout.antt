@@ -5,7 +5,7 @@ use Rattle.point_core.specs.declared.entry.Usage.{Usage}
 use Rattle.point_core.specs.Usage.{usage_number}
 use Rattle.words_core.specs.declared.words.Sizes.{Sizes}
 use Rattle.words_core.specs.declared.words.TheConstants.{LINE_WORDS, USAGES, CLAIM, MARK}
-use Rattle.words_core.specs.Words.{WordsModel, sizes_of}
+use Rattle.words_core.specs.theorem.Words.{WordsModel, sizes_of}
 
 -- the value of the context at a place, which is its number less 1
 abbrev pub value_place : ℕ → ℕ

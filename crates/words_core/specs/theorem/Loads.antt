@@ -5,9 +5,9 @@ use Rattle.point_core.specs.Agreement.{contexts}
 use Rattle.point_core.specs.Clocks.{clock_of, open_clock, new_clock, reached_by, reach_of_clocks}
 use Rattle.point_core.specs.Reach.{IsAtLeast}
 use Rattle.words_core.specs.declared.trace.Step.{Step}
-use Rattle.words_core.specs.Layout.{value_word, mark_word}
-use Rattle.words_core.specs.Seat.{SeatModel, seen, with_steps}
-use Rattle.words_core.specs.Trace.{load}
+use Rattle.words_core.specs.theorem.Layout.{value_word, mark_word}
+use Rattle.words_core.specs.theorem.Seat.{SeatModel, seen, with_steps}
+use Rattle.words_core.specs.theorem.Trace.{load}
 
 -- the clock of a context whose mark and value were seen: a mark above 0 is the value at its closing, and 1
 abbrev pub clock_marked : ℕ → ℕ → Clock

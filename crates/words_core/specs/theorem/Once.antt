@@ -1,7 +1,7 @@
 -- The result of a test-and-set of a flag.
 use Rattle.words_core.specs.declared.flags.Once.{Once}
 use Rattle.words_core.specs.declared.flags.Once.TheVariants.{First, Already}
-use Rattle.words_core.specs.Won.{WonModel}
+use Rattle.words_core.specs.theorem.Won.{WonModel}
 
 -- P holds of the winner's token
 abbrev pub IfFirst : Once → (WonModel → Type 0) → Type 0
