@@ -10,7 +10,7 @@ use Rattle.point_core.specs.declared.context.TheConstants.{CONTEXTS}
 use Rattle.point_core.specs.declared.refusal.Refusal.TheVariants.{NoEntry, Exists, Overflow, Limit, Cancelled as AlreadyClosed}
 use Rattle.point_core.specs.declared.refusal.LimitKind.TheVariants.{Timelines}
 use Rattle.timeline_core.specs.Timeline.{Timeline, new_timeline, has_timeline, timeline_of, clock_named, value_of, is_closed, raised, shut, is_named, raised_by, closed_timeline}
-use Rattle.timeline_core.specs.Run.{Increment, incremented, AreSums}
+use Rattle.timeline_core.specs.Sums.{Increment, incremented, AreSums}
 use Rattle.timeline_core.proofs.Lookups.{has_timeline-names_of}
 use Rattle.timeline_core.proofs.Places.{timeline_at-clock_named}
 use Rattle.timeline_core.proofs.Raising.{names_of-raised, names_of-shut}

@@ -3,7 +3,7 @@
 ghost use Rattle.std.specs.Prelude.{◌≡◌, ℕ, ◌≤◌, nat_eq, count_by, List, [], ◌∷◌, ◌++◌, Contains};
 ghost use Rattle.command_core.specs.declared.command.Command.{Command};
 ghost use Rattle.command_core.specs.declared.answer.Answer.{Answer};
-ghost use Rattle.timeline_core.specs.Run.{AreSums};
+ghost use Rattle.timeline_core.specs.Sums.{AreSums};
 ghost use Rattle.desk_core.specs.theorem.Answer.{causes, first_of};
 ghost use Rattle.desk_core.specs.theorem.History.{world_of, IsHistory, increments_in, history_of, AreAnswers};
 ghost use Rattle.desk_core.specs.Sound.{IsSound};

@@ -7,7 +7,8 @@ use Rattle.std.proofs.lemmas.List.Elements.{All-nil, All-cons, All-head, All-tai
 use Rattle.point_core.specs.Named.{same_name}
 use Rattle.point_core.proofs.Named.{has_named-same_names, named-All}
 use Rattle.timeline_core.specs.Timeline.{Timeline, timeline_of, new_timeline, is_named, has_timeline, name_at, clock_named, value_of, raised_by, closed_timeline, raised, shut}
-use Rattle.timeline_core.specs.Run.{Increment, increment, incremented, AreSums, Call, Create, Inc, Shut, RaiseTo, Close, Leaves, Step, missing_to, increments_if, raised_if, shut_if, IsRun, last_timelines, increments_of, accepted_increments, all_increments}
+use Rattle.timeline_core.specs.Run.{Call, Create, Inc, Shut, RaiseTo, Close, Leaves, Step, missing_to, increments_if, raised_if, shut_if, IsRun, last_timelines, increments_of, accepted_increments, all_increments}
+use Rattle.timeline_core.specs.Sums.{Increment, increment, incremented, AreSums}
 use Rattle.timeline_core.proofs.Places.{timeline_at-clock_named, has_timeline-name}
 use Rattle.timeline_core.proofs.Raising.{names_of-raised, names_of-shut}
 

@@ -1,3 +1,4 @@
 pub mod Run
 pub mod Stored
+pub mod Sums
 pub mod Timeline

@@ -1,26 +1,9 @@
 -- Calls on timelines, one after another, and the increments among them.
-use Rattle.std.specs.Prelude.{◌≡◌, ℕ, ◌+◌, ◌-◌, ◌^◌, ◌<◌, ◌≤◌, Bool, true, false, if◌then◌else◌, List, [], ◌∷◌, ◌++◌, length, All, Option, None, Some, ⊤}
-use Rattle.std.specs.List.{sum_by}
+use Rattle.std.specs.Prelude.{◌≡◌, ℕ, ◌+◌, ◌-◌, ◌^◌, ◌<◌, ◌≤◌, Bool, true, false, if◌then◌else◌, List, [], ◌∷◌, ◌++◌, length, Option, None, Some, ⊤}
 use Rattle.point_core.specs.declared.context.TheConstants.{CONTEXTS}
-use Rattle.point_core.specs.Named.{same_name}
 use Rattle.point_core.specs.Clocks.{clock_at}
+use Rattle.timeline_core.specs.Sums.{Increment, increment}
 use Rattle.timeline_core.specs.Timeline.{Timeline, new_timeline, has_timeline, name_at, clocks_of, value_of, is_closed, raised, shut}
-
--- an increment of the timeline of that name
-pub record Increment : Type 0 where
-  pub name : List ℕ
-  pub by : ℕ
-
-abbrev pub increment : List ℕ → ℕ → Increment
-increment name by = record { name = name; by = by }
-
--- the sum of the increments of the timeline of that name
-abbrev pub incremented : List Increment → List ℕ → ℕ
-incremented is name = sum_by (λ i. if same_name name i.name then i.by else 0) is
-
--- each value is the sum of the increments of its timeline
-abbrev pub AreSums : List Timeline → List Increment → Type 0
-AreSums ts is = All (λ (t : Timeline). t.value ≡ incremented is t.name) ts
 
 -- a call that may change timelines
 pub data Call : Type 0 where

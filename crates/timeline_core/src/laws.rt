@@ -2,7 +2,8 @@
 //! a function with an empty body, which no caller runs.
 ghost use Rattle.std.specs.Prelude.{◌≡◌, ℕ, List, [], ◌++◌, IsTrue, IsPermutation};
 ghost use Rattle.timeline_core.specs.Timeline.{Timeline, has_timeline, timeline_at, value_of, is_closed, AreTimelines};
-ghost use Rattle.timeline_core.specs.Run.{AreSums, Increment, IsRun, Step, all_increments, incremented, last_timelines};
+ghost use Rattle.timeline_core.specs.Run.{IsRun, Step, all_increments, last_timelines};
+ghost use Rattle.timeline_core.specs.Sums.{AreSums, Increment, incremented};
 
 /// After any calls of `create`, `inc`, `shut`, `raise_to` and `close`, accepted or refused, each value is the sum of the
 /// accepted increments of its timeline; `raise_to` adds the difference to the point. So two runs with the same accepted

@@ -14,7 +14,7 @@ use Rattle.command_core.specs.declared.answer.Info.{Info}
 use Rattle.command_core.specs.declared.answer.Answer.{Answer}
 use Rattle.command_core.specs.declared.answer.Answer.TheVariants as answer
 use Rattle.timeline_core.specs.Timeline.{clocks_of, reach_of}
-use Rattle.timeline_core.specs.Run.{incremented, AreSums}
+use Rattle.timeline_core.specs.Sums.{incremented, AreSums}
 use Rattle.syncfile_core.specs.SyncFile.{File}
 use Rattle.syncfile_core.specs.Files.{file_at as sync_file_at}
 use Rattle.resv_core.specs.declared.resv.TheConstants.{PLACES}

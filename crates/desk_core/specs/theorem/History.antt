@@ -7,7 +7,7 @@ use Rattle.command_core.specs.declared.command.Command.TheVariants as command
 use Rattle.command_core.specs.declared.answer.Answer.{Answer}
 use Rattle.command_core.specs.declared.answer.Answer.TheVariants as answer
 use Rattle.desk_core.specs.theorem.World.{World, empty_world, after, fires_some}
-use Rattle.timeline_core.specs.Run.{Increment, increment}
+use Rattle.timeline_core.specs.Sums.{Increment, increment}
 use Rattle.desk_core.specs.theorem.Answer.{answer_to, is_refused, takes_memory}
 
 abbrev pub world_from : World → List Command → World
