@@ -1,4 +1,5 @@
-// What a check keeps from line to line.
+//! `Checker`: the state of a check between lines: a desk, the counts, and the last answer with its stage. Its invariant
+//! keeps the stage within the answer's text. `reading.rt` gives it each line.
 ghost use Rattle.std.specs.Prelude.{◌≡◌, ◌+◌, ◌<◌, ◌≤◌, ◌⊎◌, ◌∷◌, [], length, option_to_list, IfOk, OnOk, IfErr};
 ghost use Rattle.point_core.specs.declared.refusal.Refusal.TheVariants.{Write as WriteFault, Memory};
 ghost use Rattle.line_core.specs.declared.script.Ending.TheVariants.{Whole};
@@ -21,7 +22,7 @@ use script_core::{answer_line, print};
 use std::alloc::Global;
 use std::io::Write;
 
-/// What a check keeps from line to line: a desk, the counts, and the last line that has an answer.
+/// The state of a check between lines: a desk, the counts, and the last line that has an answer.
 #[derive(Drop)]
 pub(crate) struct Checker<'a> {
     alloc: Global,
@@ -31,7 +32,7 @@ pub(crate) struct Checker<'a> {
     // the number of the last line that has an answer, and its bytes; 0 is before the first
     number: u32,
     bytes: Vec<u8>,
-    // its answer, and how far that came as expected
+    // its answer, and how much of it the expected lines have matched
     text: Vec<u8>,
     stage: Stage,
     ghost within: { place_of stage ≤ length text.items },
@@ -55,8 +56,8 @@ impl<'a> Checker<'a> {
         }
     }
 
-    /// Takes the next line: it is answered if it has an answer, or else what it expects is compared with the last answer. Of
-    /// an over-long line the first 257 bytes are enough.
+    /// Takes the next line: answers a command, and compares an expected line with the last answer. An over-long line may be
+    /// cut to its first 257 bytes.
     pub(crate) fn take<W: Write>(
         &mut self,
         number: u32,
@@ -114,7 +115,7 @@ impl<'a> Checker<'a> {
         Ok(())
     }
 
-    /// A line that has an answer: no more is expected of the one before it.
+    /// Answers a command: no more is expected of the answer before it.
     fn answer<W: Write>(
         &mut self,
         number: u32,
@@ -134,7 +135,7 @@ impl<'a> Checker<'a> {
         Ok(())
     }
 
-    /// Answers a line, of whose answer nothing is expected yet.
+    /// Answers a line. No line of its answer is expected yet.
     fn open(&mut self, number: u32, bytes: &[u8], body: Body) -> Result<(), Refusal>
         requires few { self.old.tally.lines < number }
         ensures ok { OnOk result (IsOpened self.old self.new number body) }
@@ -149,7 +150,7 @@ impl<'a> Checker<'a> {
         Ok(())
     }
 
-    /// A line without an answer, which may expect one of the last answer.
+    /// Takes a note, which may expect a line of the last answer.
     fn note<W: Write>(&mut self, bytes: &[u8], writer: &mut W) -> Result<(), Refusal>
         ensures expects { Expects self.old self.new (option_to_list (expected_text bytes.now)) }
         ensures quiet { OnOk result (IsQuiet self.old (differences_of self.new)
@@ -194,7 +195,7 @@ impl<'a> Checker<'a> {
         }
     }
 
-    /// Reports that this was expected and something else came, unless a difference was reported at that stage.
+    /// Reports the answer's first line that differs from the expected one, unless `stage` says that one was reported.
     fn report<W: Write>(
         &self,
         stage: Stage,
@@ -219,7 +220,7 @@ impl<'a> Checker<'a> {
     }
 }
 
-/// Answers a line, and leaves nothing but the text of its answer in `text`.
+/// Answers a line, and replaces `text` by the text of its answer.
 fn answer_into(desk: &mut Desk, number: u32, body: Body, text: &mut Vec<u8>) -> Result<(), Refusal>
     ensures ok { OnOk result (AnswersInto desk.old desk.new number body text.new.items) }
     ensures refusals { IfErr result (λ refusal. refusal ≡ Memory) }

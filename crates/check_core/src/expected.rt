@@ -1,15 +1,15 @@
-// What the notes of a script expect of its answers.
+//! Parses the notes of a script that expect a line of an answer, `#= TEXT`. The checker and the rewriter call it.
 ghost use Rattle.std.specs.Prelude.{◌≡◌, option_map, position, not};
 ghost use Rattle.line_core.specs.Words.{is_space};
 ghost use Rattle.check_core.specs.Expected.{expected_text, drop_spaces};
 
 use crate::prefix::strip_prefix;
 
-/// How a note begins that expects a line.
+/// A note that begins with this mark expects a line.
 const MARK: &[u8] = b"#=";
 
-/// The text that a line expects: what follows `#=` and one space, or `#=` if no space follows; `None` for a
-/// line whose first word begins otherwise.
+/// The text that a note expects: the bytes after `#=` and one space, or after `#=` if no space follows. `None` if the
+/// line's first word does not begin with `#=`.
 pub(crate) fn expected_text(line: &[u8]) -> Option<&[u8]>
     ensures text { option_map (λ t. t.now) result ≡ expected_text line.now }
 {
@@ -20,7 +20,7 @@ pub(crate) fn expected_text(line: &[u8]) -> Option<&[u8]>
     }
 }
 
-/// What follows the spaces that a line begins with.
+/// The line without its leading spaces.
 fn without_spaces(line: &[u8]) -> &[u8]
     ensures rest { result.now ≡ drop_spaces line.now }
 {

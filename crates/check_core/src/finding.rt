@@ -1,6 +1,6 @@
-// What the expected lines of an answer say of its text.
+//! `Finding`, the result for one answer, and `Difference`, an answer's first line that differs, for the report.
 
-/// What all expected lines of an answer together say of its text.
+/// The result of comparing an answer with all lines that are expected of it.
 #[derive(Clone, Copy)]
 pub(crate) enum Finding {
     /// Nothing was expected, so anything may come.
@@ -18,6 +18,6 @@ pub(crate) struct Difference<'a> {
     pub(crate) command: &'a [u8],
     /// None if more came than was expected.
     pub(crate) expected: Option<&'a [u8]>,
-    /// What came from there on.
+    /// The answer's text from that line on.
     pub(crate) came: &'a [u8],
 }

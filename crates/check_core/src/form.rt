@@ -1,6 +1,6 @@
-// How a check reports what it finds.
+//! `CheckForm`, the output format of a check, and `Place`, the script that is checked.
 
-/// How a check reports what it finds.
+/// The output format of a check.
 #[derive(Clone, Copy)]
 pub enum CheckForm {
     /// A line for each answer that differs and for each script that does not pass, and the counts. File names and line numbers

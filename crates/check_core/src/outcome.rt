@@ -1,4 +1,4 @@
-// What came of the checks of scripts.
+//! `CheckOutcome`, the result for one script, and `Verdict`, the result for all scripts, which sets the exit status.
 ghost use Rattle.std.specs.Prelude.{◌≡◌};
 ghost use Rattle.std.specs.List.{list_any};
 ghost use Rattle.check_core.specs.Outcome.{is_failed, is_wrong, verdict_of};
@@ -6,7 +6,7 @@ ghost use Rattle.check_core.specs.Outcome.{is_failed, is_wrong, verdict_of};
 use crate::tally::Tally;
 use point_core::Refusal;
 
-/// What came of the check of a script.
+/// The result of checking a script.
 #[derive(Clone, Copy)]
 pub enum CheckOutcome {
     /// It was checked to its end.
@@ -15,7 +15,7 @@ pub enum CheckOutcome {
     Failed(Refusal),
 }
 
-/// What came of the checks of several scripts.
+/// The result of checking several scripts.
 #[derive(Clone, Copy)]
 pub enum Verdict {
     /// Each was checked to its end, and is as it should be.
@@ -62,7 +62,7 @@ impl CheckOutcome {
     }
 }
 
-/// What came of all of them. No script at all counts as one that expects nothing.
+/// The verdict over all outcomes. No script at all counts as one that expects nothing.
 pub(crate) fn verdict_of(outcomes: &[CheckOutcome], allows_empty: bool) -> Verdict
     ensures { result ≡ verdict_of outcomes.now allows_empty }
 {

@@ -1,4 +1,5 @@
-// Texts that are made of parts.
+//! `Part`: a piece of a report. A report is written from a list of parts, by one write, so that lines of checks that run
+//! side by side don't mix.
 ghost use Rattle.std.specs.Prelude.{◌≡◌, ◌⊎◌, IfErr};
 ghost use Rattle.point_core.specs.declared.refusal.Refusal.TheVariants.{Write as WriteFault, Memory};
 
@@ -10,7 +11,7 @@ use std::ascii::escape_default;
 use std::io::Write;
 use std::slice;
 
-/// A part of a text.
+/// A part of a report.
 #[derive(Clone, Copy)]
 pub(crate) enum Part<'a> {
     Text(&'a str),

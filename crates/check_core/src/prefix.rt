@@ -1,8 +1,8 @@
-// What follows a prefix.
+//! Strips a prefix or a line, with the contract that `slice::strip_prefix` lacks: both outcomes, for every continuation.
 ghost use Rattle.std.specs.Prelude.{◌≡◌, ◌≢◌, ◌++◌, List, ℕ, option_map, MatchOption};
 ghost use Rattle.check_core.specs.Expected.{strip_prefix, ended};
 
-/// What follows that prefix, if the bytes begin with it.
+/// The bytes after `prefix`, if they begin with it.
 pub(crate) fn strip_prefix<'a>(bytes: &'a [u8], prefix: &[u8]) -> Option<&'a [u8]>
     ensures rest { option_map (λ r. r.now) result ≡ strip_prefix bytes.now prefix.now }
     ensures cases { MatchOption result
@@ -12,7 +12,7 @@ pub(crate) fn strip_prefix<'a>(bytes: &'a [u8], prefix: &[u8]) -> Option<&'a [u8
     bytes.strip_prefix(prefix)
 }
 
-/// What follows a line and its line feed, if the text begins with it.
+/// The text after `line` and its line feed, if it begins with these.
 pub(crate) fn strip_line<'a>(text: &'a [u8], line: &[u8]) -> Option<&'a [u8]>
     ensures cases { MatchOption result
         ((more : List ℕ) → text.now ≢ ended line.now ++ more)

@@ -1,4 +1,5 @@
-// A script from a reader, and how its answers differ from what its notes expect to a writer.
+//! Checks one script from a reader: reads its lines, gives each to the `Checker`, and reports the counts. The loop upholds
+//! that the checker has seen the lines that were read, in order (`HasCheckedBytes`).
 ghost use Rattle.std.specs.Prelude.{◌≡◌, ◌+◌, ◌⊎◌, List, ℕ, Err, IfOk, IfErr};
 ghost use Rattle.std.specs.Io.KnownBytes.{Keeps};
 ghost use Rattle.point_core.specs.declared.refusal.Refusal.TheVariants.{Limit, Read as ReadFault, Write as WriteFault, Memory};
@@ -19,11 +20,11 @@ use std::io::{Read, Write};
 /// Runs a script as `engine` does, and compares the answer of each line with the lines that the notes after it expect; a
 /// line without such notes may answer anything. Writes each answer that differs in the form of its place, once that is known.
 ///
-/// A line is answered when its end is read. Of the lines it keeps the last that has an answer, with its answer, and what the
-/// desk holds, so its memory does not grow with the script.
+/// A line is answered when its end is read. Only the desk and the last line that has an answer are kept, so memory does not
+/// grow with the script.
 ///
 /// Fails with Read if a read failed, with Limit if the script has more than `SCRIPT_BYTES` bytes, with Write if a write
-/// failed, and with Memory if a growth was refused. Then the differences that were known so far are written.
+/// failed, and with Memory if a growth was refused. Then the differences found so far are written.
 pub fn check<R: Read, W: Write>(
     alloc: Global,
     place: &Place<'_>,
@@ -41,7 +42,7 @@ pub fn check<R: Read, W: Write>(
     ensures quiet { IfOk result (λ tally. tally.differing ≡ 0
         → Keeps (W.contents writer.old) (W.contents writer.new)) }
 
-    // Whatever the result, it reads at most one byte more than a script may have, and after a failed read not that one.
+    // Whatever the result, at most one byte past the limit of a script is read, and none past it if a read failed.
     ensures within { ConsumesAtMost (SCRIPT_BYTES + 1) (R.remaining reader.old) (R.remaining reader.new) }
     ensures read { result ≡ Err ReadFault
         → ConsumesAtMost SCRIPT_BYTES (R.remaining reader.old) (R.remaining reader.new) }

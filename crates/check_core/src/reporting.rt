@@ -1,4 +1,4 @@
-// What a check reports of the answers of a script.
+//! Reports an answer that differs: as a line `FILE:LINE: ..`, or as an item of a TAP test. `Checker` calls it.
 ghost use Rattle.std.specs.Prelude.{◌≡◌, ◌⊎◌, IfErr};
 ghost use Rattle.point_core.specs.declared.refusal.Refusal.TheVariants.{Write as WriteFault, Memory};
 
@@ -60,7 +60,7 @@ fn report_line<'a, W: Write>(
     write_parts(alloc, &parts, writer)
 }
 
-/// What is printed before `FILE:LINE` and after it.
+/// The texts before and after `FILE:LINE`.
 fn around(bold: bool) -> [&'static str; 2] {
     if bold {
         ["\x1b[1m", ":\x1b[0m "]
@@ -98,7 +98,7 @@ fn quoted_or<'a>(line: Option<&'a [u8]>, other: &'static str) -> Part<'a> {
     }
 }
 
-/// The first line of what came.
+/// The first line of the text.
 fn first_of(came: &[u8]) -> Option<&[u8]> {
     match first_line(came) {
         Some((line, _)) => Some(line),

@@ -1,4 +1,5 @@
-// A script whose notes come to expect what is answered.
+//! `Rewriter`: rewrites a script line by line so that its notes expect the answers. `update.rt` checks the result, so
+//! nothing is promised here.
 use crate::expected::expected_text;
 use crate::script_text::ScriptText;
 use command_core::Answer;
@@ -8,10 +9,10 @@ use point_core::Refusal;
 use script_core::{answer_line, print};
 use std::alloc::{AllocError, Global};
 
-/// How a new note of an expected line begins.
+/// A new note of an expected line begins with this.
 const FRONT: &[u8] = b"#= ";
 
-/// What a rewriting keeps from line to line: a desk, the last answer, and the notes after what is expected of it.
+/// The state of a rewriting between lines: a desk, the last answer, and the notes after its expected lines.
 #[derive(Drop)]
 pub(crate) struct Rewriter {
     desk: Desk,
@@ -37,7 +38,7 @@ impl Rewriter {
         }
     }
 
-    /// Takes the next line, and writes what is known by then.
+    /// Takes the next line, and writes the lines that no later line can change.
     ///
     /// Fails with `Memory` if memory was refused, also to a command.
     pub(crate) fn take(&mut self, line: &[u8], text: &mut ScriptText) -> Result<(), Refusal> {
@@ -77,7 +78,7 @@ impl Rewriter {
         }
     }
 
-    /// Writes the next line of the last answer, with that before it, if there is one.
+    /// Writes `start` and the next line of the last answer, if it has one more.
     fn expect(&mut self, start: &[u8], text: &mut ScriptText) -> Result<(), AllocError> {
         let Some(line) = next_line(&self.answer, self.expected) else {
             return Ok(());

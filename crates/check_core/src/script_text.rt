@@ -1,7 +1,7 @@
-// The text of a script that is being written.
+//! `ScriptText`: the rewritten script's bytes, with the number of their lines. `Rewriter` fills it.
 use std::alloc::{AllocError, Global};
 
-/// The lines of a script so far, and how many they are.
+/// The lines of a script so far, and their number.
 #[derive(Drop)]
 pub(crate) struct ScriptText {
     pub(crate) bytes: Vec<u8>,
@@ -16,7 +16,7 @@ impl ScriptText {
         }
     }
 
-    /// Adds a line of these two parts.
+    /// Adds a line: `start` and `line` joined.
     pub(crate) fn push(&mut self, start: &[u8], line: &[u8]) -> Result<(), AllocError> {
         self.bytes.extend_from_slice(start)?;
         self.bytes.extend_from_slice(line)?;

@@ -1,4 +1,4 @@
-// Scripts of files and of standard input, checked one after another.
+//! Checks files and standard input one after another, and reports each and the counts. `fencectl check` calls it.
 ghost use Rattle.std.specs.Prelude.{◌≡◌, ◌⊎◌, ◌++◌, ◌∷◌, [], Ok, Some, IfOk, OnOk, IfErr, length, string_bytes};
 ghost use Rattle.point_core.specs.declared.refusal.Refusal.TheVariants.{Write as WriteFault, Memory};
 ghost use Rattle.source_core.specs.Input.{file_named};
@@ -17,7 +17,7 @@ use std::alloc::{AllocError, Global};
 use std::io::{Read, Write};
 use std::rt::Files;
 
-/// How scripts are checked.
+/// The options of a check.
 #[derive(Clone, Copy)]
 pub struct Plan {
     pub form: CheckForm,
@@ -25,8 +25,8 @@ pub struct Plan {
     pub allows_empty: bool,
 }
 
-/// Checks the scripts of these names, one after another; `-` stands for standard input. What is found is written in the form
-/// of the plan: tests to `output`, all else to `errors`. Why a script can't be opened or read is reported on standard error.
+/// Checks the scripts of these names, one after another; `-` is standard input. Results are written in the form of the plan:
+/// tests to `output`, all else to `errors`. The cause of a failed open or read is reported on standard error.
 ///
 /// Fails with `Write` if a write failed, and with `Memory`.
 pub fn check_scripts<R: Files + Eprint + AllocGlobal, S: Read + Copy + Drop, O: Write, W: Write>(
@@ -74,7 +74,7 @@ fn check_all<R: Files + Eprint + AllocGlobal, S: Read + Copy + Drop, O: Write, W
     Ok(verdict_of(outcomes.as_slice(), plan.allows_empty))
 }
 
-/// Checks each script, and appends what comes of it.
+/// Checks each script, and appends its outcome.
 fn check_each<R: Files + Eprint + AllocGlobal, S: Read + Copy + Drop, O: Write, W: Write>(
     rt: &R,
     plan: &Plan,
@@ -112,7 +112,7 @@ fn push(outcomes: &mut Vec<CheckOutcome>, outcome: CheckOutcome) -> Result<(), A
     Ok(())
 }
 
-/// Checks a script, the next after that many others, and reports what is found.
+/// Checks a script, which `before` others precede, and reports the result.
 fn check_script<R: Files + Eprint + AllocGlobal, S: Read + Drop, O: Write, W: Write>(
     rt: &R,
     plan: &Plan,
@@ -190,7 +190,7 @@ fn write_test<O: Write>(
     }
 }
 
-/// What comes of a script. Its differences go to the sink.
+/// The outcome of a script. Its differences go to the sink.
 ///
 /// Fails with `Write` and with `Memory`.
 fn outcome_of<R: Files + Eprint + AllocGlobal, S: Read + Drop, W: Write>(
@@ -209,7 +209,7 @@ fn outcome_of<R: Files + Eprint + AllocGlobal, S: Read + Drop, W: Write>(
     }
 }
 
-/// What comes of the script of a reader.
+/// The outcome of the script of a reader.
 ///
 /// Fails with `Write` and with `Memory`.
 fn outcome_of_reader<R: Read, W: Write>(

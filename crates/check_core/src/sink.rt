@@ -1,8 +1,8 @@
-// Where differences go.
+//! `Sink`: the writer of differences, which either passes them on or keeps them until the test of their script is written.
 use std::io;
 use std::io::Write;
 
-/// Where differences go: to a writer at once, or into memory until a test is reported.
+/// A writer of differences: it passes them on at once, or keeps them in memory until a test is reported.
 #[derive(Drop)]
 pub(crate) enum Sink<'w, W> {
     Through(&'w mut W),

@@ -1,4 +1,4 @@
-// How far an answer came as expected.
+//! `Stage`: how much of an answer the expected lines have matched so far. `IsAt` ties a stage to the lines.
 ghost use Rattle.std.specs.Prelude.{◌≡◌, ◌≤◌, ◌++◌, ◌∷◌, [], List, ℕ, length, option_map};
 ghost use Rattle.check_core.specs.Finding.{is_asked_finding, is_difference};
 ghost use Rattle.check_core.specs.Expected.{is_asked, differs};
@@ -7,14 +7,14 @@ ghost use Rattle.check_core.specs.Tally.{one_if};
 use crate::finding::Finding;
 use crate::prefix::strip_line;
 
-/// How far an answer came as expected, by the lines that are expected of it so far.
+/// How much of an answer the lines that are expected of it so far have matched.
 #[derive(Clone, Copy)]
 pub(crate) enum Stage {
-    /// None is expected.
+    /// No line is expected.
     Unasked,
-    /// They came, and are the first of its text, up to this place.
+    /// The answer begins with them, up to this place.
     Came(usize),
-    /// It differs, whatever else is expected.
+    /// The answer differs, whatever else is expected.
     Differs,
 }
 
@@ -50,7 +50,7 @@ impl Stage {
         }
     }
 
-    /// What is found once no more is expected.
+    /// The result once no more is expected.
     pub(crate) fn finding(self, text: &[u8]) -> Finding
         ensures asked { (expected : List (List ℕ)) → IsAt self expected text.now
             → is_asked_finding result ≡ is_asked expected }

@@ -1,4 +1,4 @@
-// What a check reports at its end.
+//! Reports the scripts that do not pass, and the counts, at the end of a check.
 ghost use Rattle.std.specs.Prelude.{◌≡◌, ◌⊎◌, ◌<◌, ◌^◌, OnOk, IfErr};
 ghost use Rattle.std.specs.Io.KnownBytes.{Appends, Keeps};
 ghost use Rattle.point_core.specs.declared.refusal.Refusal.TheVariants.{Write as WriteFault, Memory};
@@ -15,7 +15,7 @@ use report_core::write_whole;
 use std::alloc::Global;
 use std::io::Write;
 
-/// Writes what the form of the plan has at the end, and flushes: a line for each script that does not pass, the counts, or
+/// Writes the end of a report in the form of the plan, and flushes: a line for each script that does not pass, the counts, or
 /// nothing.
 pub(crate) fn report_summary<W: Write>(
     alloc: Global,
@@ -79,7 +79,7 @@ fn report_script<W: Write>(
     write_parts(alloc, &parts, writer)
 }
 
-/// What is wrong with a script that does not pass.
+/// The reason why a script does not pass.
 pub(crate) fn parts_of_outcome(outcome: CheckOutcome) -> [Part<'static>; 5] {
     let none = Part::Text("");
     match outcome {

@@ -1,10 +1,10 @@
-// How many answers of a script were as expected.
+//! `Tally`: how many answers a script has, how many of them had expected lines, and how many differed.
 ghost use Rattle.std.specs.Prelude.{◌≡◌, ◌+◌, ◌^◌, ◌<◌};
 ghost use Rattle.check_core.specs.Finding.{is_asked_finding, is_difference};
 
 use crate::finding::Finding;
 
-/// How many answers of a script were as its notes expect.
+/// The counts of a script's answers.
 #[derive(Clone, Copy, Debug)]
 pub struct Tally {
     /// The lines that have an answer.

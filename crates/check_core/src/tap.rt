@@ -1,4 +1,4 @@
-// The Test Anything Protocol: a test for each script.
+//! Writes the Test Anything Protocol: a plan, and a test for each script. Its version is 13 or 14.
 ghost use Rattle.std.specs.Prelude.{◌≡◌, ◌⊎◌, IfErr};
 ghost use Rattle.point_core.specs.declared.refusal.Refusal.TheVariants.{Write as WriteFault, Memory};
 

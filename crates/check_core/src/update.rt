@@ -1,4 +1,5 @@
-// Scripts whose notes are rewritten to expect the answers that come.
+//! Rewrites a script so that it expects its answers, and checks the result before it is returned: so a returned script
+//! passes, whatever `Rewriter` does.
 ghost use Rattle.std.specs.Prelude.{◌≡◌, IfOk};
 ghost use Rattle.check_core.specs.Update.{Passes};
 
@@ -11,9 +12,9 @@ use line_core::{SCRIPT_BYTES, first_line};
 use point_core::{LimitKind, Refusal};
 use std::alloc::{AllocError, Global};
 
-/// The script whose notes expect the answers that come. All other lines stay as they are. A command without an expectation gets
+/// Rewrites the expected lines of a script to its answers. All other lines are unchanged. A command without an expectation gets
 /// none, unless the script expects nothing at all: then each answer is expected. Line numbers in answers are the new script's.
-/// The new script is checked before it is given.
+/// The new script is checked before it is returned.
 ///
 /// Fails with `Limit` if the script or the new one has more than `SCRIPT_BYTES` bytes, with `Memory` if memory was refused,
 /// also to a command, and with `Torn` if an answer of the new script differs, which none does.

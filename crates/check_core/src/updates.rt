@@ -1,4 +1,4 @@
-// Files whose scripts are updated.
+//! Updates files: reads each, rewrites its script, and replaces the file. `fencectl check --update` calls it.
 ghost use Rattle.std.specs.Prelude.{◌≡◌, ◌⊎◌, ◌+◌, ◌<◌, ◌≤◌, ◌^◌, ◌++◌, [], ◌∷◌, IfOk, OnOk, IfErr, All, length, string_bytes};
 ghost use Rattle.std.specs.Io.KnownBytes.{Appends};
 ghost use Rattle.std.specs.List.{list_any};
@@ -18,10 +18,10 @@ use std::alloc::{AllocError, Global};
 use std::io::Write;
 use std::rt::Files;
 
-/// What an update makes of a file.
+/// The result of updating a file.
 #[derive(Clone, Copy)]
 pub enum Update {
-    /// It is as it was.
+    /// The file is unchanged.
     Same,
     Written,
     Failed(Refusal),
@@ -48,7 +48,7 @@ pub fn update_scripts<R: Files + Eprint + AllocGlobal, W: Write>(
     Ok(verdict_of_updates(updates))
 }
 
-/// Updates each file, reports it, and appends what the update made of it.
+/// Updates each file, reports it, and appends the result.
 fn update_each<R: Files + Eprint + AllocGlobal, W: Write>(
     rt: &R,
     names: &[String],
@@ -154,7 +154,7 @@ fn some_failed(updates: &[Update]) -> bool
 }
 
 impl Update {
-    /// What it adds to the count of files that were written.
+    /// 1 if the file was written, else 0.
     fn one_if_written(self) -> u64
         ensures one { result ≡ one_if_written self }
         ensures few { result ≤ 1 }
@@ -175,7 +175,7 @@ impl Update {
     }
 }
 
-/// Writes the line that says what was made of a file, by one write. Of one that is as it was there is none.
+/// Writes the line that reports the update of a file, by one write. An unchanged file has no line.
 fn report_update<W: Write>(
     alloc: Global,
     name: &str,

@@ -1,11 +1,11 @@
-// What the program is to do.
+//! `Action`: what the command line asks for. `usage.rt` makes it, and `start.rt` performs it.
 ghost use Rattle.std.specs.Prelude.{◌≤◌};
 ghost use Rattle.clients_core.specs.declared.plans.TheConstants.{CLIENTS};
 ghost use Rattle.clients_core.specs.declared.rounds.TheConstants.{ROUNDS};
 
 use source_core::Input;
 
-/// What the program is to do.
+/// A subcommand with its options.
 #[derive(Drop)]
 pub(crate) enum Action<'a> {
     /// Run a script, and print its answers.
@@ -38,7 +38,7 @@ pub(crate) struct Check<'a> {
     pub allows_empty: bool,
 }
 
-/// What is drawn of a script, and where. The texts are as the command line has them.
+/// The options of `draw`, as the command line has them.
 #[derive(Clone, Copy)]
 pub(crate) struct Draw<'a> {
     pub script: Input<'a>,
@@ -52,7 +52,7 @@ pub(crate) struct Draw<'a> {
     pub output: Option<&'a str>,
 }
 
-/// What a check reports.
+/// The output format of `check`.
 #[derive(Clone, Copy)]
 pub(crate) enum Report {
     /// Each answer that differs, each script that does not pass, and the counts.
@@ -63,26 +63,26 @@ pub(crate) enum Report {
     Tap,
 }
 
-/// Where a trace is read from, and what is written of it.
+/// The options of `trace`.
 #[derive(Clone, Copy)]
 pub(crate) struct Trace<'a> {
     /// A file, or standard input.
     pub text: Input<'a>,
     /// Whether the report is a JSON document.
     pub is_json: bool,
-    /// Whether what happened is written as a script.
+    /// Whether the events are written as a script.
     pub is_script: bool,
-    /// Whether it is drawn.
+    /// Whether the events are drawn.
     pub is_drawing: bool,
-    /// Whether it is written as trace events, which Perfetto opens.
+    /// Whether the events are written as Perfetto's trace events.
     pub is_perfetto: bool,
-    /// Where the window begins, in seconds.
+    /// The start of the window, in seconds.
     pub from: Option<&'a str>,
-    /// Where it ends.
+    /// The end of the window.
     pub to: Option<&'a str>,
 }
 
-/// How many clients, how many rounds each of them makes, and what they share.
+/// The number of clients, the rounds that each makes, and the table that they share.
 #[derive(Clone, Copy)]
 pub struct Clients {
     pub count: usize,

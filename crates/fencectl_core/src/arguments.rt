@@ -1,4 +1,4 @@
-// The command line.
+//! The command line as clap reads it, with the help text. `subcommands.rt` has its table.
 ghost use Rattle.std.specs.Prelude.{◌≡◌, IfErr, IfOk, false, map, pos, string_bytes, true};
 ghost use Rattle.clap.specs.declared.builder.value_parser.ValueParser.TheVariants as parser;
 ghost use Rattle.clap.specs.Words.{FailsBy, fault_of, kind_of, rule_of, subcommand_of, subcommand_rows_of, takes};
@@ -96,9 +96,7 @@ Examples:
   fencectl clients 2 3
 ";
 
-/// What the words of the command line match. The first of them is the program's own.
-///
-/// The error says by its kind that memory was refused.
+/// Parses the words of the command line; the first is the program's name. A failed allocation is an error of its own kind.
 pub(crate) fn matches_of<'a>(alloc: Global, words: &'a [String]) -> Result<ArgMatches<'a>, Error>
     ensures matches { IfOk result (λ matches. subcommand_rows_of matches
         ≡ subcommand_of fencectl (map string_bytes words.entry.now)) }
@@ -133,7 +131,7 @@ fn program<'a>(alloc: Global) -> Result<Command<'a>, AllocError>
     command.bin_name(PROGRAM)
 }
 
-/// What follows the options in the help.
+/// The help text after the options.
 fn help() -> &'static str {
     HELP
 }

@@ -1,4 +1,4 @@
-// What the matches of a command line ask for.
+//! Converts clap's matches to an `Action`. `specs/Asked.antt` defines the action of each command line.
 ghost use Rattle.std.specs.Prelude.{◌≡◌, ◌≤◌, IfErr, IfOk, Some, codes, map, option_map, true};
 ghost use Rattle.std.specs.Str.{bytes_eq};
 ghost use Rattle.point_core.specs.declared.refusal.Refusal.TheVariants.{Memory};
@@ -38,7 +38,7 @@ use point_core::{LimitKind, Refusal};
 use source_core::Input;
 use std::alloc::Global;
 
-/// What the matches of a command line ask for.
+/// The action that clap's matches ask for.
 ///
 /// Fails with `Limit` of the clients or of the plan if one of their numbers is not in its range, which the command line
 /// refuses earlier.
@@ -89,7 +89,7 @@ fn check_action<'a>(alloc: Global, matches: &ArgMatches<'a>) -> Result<Action<'a
     }
 }
 
-/// What a word asks for of a script.
+/// The action of `explain` or `run`.
 fn action_on<'a>(word: &str, matches: &ArgMatches<'a>) -> Action<'a>
     ensures asked { asked_of result ≡ Some (asked_on word.now (rows_of (found_of matches.now))) }
 {

@@ -1,4 +1,4 @@
-// A run of clients, and what it prints.
+//! `fencectl clients`: runs clients on threads, and writes the table that they settle.
 ghost use Rattle.std.specs.Prelude.{◌≡◌, ◌⊎◌, ◌≤◌, IfErr, IfOk, OnErr, OnOk};
 ghost use Rattle.std.specs.Io.KnownBytes.{Appends, Keeps};
 ghost use Rattle.point_core.specs.declared.refusal.Refusal.TheVariants as refusal;

@@ -1,4 +1,4 @@
-// Whether output is coloured.
+//! `ColorChoice`: the option `--color`, and whether output is coloured.
 ghost use Rattle.std.specs.Prelude.{◌≡◌};
 ghost use Rattle.fencectl_core.specs.Color.{choice_named, is_on};
 
@@ -80,7 +80,7 @@ fn report_no_choice(rt: &impl Eprint) -> Result<(), Refusal> {
     ).map_err(|_| Refusal::Write)
 }
 
-/// Where the first such option stands.
+/// The index of the first `--color` option.
 fn place_of_color(words: &[String]) -> Option<usize> {
     for (place, word) in words.iter().enumerate() {
         let word = word.as_str();

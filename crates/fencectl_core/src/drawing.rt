@@ -1,4 +1,4 @@
-// Pictures and graphs of a script's run.
+//! `fencectl draw` and `trace --draw`: write a picture or a graph of a script's run.
 ghost use Rattle.std.specs.Prelude.{◌≡◌, IfOk, if◌then◌else◌};
 
 use crate::action::Draw;

@@ -1,4 +1,4 @@
-// What a fault that ends a run prints.
+//! Reports the fault that ends a run, as `fencectl: NUMBER NAME`.
 ghost use Rattle.std.specs.Prelude.{◌≡◌, OnOk, OnErr};
 ghost use Rattle.std.specs.Io.KnownBytes.{Appends};
 ghost use Rattle.report_core.specs.Bytes.{AppendsFront};

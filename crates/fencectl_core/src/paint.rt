@@ -1,4 +1,4 @@
-// Coloured help and mistakes, as clap's own.
+//! Colours help and errors as clap does, whose own colours need a terminal library.
 use std::alloc::{AllocError, Global};
 
 const HEADING: &str = "\x1b[1m\x1b[4m";

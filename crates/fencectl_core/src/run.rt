@@ -1,4 +1,4 @@
-// The run of a script.
+//! `fencectl run`: runs a script, with its exit status. `script_runner` calls it too.
 ghost use Rattle.std.specs.Prelude.{◌≡◌, Result};
 ghost use Rattle.point_core.specs.declared.refusal.Refusal.{Refusal};
 ghost use Rattle.script_core.specs.declared.totals.Totals.{Totals};

@@ -1,4 +1,4 @@
-// JSON and explanations of a script, each with its exit status.
+//! `fencectl run --json` and `fencectl explain`: run a script, with its exit status.
 ghost use Rattle.std.specs.Prelude.{◌≡◌, Result};
 ghost use Rattle.point_core.specs.declared.refusal.Refusal.{Refusal};
 ghost use Rattle.script_core.specs.declared.totals.Totals.{Totals};

@@ -1,4 +1,4 @@
-// The command line of the program, and what it asks for.
+//! Reads the command line, and performs the action that it asks for. `perform` is the whole program.
 use crate::action::{Action, Check, Clients, Report};
 use crate::clients::report_clients;
 use crate::color::{ColorChoice, Colors, take_color};
@@ -21,7 +21,7 @@ use std::io::{IsTerminal, Write};
 use std::sync::Wait;
 use std::thread::Threads;
 
-/// What a session at a terminal begins with.
+/// The first line of a session at a terminal.
 const GREETING: &str =
     "fencectl: type one command a line; Ctrl-D leaves, and 'fencectl --help' lists the commands";
 

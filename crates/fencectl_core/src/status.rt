@@ -1,4 +1,4 @@
-// Exit statuses.
+//! Exit statuses: 0 is success, 1 a refused line or a difference, 2 a fault.
 ghost use Rattle.std.specs.Prelude.{◌≡◌, ◌==◌, if◌then◌else◌};
 ghost use Rattle.fencectl_core.specs.Ends.{ReportsFault, run_status};
 ghost use Rattle.fencectl_core.specs.Verdicts.{check_status};

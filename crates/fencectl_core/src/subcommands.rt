@@ -1,4 +1,5 @@
-// The table of subcommands: the word of each, and its arguments.
+//! The table of subcommands: the word of each, its help and its arguments. A new subcommand is a row here, an `Action`,
+//! and its case in `asked.rt`.
 ghost use Rattle.std.specs.Prelude.{◌≡◌, map};
 ghost use Rattle.fencectl_core.specs.Words.{app_by, apps};
 
@@ -18,7 +19,7 @@ pub(crate) struct Argument {
     pub help: &'static str,
 }
 
-/// What is given for an argument.
+/// The form of an argument's value.
 pub(crate) enum ArgumentForm {
     /// A file, or else standard input.
     File,
@@ -56,10 +57,10 @@ pub(crate) const EXPLAIN: &str = "explain";
 
 pub(crate) const TRACE: &str = "trace";
 
-/// Asks for what happened in a trace, as a script.
+/// Asks for the events of a trace as a script.
 pub(crate) const SCRIPT: &str = "script";
 
-/// Asks for what happened in a trace, as trace events.
+/// Asks for the events of a trace as Perfetto's trace events.
 pub(crate) const PERFETTO: &str = "perfetto";
 
 /// The window of a trace.

@@ -1,4 +1,4 @@
-// Reports of traces, and what happened in them as scripts, pictures and trace events, each with its exit status.
+//! `fencectl trace`: reports what hangs in a trace, or writes its events as a script, a picture or trace events.
 ghost use Rattle.std.specs.Prelude.{◌≡◌, IfOk};
 ghost use Rattle.fencectl_core.specs.Verdicts.{outcome_status};
 
@@ -12,7 +12,7 @@ use trace_core::Span;
 use trace_report::{Form, Outcome, Written, events_of_trace, report_trace};
 use trace_script::{Scripted, script_of_trace};
 
-/// What is reported when a text has no event of a fence.
+/// The report on a text without an event of a fence.
 const NO_EVENTS: &str = "\
 fencectl: there is no dma_fence event in the text. To record them, as root:
   echo 1 > /sys/kernel/tracing/events/dma_fence/enable
@@ -20,7 +20,7 @@ fencectl: there is no dma_fence event in the text. To record them, as root:
   echo 0 > /sys/kernel/tracing/events/dma_fence/enable
 ";
 
-/// What is reported when it has none up to the end of a window.
+/// The report on a text without one up to the end of the window.
 const NO_EVENTS_YET: &str = "fencectl: there is no dma_fence event in the text up to --to";
 
 const TOO_LONG: &str = "\

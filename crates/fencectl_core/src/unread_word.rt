@@ -1,4 +1,4 @@
-// What is reported of words that can't be read.
+//! Reports a command line that is not UTF-8. `script_runner` calls it too.
 ghost use Rattle.std.specs.Prelude.{◌≡◌, ◌⊎◌, IfErr, IfOk};
 ghost use Rattle.point_core.specs.declared.refusal.Refusal.TheVariants.{Write as WriteFault, Memory};
 

@@ -1,4 +1,4 @@
-// The words of the command line: what they ask for, and what is printed if they ask for nothing.
+//! Parses the words of the command line into an `Action`; prints help, the version or a usage error if there is none.
 ghost use Rattle.std.specs.Prelude.{◌≡◌, ◌⊎◌, Err, IfErr, IfOk, IfSome, Some, [], ◌∷◌, map, string_bytes, true};
 ghost use Rattle.clap.specs.Words.{fault_of, kind_of, subcommand_of, takes};
 ghost use Rattle.point_core.specs.declared.refusal.Refusal.TheVariants.{Memory, Write as WriteFault};
@@ -21,8 +21,8 @@ use std::alloc::Global;
 use std::fs;
 use std::rt::Files;
 
-/// What the words of the command line ask for; the first of them is the program's own. A lone word that is no subcommand asks to
-/// run the script of that file, if there is one. Help and the version are printed here, and wrong usage is reported.
+/// The action that the words of the command line ask for; the first is the program's name. A lone word that is no subcommand
+/// runs the script of that file, if there is one. Help and the version are printed here, and wrong usage is reported.
 ///
 /// Fails with `Write` if that could not be printed, with `Memory` if memory was refused, and with `Limit` as `clients_of`.
 pub(crate) fn action_of<'a>(
@@ -60,7 +60,7 @@ fn is_run_alone(words: &[String]) -> bool
     }
 }
 
-/// What words ask for that the command line does not take.
+/// The action of words that the command line does not take.
 fn action_instead<'a>(
     rt: &(impl Print + Eprint + Files),
     alloc: Global,

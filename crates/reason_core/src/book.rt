@@ -1,4 +1,4 @@
-// The lines on which names and cookies were made.
+//! `Book`: the line that made each name and cookie, for explanations. Whoever runs a script enters each accepted line.
 ghost use Rattle.std.specs.Prelude.{◌≡◌, IfErr};
 ghost use Rattle.point_core.specs.declared.refusal.Refusal.TheVariants.{Memory};
 
@@ -11,11 +11,11 @@ use std::collections::HashMap;
 /// The cookies that the map may hold beyond twice those of pending watches, before stale ones are purged.
 const SPARE_COOKIES: usize = 64;
 
-/// The lines that made the names and cookies that stand for something, and those that closed timelines.
+/// The lines that made the names and cookies in use, and those that closed timelines.
 ///
-/// A cookie stays for a while after its watch has fired or was removed, and gets the line of its new watch when it is
-/// registered again. Once the book has twice as many cookies as there were pending watches when it last looked, and
-/// `SPARE_COOKIES` more, it takes out those without a watch.
+/// A cookie is kept for a while after its watch has fired or was removed, and gets the line of its new watch when it is
+/// registered again. Cookies without a watch are purged once the book holds `SPARE_COOKIES` more than twice the watches that
+/// were pending at the last purge.
 #[derive(Drop)]
 pub struct Book {
     timelines: HashMap<Name, u32>,
@@ -23,12 +23,12 @@ pub struct Book {
     files: HashMap<Name, u32>,
     buffers: HashMap<Name, u32>,
     cookies: HashMap<u64, u32>,
-    // At this many cookies, the book first takes out those without a watch.
+    // At this many cookies, those without a watch are purged first.
     room: usize,
 }
 
 impl Book {
-    /// A book without lines, which takes no memory yet.
+    /// A book without lines. Does not allocate.
     pub fn new(alloc: Global) -> Book {
         Book {
             timelines: HashMap::new(alloc),
@@ -40,7 +40,8 @@ impl Book {
         }
     }
 
-    /// Enters what an accepted command made, and takes out what it unmade. The desk is the one that has just taken the command.
+    /// Enters the name or cookie that an accepted command made, and takes out the one that it closed. `desk` has just run the
+    /// command.
     pub fn enter(&mut self, line: u32, command: &Command, desk: &Desk) -> Result<(), Refusal>
         ensures refusals { IfErr result (λ refusal. refusal ≡ Memory) }
     {

@@ -1,4 +1,5 @@
-// The lines of a script, answered and explained one after another.
+//! `Explainer`: the line handler that answers a line and, if it was refused, writes why. The note follows its answer, so
+//! nothing is noted while output is pending.
 ghost use Rattle.std.specs.Prelude.{◌≡◌, ◌+◌, ◌<◌, ◌≤◌, ◌⊎◌, ◌++◌, [], List, ℕ, Option, Some, OnOk, OnErr, IfErr};
 ghost use Rattle.point_core.specs.declared.refusal.Refusal.TheVariants.{Write as WriteFault, Memory};
 ghost use Rattle.script_core.specs.Answering.{HasAnswered};
@@ -16,8 +17,8 @@ use script_core::{Answerer, Answers};
 use std::alloc::Global;
 use std::io::Write;
 
-/// Has the lines of a script answered and explains them, one after another. It keeps the lines that made each name and
-/// cookie, and asks the desk of the answers for everything else.
+/// Answers the lines of a script and explains refused ones. It keeps the lines that made each name and cookie, and asks the
+/// desk of the answers for everything else.
 #[derive(Drop)]
 pub(crate) struct Explainer {
     alloc: Global,
@@ -66,7 +67,7 @@ impl Explainer {
         Ok(())
     }
 
-    /// Enters what an accepted line made or unmade, the last that was answered.
+    /// Enters an accepted line, the last that was answered, in the book.
     fn enter(&mut self, answers: &Answers, number: u32, body: &Body) -> Result<(), Refusal>
         ensures refusals { IfErr result (λ refusal. refusal ≡ Memory) }
     {
@@ -104,7 +105,7 @@ impl Explainer {
 }
 
 impl<N: Write> Answerer<N> for Explainer {
-    /// If the line is refused, its answer is written, and after that why.
+    /// If the line is refused, its answer is written first, and then the explanation.
     fn answer<W: Write>(
         &mut self,
         answers: &mut Answers,

@@ -1,5 +1,7 @@
-//! Why lines of a script were refused: the word at fault and a sentence, by the line, the desk that refused it, and the lines
-//! that made what there is; and scripts that are answered and explained.
+//! Explains why lines of a script were refused: the word at fault and a sentence, found by the line, the desk that refused
+//! it, and the `Book` of lines that made each name. `explain` runs a script and explains it.
+//!
+//! No contract says what an explanation is: its texts are tested, and only its faults are proved.
 #![tactic(auto)]
 
 mod book;

@@ -1,11 +1,11 @@
-// How an explanation looks.
+//! `Look` and `Place`, the style and the line of an explanation, and the functions that write one from parts.
 ghost use Rattle.std.specs.Prelude.{◌≡◌, IfErr};
 ghost use Rattle.point_core.specs.declared.refusal.Refusal.TheVariants.{Write as WriteFault};
 
 use point_core::Refusal;
 use std::io::Write;
 
-/// Whether the line's number stands out.
+/// The style of the line's number.
 #[derive(Clone, Copy, PartialEq, Eq)]
 pub enum Look {
     Plain,

@@ -1,4 +1,4 @@
-// What names stand for.
+//! Looks up a name on the desk by its kind, and names the kinds.
 
 use command_core::Space;
 use desk_core::Desk;
@@ -12,7 +12,7 @@ pub(crate) fn word_of(space: Space) -> &'static str {
     }
 }
 
-/// Whether the name stands for something.
+/// Whether there is an object of that kind and name.
 pub(crate) fn is_there(desk: &Desk, space: Space, name: &Name) -> bool {
     match space {
         Space::Timeline => desk.timeline_value(name).is_some(),

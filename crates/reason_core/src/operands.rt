@@ -1,8 +1,8 @@
-// What is said of a word that does not match its operand, and of one that is missing.
+//! Sentences for an operand that does not parse, and for a missing one.
 
 use line_core::Operand;
 
-/// Why a word does not match the operand.
+/// The sentence for a word that does not match the operand.
 pub(crate) fn mismatch(operand: Operand) -> &'static str {
     match operand {
         Operand::Name => "not a name: a name has 1 to 31 letters, digits, _, . or -",
@@ -12,7 +12,7 @@ pub(crate) fn mismatch(operand: Operand) -> &'static str {
     }
 }
 
-/// That the operand is missing at the end of a line.
+/// The sentence for an operand that is missing at the end of a line.
 pub(crate) fn absence(operand: Operand) -> &'static str {
     match operand {
         Operand::Name => "a name is missing",

@@ -1,4 +1,5 @@
-// A script from a reader, its answers to a writer, and to another why lines were refused.
+//! Runs a script from a reader, and writes an explanation after the answer of each refused line. `fencectl explain` and
+//! the prompt call it.
 ghost use Rattle.std.specs.Prelude.{◌≡◌, ◌+◌, ◌⊎◌, Err, IfOk, OnErr, IfErr};
 ghost use Rattle.point_core.specs.declared.refusal.Refusal.TheVariants.{Read as ReadFault, Write as WriteFault, Memory};
 ghost use Rattle.line_core.specs.Reading.{ConsumesAtMost, ReadsScript};
@@ -16,8 +17,8 @@ use std::io::{Read, Write};
 /// number, the word that is at fault and a sentence; of a wait each point that is not reached. The answer of a line is written
 /// before its explanation, and both before the next read.
 ///
-/// Its memory does not grow with the script: of the lines it keeps what the desk holds, and of each name and cookie that stands
-/// for something the line that made it.
+/// Its memory does not grow with the script: it keeps the desk, and for each name and cookie in use the number of the line
+/// that made it.
 ///
 /// Fails with Read if a read failed: then the lines whose line feed was read are answered. Fails with Write if a write
 /// failed or took no byte, of an answer or an explanation, or the flush failed, and with Memory if a growth was refused: then
@@ -32,7 +33,7 @@ pub fn explain<R: Read, W: Write, N: Write>(
     ensures ok { IfOk result (λ totals. AnswersInput (R.remaining reader.old) totals
         (W.contents writer.old) (W.contents writer.new)) }
 
-    // What is read is the script, up to the byte after its limit.
+    // The bytes that are read are the script, up to the byte after its limit.
     ensures reads { IfOk result (λ _. ReadsScript (R.remaining reader.old) (R.remaining reader.new)) }
 
     // Whatever the result, no byte is read past that one.

@@ -1,4 +1,4 @@
-// Why a command was refused.
+//! Explains a command that the desk refused, by the desk and the book. No contract says what is written: tests compare it.
 ghost use Rattle.std.specs.Prelude.{◌≡◌, IfErr};
 ghost use Rattle.point_core.specs.declared.refusal.Refusal.TheVariants.{Write as WriteFault};
 
@@ -25,11 +25,11 @@ enum Reason {
     Watched(u64, u32),
     /// That line closed the timeline.
     Closed(Name, u32),
-    /// The timeline of that name and value would be raised by so much.
+    /// The timeline's name, its value, and the increment that would overflow it.
     Overflow(Name, u64, u64),
-    /// There are as many as there can be.
+    /// The limit of that kind is reached.
     Limit(LimitKind),
-    /// What the text says.
+    /// A fixed sentence.
     Text(&'static str),
 }
 
@@ -70,7 +70,7 @@ fn reason_of(desk: &Desk, book: &Book, command: &Command, refusal: Refusal) -> R
     }
 }
 
-/// The first name that the command looks up and that stands for nothing.
+/// The first name that the command looks up and does not find.
 fn missing(desk: &Desk, command: &Command) -> Reason {
     for (space, name) in command.looked_up().into_iter().flatten() {
         if !is_there(desk, space, &name) {
@@ -194,7 +194,7 @@ fn parts_of_limit(kind: LimitKind) -> [Part<'static>; 4] {
     ]
 }
 
-/// How many there can be of them.
+/// The number that the limit allows.
 fn most_of(kind: LimitKind) -> u64 {
     let most = match kind {
         LimitKind::Timelines => CONTEXTS,

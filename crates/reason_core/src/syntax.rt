@@ -1,4 +1,4 @@
-// Which word of a line that is no command is at fault, and why.
+//! Explains a line that is no command: finds the word at fault. No contract says what is written: tests compare it.
 ghost use Rattle.std.specs.Prelude.{◌≡◌, ◌⊎◌, IfErr};
 ghost use Rattle.point_core.specs.declared.refusal.Refusal.TheVariants.{Write as WriteFault, Memory};
 
@@ -77,7 +77,7 @@ fn explain_syntax<N: Write>(
     }
 }
 
-/// Writes what is wrong with a word.
+/// Writes the word and the sentence on it.
 fn explain_word<N: Write>(
     place: &Place,
     word: &[u8],
@@ -89,7 +89,7 @@ fn explain_word<N: Write>(
     note_word(place, word, &[Part::Text(": "), Part::Text(reason)], notes)
 }
 
-/// What is wrong with a word that has a byte which words never have.
+/// The sentence for a word with a byte that no word may have.
 fn strange_byte(word: &[u8]) -> Option<&'static str> {
     if word.starts_with(b"\xef\xbb\xbf") {
         Some("starts with a byte order mark")
@@ -104,7 +104,7 @@ fn strange_byte(word: &[u8]) -> Option<&'static str> {
     }
 }
 
-/// The first word, and what follows it.
+/// The first word, and the rest of the line.
 fn first_word(line: &[u8]) -> (&[u8], &[u8]) {
     let start = line
         .iter()
@@ -188,7 +188,7 @@ fn explain_words<N: Write>(
     explain_word(place, command, missing(operands.next()), notes)
 }
 
-/// What is missing at the end of a line.
+/// The sentence for the operand that is missing at the end of a line.
 fn missing(operand: Option<&Operand>) -> &'static str {
     match operand {
         Some(operand) => absence(*operand),
@@ -196,7 +196,7 @@ fn missing(operand: Option<&Operand>) -> &'static str {
     }
 }
 
-/// What is wrong with a word in the place of that operand, or after the last one.
+/// The sentence for a word that does not match the operand at its place, or that follows the last operand.
 fn wrong_for(word: &[u8], operand: Option<&Operand>) -> Option<&'static str> {
     match operand {
         Some(operand) if operand.matches(word) => None,
