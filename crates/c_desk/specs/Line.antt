@@ -12,7 +12,7 @@ use Rattle.line_core.specs.Script.{lines_of}
 use Rattle.line_core.specs.declared.line.Body.{Body}
 use Rattle.line_core.specs.declared.line.Body.TheVariants.{Cmd, Bad}
 use Rattle.script_core.specs.Output.{IsLineAnswer, history_after_line}
-use Rattle.script_core.specs.Text.{text_of}
+use Rattle.report_core.specs.Answer.{text_of}
 use Rattle.c_desk.specs.declared.handle.DeskHandle.{DeskHandle}
 use Rattle.c_desk.specs.declared.line.TheConstants.{LINE, ANSWER_ROOM}
 use Rattle.c_desk.specs.Call.{number_of_answer}

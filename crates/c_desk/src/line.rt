@@ -8,8 +8,7 @@ use crate::handle::DeskHandle;
 use command_core::{Answer, Command};
 use line_core::{Body, body_of, first_line};
 use point_core::Refusal;
-use report_core::{TEXT_LINE_BYTES, TextLine};
-use script_core::{done_line, print, refusal_line, value_line};
+use report_core::{TEXT_LINE_BYTES, TextLine, done_line, print, refusal_line, value_line};
 use std::alloc::Global;
 
 /// The line number in the text of a refusal: in a script of only this line it is line 1.

@@ -5,7 +5,7 @@ use Rattle.std.proofs.lemmas.Slice.Eq.{bytes_eq-Decides}
 use Rattle.command_core.specs.declared.answer.Answer.{Answer}
 use Rattle.line_core.specs.declared.line.Line.{Line}
 use Rattle.line_core.specs.Script.{script_of}
-use Rattle.script_core.specs.Text.{text_of}
+use Rattle.report_core.specs.Answer.{text_of}
 use Rattle.check_core.specs.Expected.{expected_of, output_of_lines, IsAsExpected, differs}
 use Rattle.check_core.specs.Tally.{one_if}
 use Rattle.check_core.specs.Check.{AreAsExpected, AgreesWith, differing_count}

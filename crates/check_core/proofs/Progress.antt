@@ -20,7 +20,7 @@ use Rattle.line_core.specs.Reading.{IsInput, WasRead, ConsumesAtMost}
 use Rattle.script_core.specs.Output.{AreLineAnswers}
 use Rattle.line_core.specs.Script.{lines_of, lines_until, ending_of, script_of}
 use Rattle.line_core.specs.ScriptLines.{LinesState, HasEnded}
-use Rattle.script_core.specs.Text.{text_of}
+use Rattle.report_core.specs.Answer.{text_of}
 use Rattle.line_core.specs.Words.{words_of}
 use Rattle.line_core.proofs.EndedLines.{body_of-cut, ended_lines, line-answered, last-answered}
 use Rattle.line_core.proofs.Inputs.{input_from}

@@ -5,7 +5,7 @@ use Rattle.command_core.specs.declared.answer.Answer.{Answer}
 use Rattle.desk_core.specs.theorem.Desk.{DeskState, HasHistory}
 use Rattle.line_core.specs.declared.line.Body.{Body}
 use Rattle.script_core.specs.Output.{IsLineAnswer, history_after_line}
-use Rattle.script_core.specs.Text.{text_of}
+use Rattle.report_core.specs.Answer.{text_of}
 
 -- the desk answered a line, and this is the answer's text
 pub record AnswersInto (desk desk' : DeskState) (number : ℕ) (body : Body) (text : List ℕ) : Type 0 where

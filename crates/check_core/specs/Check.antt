@@ -11,7 +11,7 @@ use Rattle.line_core.specs.declared.script.TheConstants.{SCRIPT_BYTES}
 use Rattle.line_core.specs.Reading.{WasRead}
 use Rattle.script_core.specs.Output.{AreLineAnswers}
 use Rattle.line_core.specs.Script.{script_of}
-use Rattle.script_core.specs.Text.{text_of}
+use Rattle.report_core.specs.Answer.{text_of}
 use Rattle.check_core.specs.declared.checker.Checker.{Checker}
 use Rattle.check_core.specs.declared.stage.Stage.TheVariants.{Unasked}
 use Rattle.check_core.specs.declared.tally.Tally.{Tally}

@@ -18,7 +18,8 @@ use crate::tally::Tally;
 use desk_core::Desk;
 use line_core::{Body, Ending, body_of};
 use point_core::Refusal;
-use script_core::{answer_line, print};
+use report_core::print;
+use script_core::answer_line;
 use std::alloc::Global;
 use std::io::Write;
 

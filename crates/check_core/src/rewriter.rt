@@ -6,7 +6,8 @@ use command_core::Answer;
 use desk_core::Desk;
 use line_core::{Body, body_of, first_line};
 use point_core::Refusal;
-use script_core::{answer_line, print};
+use report_core::print;
+use script_core::answer_line;
 use std::alloc::{AllocError, Global};
 
 /// A new note of an expected line begins with this.

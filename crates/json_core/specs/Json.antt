@@ -20,7 +20,7 @@ use Rattle.command_core.specs.declared.answer.BufferRows.{BufferRows}
 use Rattle.command_core.specs.declared.answer.ShowRow.{ShowRow}
 use Rattle.command_core.specs.Tables.{Tables}
 use Rattle.report_core.specs.RowKind.{usage_word}
-use Rattle.script_core.specs.Text.{driver_of}
+use Rattle.report_core.specs.Answer.{driver_of}
 
 abbrev pub object : List Token → List Token
 object members = begin_object ∷ members ++ end_object ∷ []

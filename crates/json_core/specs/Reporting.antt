@@ -7,8 +7,7 @@ use Rattle.desk_core.specs.theorem.Answer.{is_refused}
 use Rattle.desk_core.specs.theorem.Desk.{DeskState, HasHistory}
 use Rattle.line_core.specs.declared.line.Body.{Body}
 use Rattle.script_core.specs.declared.totals.Totals.{Totals}
-use Rattle.report_core.specs.Bytes.{AppendsFront}
-use Rattle.script_core.specs.Bytes.{PassesOn}
+use Rattle.report_core.specs.Bytes.{AppendsFront, PassesOn}
 use Rattle.script_core.specs.Output.{IsLineAnswer, history_after_line}
 use Rattle.json_core.specs.Json.{line_text}
 

@@ -2,7 +2,7 @@
 ghost use Rattle.std.specs.Prelude.{flat_map, ◌≡◌, ◌++◌, IfOk, IfErr, OnOk};
 ghost use Rattle.std.specs.Str.Lossy.{utf8_lossy};
 ghost use Rattle.point_core.specs.declared.refusal.Refusal.TheVariants.{Memory};
-ghost use Rattle.script_core.specs.Text.{driver_of};
+ghost use Rattle.report_core.specs.Answer.{driver_of};
 ghost use Rattle.json_core.specs.Part.{Adds};
 ghost use Rattle.json_core.specs.Json.{answer_tokens, info_tokens, limit_of, line_text, line_tokens};
 ghost use Rattle.json_core.specs.Json.{number_tokens, value_tokens, raised_tokens, refusal_tokens, said_tokens, fence_tokens, limit_tokens};

@@ -1,6 +1,7 @@
 mod Ends
 pub mod Fronts
 pub mod Numbered
+pub mod PassedOn
 pub mod Placed
 pub mod Statuses
 pub mod Widths

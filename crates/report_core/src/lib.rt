@@ -1,11 +1,14 @@
-//! The text of answers: rows with fixed columns for tables, and single lines.
+//! The text of answers: single lines, and tables of rows with fixed columns. `print` appends a whole answer to a buffer;
+//! `pass_answer` also writes the buffer once enough is pending.
 //!
-//! `specs/` defines the text of a row by its columns.
+//! `specs/Answer.antt` defines the text of each answer, and `specs/Row.antt` a row by its columns.
 #![tactic(auto)]
 
+mod answer;
 mod columns;
 mod line;
 mod number_line;
+mod passing;
 mod report;
 mod row_kind;
 mod rows;
@@ -13,8 +16,10 @@ mod settled;
 mod status;
 mod writing;
 
+pub use answer::{done_line, print, refusal_line, value_line};
 pub use line::{TEXT_LINE_BYTES, TextLine};
 pub use number_line::push_numbered;
+pub use passing::pass_answer;
 pub use report::{buffer_text, report_text, show_text, timelines_text};
 pub use row_kind::RowKind;
 pub use rows::{
@@ -22,4 +27,4 @@ pub use rows::{
 };
 pub use settled::settled_text;
 pub use status::{STATUS_BYTES, status_text};
-pub use writing::write_whole;
+pub use writing::{write_many, write_out, write_whole};

@@ -1,11 +1,14 @@
-//! Writes bytes to a writer until all are written.
-ghost use Rattle.std.specs.Prelude.{◌≡◌, Err, OnOk, OnErr};
+//! Writes bytes until all are written, and buffers output: text is collected up to `WRITE_BYTES` before it is written.
+ghost use Rattle.std.specs.Prelude.{◌≡◌, ◌++◌, [], Err, List, ℕ, OnOk, OnErr};
 ghost use Rattle.std.specs.Io.KnownBytes.{Appends};
 ghost use Rattle.point_core.specs.declared.refusal.Refusal.TheVariants.{Write};
 ghost use Rattle.report_core.specs.Bytes.{AppendsFront};
 
 use point_core::Refusal;
 use std::io::Write;
+
+/// Output is collected up to this many bytes before it is written.
+const WRITE_BYTES: usize = 8192;
 
 /// Writes all of the bytes.
 ///
@@ -23,5 +26,37 @@ pub fn write_whole<W: Write>(writer: &mut W, bytes: &[u8]) -> Result<(), Refusal
             Ok(count) => rest = &rest[count..],
         }
     }
+    Ok(())
+}
+
+/// Writes the output if it is long enough, and clears it.
+///
+/// Fails as `write_whole`.
+#[inline(always)]
+pub fn write_many<W: Write>(writer: &mut W, out: &mut Vec<u8>) -> Result<(), Refusal>
+    ensures ok { OnOk result ((written : List ℕ) × (out.old.items ≡ written ++ out.new.items)
+        × Appends (W.contents writer.old) (W.contents writer.new) written) }
+    ensures refused { OnErr result (result ≡ Err Write) }
+    ensures err { OnErr result (AppendsFront (W.contents writer.old) (W.contents writer.new) out.old.items) }
+{
+    if out.len() >= WRITE_BYTES {
+        write_out(writer, out)?;
+    }
+    Ok(())
+}
+
+/// Writes the output, and clears it.
+///
+/// Fails as `write_whole`.
+#[inline(never)]
+pub fn write_out<W: Write>(writer: &mut W, out: &mut Vec<u8>) -> Result<(), Refusal>
+    ensures ok { OnOk result ((written : List ℕ) × (out.old.items ≡ written ++ out.new.items)
+        × Appends (W.contents writer.old) (W.contents writer.new) written) }
+    ensures none { OnOk result (out.new.items ≡ []) }
+    ensures refused { OnErr result (result ≡ Err Write) }
+    ensures err { OnErr result (AppendsFront (W.contents writer.old) (W.contents writer.new) out.old.items) }
+{
+    write_whole(writer, out)?;
+    out.clear();
     Ok(())
 }

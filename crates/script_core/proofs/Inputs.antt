@@ -15,7 +15,7 @@ use Rattle.script_core.specs.declared.totals.Totals.{Totals}
 use Rattle.line_core.specs.Reading.{IsInput, WasRead, EndsSo}
 use Rattle.line_core.specs.Script.{lines_until, script_of}
 use Rattle.line_core.specs.ScriptLines.{LinesState, HasGiven}
-use Rattle.script_core.specs.Text.{text_of}
+use Rattle.report_core.specs.Answer.{text_of}
 use Rattle.script_core.specs.Output.{answer_of_line, history_after_line, output_from, IsLineAnswer, AreLineAnswers, texts_of, NoneIsMemory, WritesAnswers, WritesPrefix, Counts, AnswersScript, AnswersEndedLines}
 use Rattle.line_core.proofs.EndedLines.{ended_lines, given-first}
 use Rattle.line_core.proofs.Inputs.{input_from, script_of-whole, script_of-too_long, lines_until-short, first_lines}

@@ -12,7 +12,7 @@ use Rattle.desk_core.specs.theorem.Desk.{DeskState, HasHistory}
 use Rattle.line_core.specs.declared.line.Line.{Line}
 use Rattle.script_core.specs.declared.totals.Totals.{Totals}
 use Rattle.report_core.specs.Bytes.{AppendsFront}
-use Rattle.script_core.specs.Text.{text_of}
+use Rattle.report_core.specs.Answer.{text_of}
 use Rattle.script_core.specs.Output.{history_after_line, IsLineAnswer, AreLineAnswers, texts_of, WritesPrefix, Counts}
 use Rattle.script_core.specs.Answering.{history_along, Progress, AnswersLines}
 

@@ -12,8 +12,8 @@ use Rattle.line_core.specs.declared.script.Ending.{Ending}
 use Rattle.line_core.specs.declared.script.TheConstants.{SCRIPT_BYTES}
 use Rattle.script_core.specs.declared.totals.Totals.{Totals}
 use Rattle.line_core.specs.Reading.{WasRead}
-use Rattle.script_core.specs.Bytes.{PassesOn}
-use Rattle.script_core.specs.Text.{text_of}
+use Rattle.report_core.specs.Bytes.{PassesOn}
+use Rattle.report_core.specs.Answer.{text_of}
 use Rattle.script_core.specs.Output.{history_after_line, IsLineAnswer, AreLineAnswers, refusal_of, texts_of, WritesAnswers, WritesPrefix, Counts}
 use Rattle.line_core.specs.Script.{lines_until}
 

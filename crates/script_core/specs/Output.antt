@@ -18,7 +18,7 @@ use Rattle.line_core.specs.declared.script.Ending.TheVariants as ending
 use Rattle.line_core.specs.declared.script.TheConstants.{SCRIPT_BYTES}
 use Rattle.line_core.specs.Reading.{IsInput}
 use Rattle.line_core.specs.Script.{script_of, lines_until}
-use Rattle.script_core.specs.Text.{text_of}
+use Rattle.report_core.specs.Answer.{text_of}
 
 -- the unique answer of a line
 abbrev pub answer_of_line : List Command → Body → Answer

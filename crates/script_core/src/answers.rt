@@ -9,13 +9,12 @@ ghost use Rattle.line_core.specs.declared.line.Line.{Line as LineModel};
 ghost use Rattle.line_core.specs.Script.{answered};
 ghost use Rattle.script_core.specs.Output.{IsLineAnswer, history_after_line, refusal_of, WritesPrefix};
 
-use crate::passing::pass_answer;
 use crate::totals::Totals;
-use crate::writing::write_out;
 use command_core::Answer;
 use desk_core::Desk;
 use line_core::Body;
 use point_core::Refusal;
+use report_core::{pass_answer, write_out};
 use std::alloc::Global;
 use std::io::Write;
 use std::marker::Model;

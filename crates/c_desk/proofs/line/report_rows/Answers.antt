@@ -2,7 +2,7 @@ use Rattle.std.proofs.Common.{◌≡◌, ℕ, List, length, ◌<◌, ◌∙◌, 
 use Rattle.point_core.specs.declared.refusal.Refusal.{Refusal}
 use Rattle.point_core.specs.declared.refusal.Refusal.TheVariants.{Memory}
 use Rattle.command_core.specs.declared.answer.Answer.TheVariants as answer
-use Rattle.script_core.specs.Text.{refusal_text}
+use Rattle.report_core.specs.Answer.{refusal_text}
 use Rattle.c_desk.specs.declared.line.TheConstants.{LINE, ANSWER_ROOM}
 use Rattle.c_desk.specs.Call.{number_of}
 use Rattle.c_desk.specs.Line.{StoresText}

@@ -1,0 +1,75 @@
+use Rattle.std.proofs.Common.{◌≡◌, ◌++◌, List, ℕ, ap, sym, ◌∙◌, subst, append_assoc}
+use Rattle.std.specs.List.{flat_map}
+use Rattle.std.proofs.lemmas.Result.{err_from_is_err_and}
+use Rattle.command_core.specs.Tables.{Tables, row_count}
+use Rattle.report_core.specs.Row.{file_row_text}
+use Rattle.report_core.specs.Tables.{timeline_text, buffer_text}
+use Rattle.report_core.specs.Bytes.{AppendsFront, PassesOn}
+use Rattle.report_core.specs.Answer.{report_text, value_line}
+use Rattle.report_core.proofs.PassedOn.{Front-more, Front-passed, Passes-trans}
+use Rattle.report_core.proofs.passing.pass_report.Goals as goal
+
+-- the parts of a report's text, taken together
+parts : (count timelines files buffers : List ℕ) → ((count ++ timelines) ++ files) ++ buffers ≡ count ++ ((timelines ++ files) ++ buffers)
+parts count timelines files buffers =
+    ap (λ text. text ++ buffers) (append_assoc count timelines files) ∙ append_assoc count (timelines ++ files) buffers
+
+pub returns-in_err-pass_timelines-clause-err : goal.returns-in_err-pass_timelines-clause-err
+returns-in_err-pass_timelines-clause-err g c =
+    let q = err_from_is_err_and c.from_residual.result c.from_residual.ensures.1 in
+    let report = c.args.report.now in
+    let count = value_line (row_count report) in
+    let timelines = flat_map timeline_text report.timelines in
+    let files = flat_map file_row_text report.files in
+    let buffers = flat_map buffer_text report.buffers in
+    let out = c.args.out.now.items in
+    let all : out ++ report_text report ≡ (out ++ (count ++ timelines)) ++ (files ++ buffers) =
+    ap (λ text. out ++ text) (sym (parts count timelines files buffers) ∙ append_assoc (count ++ timelines) files buffers)
+    ∙ sym (append_assoc out (count ++ timelines) (files ++ buffers)) in
+    rw q.1 (Front-more (out ++ (count ++ timelines)) (files ++ buffers) (out ++ report_text report) _ _ all c.in_err-pass_timelines.ensures.err)
+
+pub returns-in_err-pass_files-clause-err : goal.returns-in_err-pass_files-clause-err
+returns-in_err-pass_files-clause-err g c =
+    let q = err_from_is_err_and c.from_residual-in_err-pass_files.result c.from_residual-in_err-pass_files.ensures.1 in
+    let report = c.args.report.now in
+    let first = value_line (row_count report) ++ flat_map timeline_text report.timelines in
+    let files = flat_map file_row_text c.as_slice.result.now in
+    let buffers = flat_map buffer_text report.buffers in
+    let out = c.args.out.now.items in
+    let all : out ++ report_text report ≡ (out ++ (first ++ files)) ++ buffers =
+    ap (λ text. out ++ text) (sym (parts (value_line (row_count report)) (flat_map timeline_text report.timelines) (flat_map file_row_text report.files) buffers))
+    ∙ ap (λ xs. out ++ ((first ++ flat_map file_row_text xs) ++ buffers)) (sym (c.as_slice.ensures ∙ ap (λ (t : Tables). t.files) c.report.view_is))
+    ∙ sym (append_assoc out (first ++ files) buffers) in
+    rw q.1 (Front-more (out ++ (first ++ files)) buffers (out ++ report_text report) _ _ all
+    (Front-passed out c.pass_timelines.new.out.items first files _ _ _ c.in_ok-pass_timelines.ensures.ok c.in_err-pass_files.ensures.err))
+
+pub returns-in_err-pass_buffers-clause-err : goal.returns-in_err-pass_buffers-clause-err
+returns-in_err-pass_buffers-clause-err g c =
+    let q = err_from_is_err_and c.from_residual-in_err-pass_buffers.result c.from_residual-in_err-pass_buffers.ensures.1 in
+    let report = c.args.report.now in
+    let first = value_line (row_count report) ++ flat_map timeline_text report.timelines in
+    let files = flat_map file_row_text c.as_slice.result.now in
+    let buffers = flat_map buffer_text c.as_slice-2.result.now in
+    let out = c.args.out.now.items in
+    let all : out ++ ((first ++ files) ++ buffers) ≡ out ++ report_text report =
+    ap (λ xs. out ++ ((first ++ flat_map file_row_text xs) ++ buffers)) (c.as_slice.ensures ∙ ap (λ (t : Tables). t.files) c.report.view_is)
+    ∙ ap (λ xs. out ++ ((first ++ flat_map file_row_text report.files) ++ flat_map buffer_text xs)) (c.as_slice-2.ensures ∙ ap (λ (t : Tables). t.buffers) c.report.view_is)
+    ∙ ap (λ text. out ++ text) (parts (value_line (row_count report)) (flat_map timeline_text report.timelines) (flat_map file_row_text report.files) (flat_map buffer_text report.buffers)) in
+    let passed = Passes-trans out c.pass_timelines.new.out.items c.pass_files.new.out.items first files _ _ _ c.in_ok-pass_timelines.ensures.ok c.in_ok-pass_files.ensures.ok in
+    rw q.1 (subst (λ text. AppendsFront (g.W.Write.contents c.args.writer.now) (g.W.Write.contents c.pass_buffers.new.writer) text) all
+    (Front-passed out c.pass_files.new.out.items (first ++ files) buffers _ _ _ passed c.in_err-pass_buffers.ensures.err))
+
+pub returns-clause-ok : goal.returns-clause-ok
+returns-clause-ok g c =
+    let report = c.args.report.now in
+    let first = value_line (row_count report) ++ flat_map timeline_text report.timelines in
+    let files = flat_map file_row_text c.as_slice.result.now in
+    let buffers = flat_map buffer_text c.as_slice-2.result.now in
+    let out = c.args.out.now.items in
+    let all : (first ++ files) ++ buffers ≡ report_text report =
+    ap (λ xs. (first ++ flat_map file_row_text xs) ++ buffers) (c.as_slice.ensures ∙ ap (λ (t : Tables). t.files) c.report.view_is)
+    ∙ ap (λ xs. (first ++ flat_map file_row_text report.files) ++ flat_map buffer_text xs) (c.as_slice-2.ensures ∙ ap (λ (t : Tables). t.buffers) c.report.view_is)
+    ∙ parts (value_line (row_count report)) (flat_map timeline_text report.timelines) (flat_map file_row_text report.files) (flat_map buffer_text report.buffers) in
+    let passed = Passes-trans out c.pass_timelines.new.out.items c.pass_files.new.out.items first files _ _ _ c.in_ok-pass_timelines.ensures.ok c.in_ok-pass_files.ensures.ok in
+    subst (λ text. PassesOn out c.pass_buffers.new.out.items text (g.W.Write.contents c.args.writer.now) (g.W.Write.contents c.pass_buffers.new.writer)) all
+    (Passes-trans out c.pass_files.new.out.items c.pass_buffers.new.out.items (first ++ files) buffers _ _ _ passed c.in_ok-pass_buffers.ensures.ok)

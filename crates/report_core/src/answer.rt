@@ -1,0 +1,327 @@
+//! The text of each answer, as `specs/Answer.antt` defines it.
+ghost use Rattle.std.specs.Prelude.{◌≡◌, ◌+◌, ◌≤◌, ◌∷◌, ◌++◌, [], OnOk, OnErr, Err, codes, decimal, length};
+ghost use Rattle.std.specs.List.{flat_map};
+ghost use Rattle.std.specs.Io.{StartsWith};
+ghost use Rattle.point_core.specs.declared.refusal.Refusal.TheVariants.{Memory};
+ghost use Rattle.command_core.specs.Tables.{row_count};
+ghost use Rattle.report_core.specs.Status.{status_text};
+ghost use Rattle.report_core.specs.Tables.{timeline_text};
+ghost use Rattle.report_core.specs.Answer.{line_text, fired_text, raised_text, fence_text, info_line, info_text, show_text};
+ghost use Rattle.report_core.specs.Answer.{report_text, refusal_text, details, value_line, driver_of, text_of};
+ghost use Rattle.report_core.specs.LineEnd.{line_end};
+ghost use Rattle.report_core.specs.declared.answer.TheConstants.{DRIVER_BYTES};
+
+use crate::line::{TEXT_LINE_BYTES, TextLine};
+use crate::number_line::push_numbered;
+use crate::report::{report_text, show_text, timelines_text};
+use crate::rows::NUMBER_WIDTH;
+use crate::status::{STATUS_BYTES, status_text};
+use command_core::{Answer, FenceRow, Info, Maker, Report, ShowRow};
+use itoa::Buffer;
+use point_core::{Refusal, Status};
+
+/// The most bytes of a driver's name, `sw_sync`.
+const DRIVER_BYTES: usize = 7;
+
+/// The bytes of the answer `ok`, with its line feed.
+const DONE_BYTES: usize = 3;
+
+/// Appends the text of the answer of line `line` to `out`.
+///
+/// Fails only with Memory, and then leaves `out` as it was.
+pub fn print(line: u32, answer: &Answer, out: &mut Vec<u8>) -> Result<(), Refusal>
+    ensures ok { OnOk result (out.new.items ≡ out.old.items ++ text_of line answer.now) }
+    ensures err { OnErr result ((result ≡ Err Memory) × (out.new.items ≡ out.old.items)) }
+{
+    let start = out.len();
+    let pushed = push_answer(line, answer, out);
+    if pushed.is_err() {
+        out.truncate(start);
+    }
+    pushed
+}
+
+/// The text of an answer that reports nothing but success.
+pub fn done_line() -> TextLine
+    ensures { result ≡ line_text (codes "ok" ∷ []) }
+{
+    let mut line = TextLine::new();
+    line.put_text(b"ok");
+    line
+}
+
+/// The text of an answer that is a number.
+pub fn value_line(value: u64) -> TextLine
+    ensures { result ≡ value_line value }
+{
+    let mut line = TextLine::new();
+    put_value(&mut line, value);
+    line
+}
+
+/// The text of a refusal of line `line`.
+///
+/// Does not allocate.
+pub fn refusal_line(line: u32, refusal: Refusal) -> TextLine
+    ensures { result ≡ refusal_text line refusal }
+{
+    let mut text = TextLine::new();
+    put_refusal(&mut text, line, refusal);
+    text
+}
+
+fn push_answer(line: u32, answer: &Answer, out: &mut Vec<u8>) -> Result<(), Refusal>
+    ensures ok { OnOk result (out.new.items ≡ out.old.items ++ text_of line answer.now) }
+    ensures err { OnErr result ((result ≡ Err Memory) × StartsWith out.new.items out.old.items) }
+{
+    match answer {
+        Answer::Done => push_done(out),
+        Answer::Value(value) => push_value(*value, out),
+        Answer::Raised(value, fired) => push_raised(*value, fired.as_slice(), out),
+        Answer::Info(info) => push_info(info, out),
+        Answer::Show(rows) => push_show(rows.as_slice(), out),
+        Answer::Report(report) => push_report(report, out),
+        Answer::Refused(refusal) => push_refusal(line, *refusal, out),
+    }
+}
+
+/// Appends the text of an answer that is given by value, so that it need not be stored as a whole.
+///
+/// Fails only with Memory. `out` then begins with its old bytes.
+#[inline(always)]
+pub(crate) fn push_owned(line: u32, answer: Answer, out: &mut Vec<u8>) -> Result<(), Refusal>
+    ensures ok { OnOk result (out.new.items ≡ out.old.items ++ text_of line answer) }
+    ensures err { OnErr result ((result ≡ Err Memory) × StartsWith out.new.items out.old.items) }
+{
+    match answer {
+        Answer::Done => push_done(out),
+        Answer::Value(value) => push_value(value, out),
+        Answer::Raised(value, fired) => push_raised(value, fired.as_slice(), out),
+        Answer::Info(info) => push_info(&info, out),
+        Answer::Show(rows) => push_show(rows.as_slice(), out),
+        Answer::Report(report) => push_report(&report, out),
+        Answer::Refused(refusal) => push_refusal(line, refusal, out),
+    }
+}
+
+#[inline(always)]
+fn push_done(out: &mut Vec<u8>) -> Result<(), Refusal>
+    ensures ok { OnOk result (out.new.items ≡ out.old.items ++ line_text (codes "ok" ∷ [])) }
+    ensures err { OnErr result ((result ≡ Err Memory) × StartsWith out.new.items out.old.items) }
+{
+    if out.capacity() - out.len() < DONE_BYTES {
+        out.reserve(DONE_BYTES)?;
+    }
+    out.push_reserved(b'o');
+    out.push_reserved(b'k');
+    out.push_reserved(b'\n');
+    Ok(())
+}
+
+#[inline(always)]
+fn push_value(value: u64, out: &mut Vec<u8>) -> Result<(), Refusal>
+    ensures ok { OnOk result (out.new.items ≡ out.old.items ++ value_line value) }
+    ensures err { OnErr result ((result ≡ Err Memory) × StartsWith out.new.items out.old.items) }
+{
+    push_numbered(b"ok", value, out)
+}
+
+#[inline(always)]
+fn put_value(line: &mut TextLine, value: u64)
+    requires { line.old ≡ 10 ∷ [] }
+    ensures { line.new ≡ value_line value }
+{
+    put_number(line, value);
+    line.put_text(b"ok");
+}
+
+#[inline(always)]
+fn push_raised(value: u64, fired: &[u64], out: &mut Vec<u8>) -> Result<(), Refusal>
+    ensures ok { OnOk result (out.new.items ≡ out.old.items ++ raised_text value fired.now) }
+    ensures err { OnErr result ((result ≡ Err Memory) × StartsWith out.new.items out.old.items) }
+{
+    push_value(value, out)?;
+    for cookie in fired {
+        push_fired(*cookie, out)?;
+    }
+    Ok(())
+}
+
+#[inline(never)]
+fn push_fired(cookie: u64, out: &mut Vec<u8>) -> Result<(), Refusal>
+    ensures ok { OnOk result (out.new.items ≡ out.old.items ++ fired_text cookie) }
+    ensures err { OnErr result ((result ≡ Err Memory) × StartsWith out.new.items out.old.items) }
+{
+    push_numbered(b"fired", cookie, out)
+}
+
+#[inline(never)]
+fn push_info(info: &Info, out: &mut Vec<u8>) -> Result<(), Refusal>
+    ensures ok { OnOk result (out.new.items ≡ out.old.items ++ info_text info.now) }
+    ensures err { OnErr result ((result ≡ Err Memory) × StartsWith out.new.items out.old.items) }
+{
+    let fences = info.fences.as_slice();
+    push_info_line(info, out)?;
+    for fence in fences {
+        push_fence(fence, out)?;
+    }
+    Ok(())
+}
+
+#[inline(never)]
+fn push_info_line(info: &Info, out: &mut Vec<u8>) -> Result<(), Refusal>
+    ensures ok { OnOk result (out.new.items ≡ out.old.items ++ info_line info.now) }
+    ensures err { OnErr result ((result ≡ Err Memory) × StartsWith out.new.items out.old.items) }
+{
+    let mut line = TextLine::new();
+    put_number(&mut line, info.fences.as_slice().len() as u64);
+    put_status(&mut line, info.status);
+    put_word(&mut line, info.name.as_bytes());
+    line.put_text(b"ok");
+    line.push_to(out)
+}
+
+#[inline(always)]
+fn push_fence(fence: &FenceRow, out: &mut Vec<u8>) -> Result<(), Refusal>
+    ensures ok { OnOk result (out.new.items ≡ out.old.items ++ fence_text fence.now) }
+    ensures err { OnErr result ((result ≡ Err Memory) × StartsWith out.new.items out.old.items) }
+{
+    let mut line = TextLine::new();
+    put_status(&mut line, fence.status);
+    put_number(&mut line, fence.point);
+    put_driver(&mut line, fence.driver);
+    put_word(&mut line, fence.timeline.as_bytes());
+    line.put_text(b"fence");
+    line.push_to(out)
+}
+
+/// Puts a space and the status before the line. Each arm copies a text whose length the compiler knows.
+#[inline(always)]
+fn put_status(line: &mut TextLine, status: Status)
+    requires { length line.old + 1 + STATUS_BYTES ≤ TEXT_LINE_BYTES }
+    ensures text { line.new ≡ 32 ∷ status_text status ++ line.old }
+    ensures len { length line.new ≤ length line.old + 1 + STATUS_BYTES }
+{
+    match status {
+        Status::Active => put_word(line, status_text(Status::Active)),
+        Status::Signalled => put_word(line, status_text(Status::Signalled)),
+        Status::Cancelled => put_word(line, status_text(Status::Cancelled)),
+    }
+}
+
+/// Puts a space and the driver's name before the line.
+#[inline(always)]
+fn put_driver(line: &mut TextLine, driver: Maker)
+    requires { length line.old + 1 + DRIVER_BYTES ≤ TEXT_LINE_BYTES }
+    ensures text { line.new ≡ 32 ∷ driver_of driver ++ line.old }
+    ensures len { length line.new ≤ length line.old + 1 + DRIVER_BYTES }
+{
+    match driver {
+        Maker::SwSync => put_word(line, b"sw_sync"),
+        Maker::Stub => put_word(line, b"stub"),
+    }
+}
+
+#[inline(never)]
+fn push_show(rows: &[ShowRow], out: &mut Vec<u8>) -> Result<(), Refusal>
+    ensures ok { OnOk result (out.new.items ≡ out.old.items ++ show_text rows.now) }
+    ensures err { OnErr result ((result ≡ Err Memory) × StartsWith out.new.items out.old.items) }
+{
+    push_value(rows.len() as u64, out)?;
+    show_text(rows, out)?;
+    Ok(())
+}
+
+#[inline(never)]
+fn push_report(report: &Report, out: &mut Vec<u8>) -> Result<(), Refusal>
+    ensures ok { OnOk result (out.new.items ≡ out.old.items ++ report_text report.now) }
+    ensures err { OnErr result ((result ≡ Err Memory) × StartsWith out.new.items out.old.items) }
+{
+    push_count(report.row_count(), out)?;
+    report_text(report, out)?;
+    Ok(())
+}
+
+/// Appends the number of a report's rows, and its rows of timelines, to `out`.
+///
+/// Fails only with Memory. `out` then begins with its old bytes.
+#[inline(never)]
+pub(crate) fn push_timelines(report: &Report, out: &mut Vec<u8>) -> Result<(), Refusal>
+    ensures ok { OnOk result (out.new.items
+        ≡ out.old.items ++ (value_line (row_count report.now) ++ flat_map timeline_text report.now.timelines)) }
+    ensures err { OnErr result ((result ≡ Err Memory) × StartsWith out.new.items out.old.items) }
+{
+    push_count(report.row_count(), out)?;
+    timelines_text(report.timelines.as_slice(), out)?;
+    Ok(())
+}
+
+#[inline(never)]
+fn push_count(count: u128, out: &mut Vec<u8>) -> Result<(), Refusal>
+    ensures ok { OnOk result (out.new.items ≡ out.old.items ++ value_line count) }
+    ensures err { OnErr result ((result ≡ Err Memory) × StartsWith out.new.items out.old.items) }
+{
+    let mut line = TextLine::new();
+    put_word(&mut line, Buffer::new().format(count).as_bytes());
+    line.put_text(b"ok");
+    line.push_to(out)
+}
+
+#[inline(never)]
+fn push_refusal(line: u32, refusal: Refusal, out: &mut Vec<u8>) -> Result<(), Refusal>
+    ensures ok { OnOk result (out.new.items ≡ out.old.items ++ refusal_text line refusal) }
+    ensures err { OnErr result ((result ≡ Err Memory) × StartsWith out.new.items out.old.items) }
+{
+    let mut text = TextLine::new();
+    put_refusal(&mut text, line, refusal);
+    text.push_to(out)
+}
+
+#[inline(always)]
+fn put_refusal(text: &mut TextLine, line: u32, refusal: Refusal)
+    requires { text.old ≡ 10 ∷ [] }
+    ensures { text.new ≡ refusal_text line refusal }
+{
+    put_details(text, line, refusal);
+    put_word(text, refusal.name().as_bytes());
+    put_number(text, u64::from(refusal.number()));
+    text.put_text(b"err");
+}
+
+/// Puts the details of a refusal, which follow its name, before the line feed.
+fn put_details(text: &mut TextLine, line: u32, refusal: Refusal)
+    requires { text.old ≡ 10 ∷ [] }
+    ensures text { text.new ≡ line_end (details line refusal) }
+    ensures len { length text.new ≤ length text.old + 32 }
+{
+    match refusal {
+        Refusal::Syntax | Refusal::LongLine => {
+            put_number(text, u64::from(line));
+            put_word(text, b"line");
+        }
+        Refusal::Limit(kind) => put_word(text, kind.word().as_bytes()),
+        _ => {}
+    }
+}
+
+/// Puts a space and the word before the line.
+#[inline(always)]
+fn put_word(line: &mut TextLine, word: &[u8])
+    requires { length line.old + length word.now + 1 ≤ TEXT_LINE_BYTES }
+    ensures text { line.new ≡ 32 ∷ word.now ++ line.old }
+    ensures len { length line.new ≡ length line.old + length word.now + 1 }
+{
+    line.put_text(word);
+    line.put_spaces(1);
+}
+
+/// Puts a space and the number before the line.
+#[inline(always)]
+fn put_number(line: &mut TextLine, number: u64)
+    requires { length line.old + NUMBER_WIDTH + 1 ≤ TEXT_LINE_BYTES }
+    ensures text { line.new ≡ 32 ∷ decimal number ++ line.old }
+    ensures len { length line.new ≤ length line.old + NUMBER_WIDTH + 1 }
+{
+    line.put_number(number);
+    line.put_spaces(1);
+}

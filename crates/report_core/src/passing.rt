@@ -1,0 +1,150 @@
+//! Appends an answer's text to the output, and writes the output once enough is pending. A report is passed on in
+//! pieces.
+ghost use Rattle.std.specs.Prelude.{◌≡◌, ◌⊎◌, ◌++◌, OnOk, OnErr, IfErr};
+ghost use Rattle.std.specs.List.{flat_map};
+ghost use Rattle.point_core.specs.declared.refusal.Refusal.TheVariants.{Write as WriteFault, Memory};
+ghost use Rattle.command_core.specs.Tables.{row_count};
+ghost use Rattle.report_core.specs.Row.{file_row_text};
+ghost use Rattle.report_core.specs.Tables.{timeline_text, buffer_text};
+ghost use Rattle.report_core.specs.Bytes.{AppendsFront, PassesOn};
+ghost use Rattle.report_core.specs.Answer.{value_line, report_text, text_of};
+
+use crate::answer::{push_owned, push_timelines};
+use crate::report::buffer_text;
+use crate::rows::file_row;
+use crate::writing::write_many;
+use command_core::{Answer, BufferRows, FileRow, Report};
+use point_core::Refusal;
+use std::io::Write;
+
+/// Appends the text of the answer of line `line` to `out`, and writes `out` if enough is pending. The text of a report
+/// is appended by its timelines, file by file and buffer by buffer, and is never stored as a whole.
+///
+/// Fails with Write if a write failed or took no byte, and with Memory if an allocation failed: then a prefix of the
+/// pending output and of the text is written.
+#[inline(always)]
+pub fn pass_answer<W: Write>(
+    line: u32,
+    answer: Answer,
+    out: &mut Vec<u8>,
+    writer: &mut W,
+) -> Result<(), Refusal>
+    ensures ok { OnOk result (PassesOn out.old.items out.new.items (text_of line answer)
+        (W.contents writer.old) (W.contents writer.new)) }
+    ensures err { OnErr result (AppendsFront (W.contents writer.old) (W.contents writer.new)
+        (out.old.items ++ text_of line answer)) }
+    ensures refusals { IfErr result (λ refusal. (refusal ≡ WriteFault) ⊎ (refusal ≡ Memory)) }
+{
+    match answer {
+        Answer::Report(report) => pass_report(&report, out, writer),
+        answer => pass_whole(line, answer, out, writer),
+    }
+}
+
+#[inline(always)]
+fn pass_whole<W: Write>(
+    line: u32,
+    answer: Answer,
+    out: &mut Vec<u8>,
+    writer: &mut W,
+) -> Result<(), Refusal>
+    ensures ok { OnOk result (PassesOn out.old.items out.new.items (text_of line answer)
+        (W.contents writer.old) (W.contents writer.new)) }
+    ensures err { OnErr result (AppendsFront (W.contents writer.old) (W.contents writer.new)
+        (out.old.items ++ text_of line answer)) }
+    ensures refusals { IfErr result (λ refusal. (refusal ≡ WriteFault) ⊎ (refusal ≡ Memory)) }
+{
+    push_owned(line, answer, out)?;
+    write_many(writer, out)?;
+    Ok(())
+}
+
+#[inline(never)]
+fn pass_report<W: Write>(report: &Report, out: &mut Vec<u8>, writer: &mut W) -> Result<(), Refusal>
+    ensures ok { OnOk result (PassesOn out.old.items out.new.items (report_text report.now)
+        (W.contents writer.old) (W.contents writer.new)) }
+    ensures err { OnErr result (AppendsFront (W.contents writer.old) (W.contents writer.new)
+        (out.old.items ++ report_text report.now)) }
+    ensures refusals { IfErr result (λ refusal. (refusal ≡ WriteFault) ⊎ (refusal ≡ Memory)) }
+{
+    pass_timelines(report, out, writer)?;
+    pass_files(report.files.as_slice(), out, writer)?;
+    pass_buffers(report.buffers.as_slice(), out, writer)?;
+    Ok(())
+}
+
+/// The number of the report's rows, and its rows of timelines.
+fn pass_timelines<W: Write>(
+    report: &Report,
+    out: &mut Vec<u8>,
+    writer: &mut W,
+) -> Result<(), Refusal>
+    ensures ok { OnOk result (PassesOn out.old.items out.new.items
+        (value_line (row_count report.now) ++ flat_map timeline_text report.now.timelines)
+        (W.contents writer.old) (W.contents writer.new)) }
+    ensures err { OnErr result (AppendsFront (W.contents writer.old) (W.contents writer.new)
+        (out.old.items ++ (value_line (row_count report.now) ++ flat_map timeline_text report.now.timelines))) }
+    ensures refusals { IfErr result (λ refusal. (refusal ≡ WriteFault) ⊎ (refusal ≡ Memory)) }
+{
+    push_timelines(report, out)?;
+    write_many(writer, out)?;
+    Ok(())
+}
+
+fn pass_files<W: Write>(files: &[FileRow], out: &mut Vec<u8>, writer: &mut W) -> Result<(), Refusal>
+    ensures ok { OnOk result (PassesOn out.old.items out.new.items (flat_map file_row_text files.now)
+        (W.contents writer.old) (W.contents writer.new)) }
+    ensures err { OnErr result (AppendsFront (W.contents writer.old) (W.contents writer.new)
+        (out.old.items ++ flat_map file_row_text files.now)) }
+    ensures refusals { IfErr result (λ refusal. (refusal ≡ WriteFault) ⊎ (refusal ≡ Memory)) }
+{
+    for file in files {
+        pass_file(file, out, writer)?;
+    }
+    Ok(())
+}
+
+fn pass_file<W: Write>(file: &FileRow, out: &mut Vec<u8>, writer: &mut W) -> Result<(), Refusal>
+    ensures ok { OnOk result (PassesOn out.old.items out.new.items (file_row_text file.now)
+        (W.contents writer.old) (W.contents writer.new)) }
+    ensures err { OnErr result (AppendsFront (W.contents writer.old) (W.contents writer.new)
+        (out.old.items ++ file_row_text file.now)) }
+    ensures refusals { IfErr result (λ refusal. (refusal ≡ WriteFault) ⊎ (refusal ≡ Memory)) }
+{
+    file_row(file, out)?;
+    write_many(writer, out)?;
+    Ok(())
+}
+
+fn pass_buffers<W: Write>(
+    buffers: &[BufferRows],
+    out: &mut Vec<u8>,
+    writer: &mut W,
+) -> Result<(), Refusal>
+    ensures ok { OnOk result (PassesOn out.old.items out.new.items (flat_map buffer_text buffers.now)
+        (W.contents writer.old) (W.contents writer.new)) }
+    ensures err { OnErr result (AppendsFront (W.contents writer.old) (W.contents writer.new)
+        (out.old.items ++ flat_map buffer_text buffers.now)) }
+    ensures refusals { IfErr result (λ refusal. (refusal ≡ WriteFault) ⊎ (refusal ≡ Memory)) }
+{
+    for buffer in buffers {
+        pass_buffer(buffer, out, writer)?;
+    }
+    Ok(())
+}
+
+fn pass_buffer<W: Write>(
+    buffer: &BufferRows,
+    out: &mut Vec<u8>,
+    writer: &mut W,
+) -> Result<(), Refusal>
+    ensures ok { OnOk result (PassesOn out.old.items out.new.items (buffer_text buffer.now)
+        (W.contents writer.old) (W.contents writer.new)) }
+    ensures err { OnErr result (AppendsFront (W.contents writer.old) (W.contents writer.new)
+        (out.old.items ++ buffer_text buffer.now)) }
+    ensures refusals { IfErr result (λ refusal. (refusal ≡ WriteFault) ⊎ (refusal ≡ Memory)) }
+{
+    buffer_text(buffer, out)?;
+    write_many(writer, out)?;
+    Ok(())
+}
