@@ -1,10 +1,12 @@
 -- Another request at the end of a history.
 use Rattle.std.proofs.Common.{◌≡◌, length, length-append, refl, sym, ap, ◌∙◌, subst, List, [], ◌∷◌, ◌++◌, None, Result, Ok, Err, OnOk, OnErr, arith}
+use Rattle.std.proofs.lemmas.List.Elements.{All-push}
 use Rattle.device_core.specs.declared.refusal.Refusal.{Refusal}
 use Rattle.device_core.specs.declared.request.Request.{Request}
 use Rattle.device_core.specs.declared.request.Answer.{Answer}
 use Rattle.device_core.specs.State.{DeviceState, objects_of}
 use Rattle.device_core.specs.Request.{after, cause_of, IsAnswer}
+use Rattle.device_core.specs.Requests.{Has32Bits, Have32Bits}
 use Rattle.device_core.specs.History.{World, world_after, world_from, world_of, empty_world, AreAccepted, HasHistory, history_after, history_of, AreAnswers}
 
 pub world_from-push : (history : List Request) (w : World) (r : Request) → world_from w (history ++ r ∷ []) ≡ world_after (world_from w history) r
@@ -39,12 +41,14 @@ pub record HasRun (d : DeviceState) (rs : List Request) (given : List (Result An
   pub answers : AreAnswers [] rs given
   pub stands : HasHistory d (history_of [] rs given)
   pub each : length rs ≡ length given
+  pub small : Have32Bits rs
 
-pub HasRun-push : {d : DeviceState} {rs : List Request} {given : List (Result Answer Refusal)} (e : DeviceState) (r : Request) (a : Result Answer Refusal) → HasRun d rs given → IsAnswer (objects_of d) r a → ((history : List Request) → HasHistory d history → HasHistory e (history_after history r a)) → HasRun e (rs ++ r ∷ []) (given ++ a ∷ [])
-HasRun-push {d} {rs} {given} e r a run answer stands = record {
+pub HasRun-push : {d : DeviceState} {rs : List Request} {given : List (Result Answer Refusal)} (e : DeviceState) (r : Request) (a : Result Answer Refusal) → HasRun d rs given → Has32Bits r → IsAnswer (objects_of d) r a → ((history : List Request) → HasHistory d history → HasHistory e (history_after history r a)) → HasRun e (rs ++ r ∷ []) (given ++ a ∷ [])
+HasRun-push {d} {rs} {given} e r a run small answer stands = record {
   answers = AreAnswers-push [] rs given r a run.answers (subst (λ o. IsAnswer o r a) run.stands.is answer);
   stands =
       let P : List Request → Type 0 = λ history. HasHistory e history in
       subst P (sym (history_of-push [] rs given r a run.each)) (stands (history_of [] rs given) run.stands);
   each = omega (arith, run.each, length-append {A = Request}, length-append {A = Result Answer Refusal});
+  small = All-push Has32Bits rs r run.small small;
 }

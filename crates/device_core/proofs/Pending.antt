@@ -105,7 +105,7 @@ fences-above d (f ∷ fs) each waits =
 fences-within : (d : Objects) (n : ℕ) (fs : List Fence) → n + 1 ≡ d.next → All (IsFence d) fs → All (Within 1 n) fs
 fences-within d n fs is each = All-weaker (IsFence d) (Within 1 n) (λ f its. let low = its.numbered in let high = its.given in (low, omega arith)) fs each
 
-points-are : (d : Objects) (fs : List Fence) (put : List Entry) → 1 ≤ d.next → Rising fs → All (IsFence d) fs → All (λ (f : Fence). is_pending f ≡ true) fs → AgreesAbove (reach_of d) (entries_in fs) put → map point_in fs ≡ pending_points (reach_of d) put 0
+pub points-are : (d : Objects) (fs : List Fence) (put : List Entry) → 1 ≤ d.next → Rising fs → All (IsFence d) fs → All (λ (f : Fence). is_pending f ≡ true) fs → AgreesAbove (reach_of d) (entries_in fs) put → map point_in fs ≡ pending_points (reach_of d) put 0
 points-are d fs put first rising each waits agrees =
     let reach = reach_of d in
     let long : length reach ≡ d.next - 1 = length-map-range_with_len (λ n. reached_by (d.timelines n)) 1 (d.next - 1) in

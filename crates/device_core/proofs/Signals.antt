@@ -317,7 +317,7 @@ one-told before w t point now f is k there sums h made its each =
     (All-nil (IsTold (before ++ r ∷ []) w.objects.next)))
 
 -- the fences of a merge and of an export are pending
-merged-pending : (fs gs : List Fence) → All (λ (g : Fence). is_pending g ≡ true) (merged fs gs)
+pub merged-pending : (fs gs : List Fence) → All (λ (g : Fence). is_pending g ≡ true) (merged fs gs)
 merged-pending fs gs = fold-All (λ (g : Fence). is_pending g ≡ true) (pending_of gs) (pending_of fs) (filter_passes is_pending fs) (filter_passes is_pending gs)
 
 merge-pending : (name : Text) (o p : Option FileState) (f : FileState) → merged_files name o p ≡ Some f → All (λ (g : Fence). is_pending g ≡ true) f.fences
@@ -417,7 +417,7 @@ first-of (Some s) rest = elim (cases_Bool s.is_cancelled) [
   | inr not ↦ rw not refl
 ]
 
-file-status : (told : Fence → Status) (fs : List Fence) → All (λ (g : Fence). status_before g.signal Signalled ≡ told g) fs → status_of fs ≡ first_status (map told fs)
+pub file-status : (told : Fence → Status) (fs : List Fence) → All (λ (g : Fence). status_before g.signal Signalled ≡ told g) fs → status_of fs ≡ first_status (map told fs)
 file-status told [] all = refl
 file-status told (g ∷ gs) all =
     let P : Fence → Type 0 = λ x. status_before x.signal Signalled ≡ told x in
@@ -425,20 +425,31 @@ file-status told (g ∷ gs) all =
     ∙ sym (first-of g.signal (map told gs))
     ∙ ap (λ s. first_status (s ∷ map told gs)) (All-head P g gs all)
 
+-- the fences of a file after a history
+pub record HaveSignalled (history : List Request) (n : ℕ) (f : FileState) : Type 0 where
+  pub statuses : All (λ (g : Fence). status_before g.signal Signalled ≡ point_status (world_of history).objects.timelines history (point_in g)) f.fences
+  pub times : All (λ (g : Fence). option_map (λ (s : Signal). s.at) g.signal ≡ reached_from n (point_in g) empty_world history) f.fences
+
+pub signals-history : (history : List Request) → AreAccepted empty_world history → (n : ℕ) (f : FileState) → (world_of history).objects.files n ≡ Some f → HaveSignalled history n f
+signals-history history accepted n f there =
+    let w = world_of history in
+    let told = (HasSignals-from history empty_world [] refl IsSound-empty accepted HasSums-empty (record { files = λ m g is. None≢Some g is; none = λ m p low. refl })).files n f there in
+    record {
+      statuses = all-statuses w history n f.fences (HasSums-history history accepted) ((IsSound-history history accepted).fences n f there).each told;
+      times = All-weaker (IsTold history n) (λ (g : Fence). option_map (λ (s : Signal). s.at) g.signal ≡ reached_from n (point_in g) empty_world history) (λ g its. its.time) f.fences told;
+    }
+
 pub ReportsFences-stands : (d : DeviceState) (history : List Request) → HasHistory d history → ReportsFences d history
 ReportsFences-stands d history had =
     let w = world_of history in
-    let sound = IsSound-history history had.accepted in
-    let sums = HasSums-history history had.accepted in
-    let told = HasSignals-from history empty_world [] refl IsSound-empty had.accepted HasSums-empty (record { files = λ n f is. None≢Some f is; none = λ n p low. refl }) in
     let timelines : w.objects.timelines ≡ timeline_at d = ap (λ (o : Objects). o.timelines) (sym had.is) in
     let there : (n : ℕ) (f : FileState) → file_at d n ≡ Some f → w.objects.files n ≡ Some f = λ n f is. sym (ap (λ (o : Objects). o.files n) had.is) ∙ is in
     let fences : (n : ℕ) (f : FileState) → file_at d n ≡ Some f → All (λ (g : Fence). status_before g.signal Signalled ≡ point_status (timeline_at d) history (point_in g)) f.fences = λ n f is.
     subst (λ ts. All (λ (g : Fence). status_before g.signal Signalled ≡ point_status ts history (point_in g)) f.fences) timelines
-    (all-statuses w history n f.fences sums (sound.fences n f (there n f is)).each (told.files n f (there n f is))) in
+    (signals-history history had.accepted n f (there n f is)).statuses in
     record {
       fences = fences;
       files = λ n f is. file-status (λ (g : Fence). point_status (timeline_at d) history (point_in g)) f.fences (fences n f is);
-      times = λ n f is. All-weaker (IsTold history n) (λ (g : Fence). option_map (λ (s : Signal). s.at) g.signal ≡ reached_from n (point_in g) empty_world history) (λ g its. its.time) f.fences (told.files n f (there n f is));
+      times = λ n f is. (signals-history history had.accepted n f (there n f is)).times;
       names = λ n f is. names-history history n f (there n f is);
     }

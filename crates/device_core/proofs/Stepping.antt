@@ -356,7 +356,7 @@ fits-overflow value is = elim (cases_lt value (2 ^ 64)) [
 ]
 
 -- the fence of a point that is asked for
-signal_pending : (value at now : ℕ) → not (is_some (cond (nat_le value at) (Some (signal_at now false)) None)) ≡ nat_lt at value
+pub signal_pending : (value at now : ℕ) → not (is_some (cond (nat_le value at) (Some (signal_at now false)) None)) ≡ nat_lt at value
 signal_pending value at now = elim (cases_lt at value) [
   | inl low ↦ rw (lt-leb value at low, lt-ltb at value low) refl
   | inr high ↦ rw (le-leb value at high, le-ltb at value high) refl
@@ -376,7 +376,7 @@ IsSound-fence w t point now k h there fits =
       }) (All-nil (IsFence w.objects));
     }
 
-IsSound-merged : (w : World) (name : Text) (a b : ℕ) (o p : Option FileState) → IsSound w → w.objects.files a ≡ o → w.objects.files b ≡ p
+pub IsSound-merged : (w : World) (name : Text) (a b : ℕ) (o p : Option FileState) → IsSound w → w.objects.files a ≡ o → w.objects.files b ≡ p
     → (f : FileState) → merged_files name o p ≡ Some f → AreFences w.objects f.fences × AgreesAbove (reach_of w.objects) (entries_in f.fences) (w.put a ++ w.put b)
 IsSound-merged w name a b None p h left right f is = None≢Some f is
 IsSound-merged w name a b (Some g) None h left right f is = None≢Some f is
@@ -396,7 +396,7 @@ IsSound-merged w name a b (Some g) (Some k) h left right f is =
     )
 
 -- the export of an open buffer
-IsSound-exported : (w : World) (buffer : ℕ) (u : Result Usage Refusal) (o : Option BufferState) → IsSound w → w.objects.buffers buffer ≡ o
+pub IsSound-exported : (w : World) (buffer : ℕ) (u : Result Usage Refusal) (o : Option BufferState) → IsSound w → w.objects.buffers buffer ≡ o
     → (f : FileState) → export_of w.objects.timelines u o ≡ Some f → AreFences w.objects f.fences × AgreesAbove (reach_of w.objects) (entries_in f.fences) (put_by_export u (w.put buffer))
 IsSound-exported w buffer (Err e) o h its f is = None≢Some f is
 IsSound-exported w buffer (Ok usage) None h its f is = None≢Some f is

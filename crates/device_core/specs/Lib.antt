@@ -16,3 +16,6 @@ pub mod Times
 pub mod Signals
 pub mod Headline
 pub mod Memory
+pub mod Requests
+pub mod Making
+pub mod Answered

@@ -1,5 +1,6 @@
 //! Theorems about all points, fences and values: each law is the contract of a function with an empty body.
-ghost use Rattle.std.specs.Prelude.{◌≡◌, ℕ, ◌+◌, ◌^◌, ◌<◌, ◌≤◌, ◌++◌, List, nat_lt, All, ◌↔◌, Some, true};
+ghost use Rattle.std.specs.Prelude.{◌≡◌, ℕ, ◌+◌, ◌^◌, ◌<◌, ◌≤◌, ◌++◌, List, nat_lt, All, ◌↔◌, Some, true, length, map};
+ghost use Rattle.std.specs.List.{range_with_len};
 ghost use Rattle.point_core.specs.declared.entry.Entry.{Entry};
 ghost use Rattle.point_core.specs.Reach.{IsAtLeast};
 ghost use Rattle.point_core.specs.Agreement.{AgreesAbove, IsReached};
@@ -10,6 +11,9 @@ ghost use Rattle.device_core.specs.declared.request.Request.{Request};
 ghost use Rattle.device_core.specs.History.{AreAccepted, empty_world, world_of, reach_of};
 ghost use Rattle.device_core.specs.Sound.{IsSound};
 ghost use Rattle.device_core.specs.State.{FileState};
+ghost use Rattle.device_core.specs.Headline.{reach_after};
+ghost use Rattle.device_core.specs.Requests.{kinds};
+ghost use Rattle.device_core.specs.Answered.{timeline_reach};
 ghost use Rattle.device_core.specs.Wrapping.{is_later, unwrapped};
 
 /// The kernel's comparison of 32 bits finds a point later than the value exactly if the 64-bit point that it represents
@@ -50,4 +54,10 @@ pub fn a_file_has_signalled_once_all_is_reached()
         (n : ℕ) (f : FileState) → (world_of history).objects.files n ≡ Some f →
         ((are_signalled f.fences ≡ true)
         ↔ IsReached ((world_of history).put n) 0 (reach_of (world_of history).objects)) }
+{}
+
+/// What the timelines have reached after a history is said by its increments, and by what is open.
+pub fn the_reach_is_of_the_increments()
+    ensures { (history : List Request) → AreAccepted empty_world history →
+        reach_after history ≡ map (timeline_reach history) (range_with_len 1 (length (kinds history))) }
 {}

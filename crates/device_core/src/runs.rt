@@ -3,6 +3,7 @@ ghost use Rattle.std.specs.Prelude.{◌≡◌, [], IfOk, IfErr};
 ghost use Rattle.device_core.specs.declared.refusal.Refusal.TheVariants.{NoMemory};
 ghost use Rattle.device_core.specs.History.{AreAnswers, HasHistory, history_of};
 ghost use Rattle.device_core.specs.Memory.{AreTrimmed, KeepsWhatIsAlive};
+ghost use Rattle.device_core.specs.Answered.{AreAnswered};
 ghost use Rattle.device_core.specs.Headline.{ReportsSums, ReportsWhatWasPut, ReportsBuffers, ReportsFences, ReportsNumbers, ReportsEachWaking};
 
 use crate::device::Device;
@@ -18,6 +19,7 @@ pub fn run(
     requests: &[Request],
 ) -> Result<(Device, Vec<Result<Answer, Refusal>>), Refusal>
     ensures answers { IfOk result (λ r. AreAnswers [] requests.now r.1.items) }
+    ensures told { IfOk result (λ r. AreAnswered [] requests.now r.1.items) }
     ensures stands { IfOk result (λ r. HasHistory r.0 (history_of [] requests.now r.1.items)) }
     ensures sums { IfOk result (λ r. ReportsSums r.0 (history_of [] requests.now r.1.items)) }
     ensures files { IfOk result (λ r. ReportsWhatWasPut r.0 (history_of [] requests.now r.1.items)) }

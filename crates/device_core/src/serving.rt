@@ -1,11 +1,13 @@
 //! `serve`: one request in, one answer out.
-ghost use Rattle.std.specs.Prelude.{◌≡◌, List, None, Ok, Err, OnOk, OnErr, IfOk, IfErr};
+ghost use Rattle.std.specs.Prelude.{◌≡◌, ◌<◌, ◌^◌, List, None, Ok, Err, OnOk, OnErr, IfOk, IfErr};
 ghost use Rattle.device_core.specs.declared.request.Request.{Request as Asked};
 ghost use Rattle.device_core.specs.declared.request.Request.TheVariants as request;
 ghost use Rattle.device_core.specs.State.{objects_of};
 ghost use Rattle.device_core.specs.Request.{IsAnswer, after};
 ghost use Rattle.device_core.specs.History.{HasHistory, history_after};
 ghost use Rattle.device_core.specs.Memory.{AreTrimmed};
+ghost use Rattle.device_core.specs.Requests.{Has32Bits, Have32Bits};
+ghost use Rattle.device_core.specs.Answered.{IsAnswered};
 
 use crate::device::Device;
 use crate::fence::Text;
@@ -23,8 +25,11 @@ impl Device {
         ensures done { OnOk result (objects_of self.new ≡ after (objects_of self.old) request) }
         ensures stands { (history : List Asked) →
             HasHistory self.old history → HasHistory self.new (history_after history request result) }
+        ensures told { (history : List Asked) →
+            HasHistory self.old history → Have32Bits history → IsAnswered history request result }
         ensures trimmed { (history : List Asked) →
             HasHistory self.old history → AreTrimmed self.new (history_after history request result) }
+        ensures small { Has32Bits request }
         ensures unchanged { OnErr result (self.new ≡ self.old) }
     {
         self.answer_to(request)
@@ -34,6 +39,7 @@ impl Device {
     fn answer_to(&mut self, request: Request) -> Result<Answer, Refusal>
         ensures answer { IsAnswer (objects_of self.old) request result }
         ensures done { OnOk result (objects_of self.new ≡ after (objects_of self.old) request) }
+        ensures small { Has32Bits request }
         ensures unchanged { OnErr result (self.new ≡ self.old) }
     {
         match request {
@@ -70,6 +76,7 @@ impl Device {
         ensures done { OnOk result
             (objects_of self.new ≡ after (objects_of self.old) (request.Fence timeline point now)) }
         ensures unchanged { OnErr result (self.new ≡ self.old) }
+        ensures small { point < 2 ^ 32 }
     {
         match self.fence(timeline, point, now) {
             Ok(number) => Ok(Answer::Number(number)),
