@@ -676,7 +676,7 @@ static void closings(bim_seat *seat, bim_seat *other)
  * has the points of its usage and the stronger ones. */
 static void boards(bim_seat *seat, bim_seat *other)
 {
-    bim_file writes = BIM_FILE_INIT, all = BIM_FILE_INIT, idle = BIM_FILE_INIT;
+    bim_file files[] = { BIM_FILE_INIT, BIM_FILE_INIT, BIM_FILE_INIT, BIM_FILE_INIT }, idle = BIM_FILE_INIT;
     int32_t status;
     uint64_t number;
 
@@ -688,32 +688,33 @@ static void boards(bim_seat *seat, bim_seat *other)
     EXPECT(bim_board_put(seat, 0, 4, 2, BIM_WRITE), BIM_NO_ENTRY);
     EXPECT(bim_board_export(&idle, seat, 0, BIM_BOOKKEEP), BIM_OK);
     EXPECT(bim_file_wait(&idle, seat, 1), BIM_OK);
-    EXPECT(bim_board_put(seat, 0, 3, 2, BIM_WRITE), BIM_OK);
-    EXPECT(bim_board_put(seat, 0, 3, 1, BIM_WRITE), BIM_OK);
-    EXPECT(bim_board_put(other, 0, 3, 3, BIM_READ), BIM_OK);
     EXPECT(bim_board_put(other, 0, 1, 9, BIM_KERNEL), BIM_OK);
+    for (int usage = BIM_KERNEL; usage <= BIM_BOOKKEEP; usage++)
+        EXPECT(bim_board_put(other, 0, 3, usage + 1, usage), BIM_OK);
+    EXPECT(bim_board_put(seat, 0, 3, 1, BIM_WRITE), BIM_OK);
 
-    EXPECT(bim_board_export(&writes, seat, 0, 4), BIM_FLAGS);
-    EXPECT(bim_board_export(&writes, seat, 0, -1), BIM_FLAGS);
-    EXPECT(bim_board_export(&writes, seat, 1, BIM_READ), BIM_NO_ENTRY);
-    EXPECT(bim_board_export(&writes, seat, SIZE_MAX, BIM_READ), BIM_NO_ENTRY);
-    HOLDS(writes.at == NULL);
-    EXPECT(bim_board_export(&writes, other, 0, BIM_WRITE), BIM_OK);
-    EXPECT(bim_board_export(&writes, other, 0, BIM_WRITE), BIM_EXISTS);
-    EXPECT(bim_board_export(&all, seat, 0, BIM_BOOKKEEP), BIM_OK);
+    EXPECT(bim_board_export(&files[0], seat, 0, 4), BIM_FLAGS);
+    EXPECT(bim_board_export(&files[0], seat, 0, -1), BIM_FLAGS);
+    EXPECT(bim_board_export(&files[0], seat, 1, BIM_READ), BIM_NO_ENTRY);
+    EXPECT(bim_board_export(&files[0], seat, SIZE_MAX, BIM_READ), BIM_NO_ENTRY);
+    HOLDS(files[0].at == NULL);
+    for (int usage = BIM_KERNEL; usage <= BIM_BOOKKEEP; usage++)
+        EXPECT(bim_board_export(&files[usage], seat, 0, usage), BIM_OK);
+    EXPECT(bim_board_export(&files[0], other, 0, BIM_WRITE), BIM_EXISTS);
     EXPECT(bim_seat_drive(seat, 3), BIM_OK);
-    EXPECT(bim_file_wait(&writes, seat, 1), BIM_TIMED_OUT);
-    EXPECT(bim_seat_inc(seat, 2, &number), BIM_OK);
-    EXPECT(bim_file_wait(&writes, seat, 1), BIM_OK);
-    EXPECT(bim_file_poll(&all, seat, &status), BIM_OK);
-    EXPECT(status, BIM_IS_ACTIVE);
-    EXPECT(bim_seat_inc(seat, 1, &number), BIM_OK);
-    EXPECT(bim_file_poll(&all, seat, &status), BIM_OK);
-    EXPECT(status, BIM_IS_SIGNALLED);
+    for (int usage = BIM_KERNEL; usage <= BIM_BOOKKEEP; usage++) {
+        EXPECT(bim_file_wait(&files[usage], seat, 1), BIM_TIMED_OUT);
+        EXPECT(bim_file_poll(&files[usage], seat, &status), BIM_OK);
+        EXPECT(status, BIM_IS_ACTIVE);
+        EXPECT(bim_seat_inc(seat, 1, &number), BIM_OK);
+        EXPECT(bim_file_wait(&files[usage], seat, 1), BIM_OK);
+        EXPECT(bim_file_poll(&files[usage], seat, &status), BIM_OK);
+        EXPECT(status, BIM_IS_SIGNALLED);
+    }
     EXPECT(bim_file_wait(&idle, seat, 1), BIM_OK);
     bim_file_close(&idle);
-    bim_file_close(&writes);
-    bim_file_close(&all);
+    for (int usage = BIM_KERNEL; usage <= BIM_BOOKKEEP; usage++)
+        bim_file_close(&files[usage]);
 }
 
 static void words(void)
