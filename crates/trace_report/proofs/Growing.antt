@@ -1,4 +1,4 @@
--- Pages to which events are added one after another, and which go on to a writer.
+-- Pages to which events are added one after another, and which are passed to a writer.
 use Rattle.std.proofs.Common.{◌≡◌, ℕ, List, [], ◌∷◌, ◌++◌, Option, refl, sym, ap, ◌∙◌, append_assoc, append-nil, subst}
 use Rattle.std.specs.List.{flat_map, filter_map}
 use Rattle.std.specs.Io.KnownBytes.{Appends}
@@ -11,7 +11,8 @@ use Rattle.trace_report.specs.declared.events.event.TraceEvent.{TraceEvent}
 use Rattle.trace_report.specs.declared.events.event.TraceEvent.TheVariants as event
 use Rattle.trace_report.specs.declared.events.page.Page.{Page}
 use Rattle.trace_report.specs.TraceEvent.{end_text, event_text, head}
-use Rattle.trace_report.specs.EventPage.{Carries, Grows, Passes, HasWritten, WritesDocument}
+use Rattle.trace_report.specs.Block.{Passes}
+use Rattle.trace_report.specs.EventPage.{Carries, Grows, HasWritten, WritesDocument}
 use Rattle.trace_report.specs.Slices.{Shown, slice_in}
 
 -- an event is one slice or none
@@ -70,8 +71,8 @@ written-more old new earlier slices before after w g = record {
   appended = w.appended;
 }
 
--- after some went on to the writer
-pub written-passed : (old new : Page) (slices : List Shown) (before now after : Option (List ℕ)) → HasWritten old slices before now → Passes old new now after → HasWritten new slices before after
+-- after some bytes were passed to the writer
+pub written-passed : (old new : Page) (slices : List Shown) (before now after : Option (List ℕ)) → HasWritten old slices before now → Passes old.held.items new.held.items now after → HasWritten new slices before after
 written-passed old new slices before now after w p = record {
   events = w.events;
   written = w.written ++ p.written;
@@ -109,14 +110,14 @@ written-as page slices same before after is w = subst (λ s. HasWritten page s b
 pub carries-none : (page : Page) (now : Option (List ℕ)) → Carries page page [] now now
 carries-none page now = λ earlier before w. written-as page earlier (earlier ++ []) before now (sym (append-nil earlier)) w
 
--- after the slices of the next element of a list, some went on to the writer
-pub carried-next : {X : Type 0} (f : X → List Shown) (done : List X) (x : X) (a b c d : Page) (now after last : Option (List ℕ)) → Carries a b (flat_map f done) now after → Grows b c (f x) → Passes c d after last → Carries a d (flat_map f (done ++ x ∷ [])) now last
+-- after the slices of the next element of a list, and after some bytes were passed to the writer
+pub carried-next : {X : Type 0} (f : X → List Shown) (done : List X) (x : X) (a b c d : Page) (now after last : Option (List ℕ)) → Carries a b (flat_map f done) now after → Grows b c (f x) → Passes c.held.items d.held.items after last → Carries a d (flat_map f (done ++ x ∷ [])) now last
 carried-next f done x a b c d now after last carried grown passed = λ earlier before w.
     let more = written-more b c (earlier ++ flat_map f done) (f x) before after (carried earlier before w) grown in
     let is = append_assoc earlier (flat_map f done) (f x) ∙ ap (λ s. earlier ++ s) (sym (flat_map-append f done (x ∷ []) ∙ ap (λ s. flat_map f done ++ s) (append-nil (f x)))) in
     written-passed c d (earlier ++ flat_map f (done ++ x ∷ [])) before after last (written-as c ((earlier ++ flat_map f done) ++ f x) (earlier ++ flat_map f (done ++ x ∷ [])) before after is more) passed
 
--- the end of a document, after what is pending and the waits that go on
+-- the end of a document, after pending fences and unfinished waits
 pub ended : (a b c d e : Page) (slices fences waits : List Shown) (time : ℕ) (before w1 w2 w3 w4 : Option (List ℕ)) → HasWritten a slices before w1 → Grows a b [] → Carries b c fences w1 w2 → Carries c d waits w2 w3 → e.held.items ≡ d.held.items ++ end_text time → Appends w3 w4 e.held.items → WritesDocument (slices ++ (fences ++ waits)) time before w4
 ended a b c d e slices fences waits time before w1 w2 w3 w4 written lost pending going ending appended =
     let first = written-as b (slices ++ []) slices before w1 (append-nil slices) (written-more a b slices [] before w1 written lost) in

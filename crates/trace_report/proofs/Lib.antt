@@ -1,6 +1,5 @@
 mod Writing
 mod Finding
-mod Adding
 mod Growing
 mod Showing
 mod Ordering

@@ -23,7 +23,8 @@ use Rattle.trace_core.proofs.Tracking.{named, none-given, none-seen}
 use Rattle.trace_report.specs.declared.events.page.Page.{Page}
 use Rattle.trace_report.specs.declared.events.Written.TheVariants.{Document, NoEvents}
 use Rattle.trace_report.specs.TraceEvent.{head}
-use Rattle.trace_report.specs.EventPage.{Grows, HasWritten, Passes}
+use Rattle.trace_report.specs.Block.{Passes}
+use Rattle.trace_report.specs.EventPage.{Grows, HasWritten}
 use Rattle.trace_report.specs.Slices.{slices_during, slices_of, slices_within}
 use Rattle.trace_report.specs.Events.{Adds, EndsTrace, HasAdded, HasAddedAll, HasEachPending, WritesTrace}
 use Rattle.trace_report.proofs.Finding.{is-alive}
@@ -53,7 +54,7 @@ module _ (span : Span) (old new : Reading) (told t : Tracker) (page more : Page)
     none = λ none. same.1 ∙ h.none none;
   }
 
-  within : (seen : Seen) (printed : Printed) → HasRead span new t text later (Event printed ∷ h.items) ((seen, printed) ∷ h.seen) → stage_at span ((seen, printed) ∷ h.seen) ≡ Within → (middle : Page) → Grows page middle (slices_of (name_or_none t.drivers seen.sighting.key.driver) (name_or_none t.timelines seen.sighting.key.timeline) seen) → Passes middle more now after → HasAdded span new t more text later before after
+  within : (seen : Seen) (printed : Printed) → HasRead span new t text later (Event printed ∷ h.items) ((seen, printed) ∷ h.seen) → stage_at span ((seen, printed) ∷ h.seen) ≡ Within → (middle : Page) → Grows page middle (slices_of (name_or_none t.drivers seen.sighting.key.driver) (name_or_none t.timelines seen.sighting.key.timeline) seen) → Passes middle.held.items more.held.items now after → HasAdded span new t more text later before after
   within seen printed read stage middle grown passed =
       let is = ap (λ s. slices_within span h.seen ++ s) (same-slices t printed h.items seen h.seen read.tracks ∙ sym (ap (λ s. slices_during s (seen, printed)) stage)) in
       record {

@@ -1,4 +1,4 @@
--- A document to which tokens are added one after another, and which goes on to a writer.
+-- A document to which tokens are added one after another, and which is passed to a writer.
 use Rattle.std.proofs.Common.{◌≡◌, ℕ, List, [], ◌∷◌, ◌++◌, Option, false, refl, sym, ap, ◌∙◌, append_assoc, append-nil, subst}
 use Rattle.std.specs.Io.KnownBytes.{Appends}
 use Rattle.std.proofs.KnownBytes.{Appends-nil, Appends-trans}
@@ -7,8 +7,9 @@ use Rattle.json.specs.Token.{Token}
 use Rattle.json.specs.Print.{ends, print, print_from}
 use Rattle.json.specs.Written.{Written}
 use Rattle.json.proofs.Printed.Tokens.{ends_push, print_from-append}
-use Rattle.trace_report.specs.Part.{Adds}
-use Rattle.trace_report.specs.Document.{Carries, EndsDocument, Grows, HasWritten, Passes}
+use Rattle.text_core.specs.JsonPart.{Adds}
+use Rattle.trace_report.specs.Block.{Passes}
+use Rattle.trace_report.specs.Document.{Carries, EndsDocument, Grows, HasWritten}
 
 pub grows-none : (text : Written) → Grows text text
 grows-none text = record { tokens = []; added = (sym (append-nil text.tokens), refl) }
@@ -55,7 +56,7 @@ carried-none text now = λ before h. h
 print-opened : (ts : List Token) (t : Token) (more : List Token) → ends t ≡ false → print ((ts ++ t ∷ []) ++ more) ≡ print (ts ++ t ∷ []) ++ print more
 print-opened ts t more opens = print_from-append false (ts ++ t ∷ []) more ∙ ap (λ b. print (ts ++ t ∷ []) ++ print_from b more) (ends_push false ts t ∙ opens)
 
--- after a token after which no comma is due some went on to the writer
+-- after a token after which no comma is due, and after some bytes were passed to the writer
 pub carried-opened : (old opened new : Written) (t : Token) (held rest : List ℕ) (now after : Option (List ℕ)) → ends t ≡ false → Adds old opened (t ∷ []) → held ≡ opened.before ++ print opened.tokens → Passes held rest now after → new.before ≡ rest → new.tokens ≡ [] → Carries old new now after
 carried-opened old opened new t held rest now after opens added is passed before-is tokens-are = λ before h.
     let more = written-more old opened before now h (record { tokens = t ∷ []; added = added }) in

@@ -4,27 +4,21 @@ use Rattle.std.specs.Io.KnownBytes.{Appends}
 use Rattle.json.specs.Token.{Token}
 use Rattle.json.specs.Print.{print}
 use Rattle.json.specs.Written.{Written}
-use Rattle.trace_report.specs.Part.{Adds}
+use Rattle.text_core.specs.JsonPart.{Adds}
 
 -- some tokens were added
 pub record Grows (old new : Written) : Type 0 where
   pub tokens : List Token
   pub added : Adds old new tokens
 
--- the first of the held bytes were written, and the others are held
-pub record Passes (held rest : List ℕ) (before after : Option (List ℕ)) : Type 0 where
-  pub written : List ℕ
-  pub whole : held ≡ written ++ rest
-  pub appended : Appends before after written
-
--- Of the document of these tokens the first bytes were written, and the others are held, whatever tokens follow.
+-- The first bytes of these tokens' text were written, and the others are held, whatever tokens follow.
 pub record HasWritten (text : Written) (before after : Option (List ℕ)) : Type 0 where
   pub tokens : List Token
   pub written : List ℕ
   pub whole : (more : List Token) → print (tokens ++ more) ≡ written ++ (text.before ++ print (text.tokens ++ more))
   pub appended : Appends before after written
 
--- what was written or held before is so still, and tokens may have been added
+-- bytes that were written or held are so still, and tokens may have been added
 abbrev pub Carries : Written → Written → Option (List ℕ) → Option (List ℕ) → Type 0
 Carries old new now after = (before : Option (List ℕ)) → HasWritten old before now → HasWritten new before after
 
@@ -34,6 +28,6 @@ pub record WritesDocument (before after : Option (List ℕ)) : Type 0 where
   pub tokens : List Token
   pub appended : Appends before after (print tokens ++ 10 ∷ [])
 
--- what is held was written, and ends the document
+-- the held bytes were written, and end the document
 abbrev pub EndsDocument : Written → Option (List ℕ) → Option (List ℕ) → Type 0
 EndsDocument text now after = (before : Option (List ℕ)) → HasWritten text before now → WritesDocument before after

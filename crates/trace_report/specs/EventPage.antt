@@ -1,4 +1,4 @@
--- What is added to a page, and what goes on to a writer.
+-- Events that are added to a page, and bytes that are passed to a writer.
 use Rattle.std.specs.Prelude.{◌≡◌, ℕ, List, ◌++◌, Option}
 use Rattle.std.specs.List.{flat_map, filter_map}
 use Rattle.std.specs.Io.KnownBytes.{Appends}
@@ -12,12 +12,6 @@ pub record Grows (old new : Page) (slices : List Shown) : Type 0 where
   pub events : List TraceEvent
   pub grown : new.held.items ≡ old.held.items ++ flat_map event_text events
   pub are : filter_map slice_in events ≡ slices
-
--- the first of the held bytes were written, and the others are held
-pub record Passes (old new : Page) (before after : Option (List ℕ)) : Type 0 where
-  pub written : List ℕ
-  pub whole : old.held.items ≡ written ++ new.held.items
-  pub appended : Appends before after written
 
 -- The head and the texts of events with these slices were written, except for the bytes that are held.
 pub record HasWritten (page : Page) (slices : List Shown) (before after : Option (List ℕ)) : Type 0 where
@@ -33,7 +27,7 @@ pub record WritesDocument (slices : List Shown) (time : ℕ) (before after : Opt
   pub are : filter_map slice_in events ≡ slices
   pub appended : Appends before after (document events time)
 
--- what was written or held before is so still, and events with these slices were added
+-- bytes that were written or held are so still, and events with these slices were added
 abbrev pub Carries : Page → Page → List Shown → Option (List ℕ) → Option (List ℕ) → Type 0
 Carries old new slices now after =
     (earlier : List Shown) → (before : Option (List ℕ)) →

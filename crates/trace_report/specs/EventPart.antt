@@ -1,9 +1,8 @@
 -- The parts of a trace event, as the tokens that a reader finds in it.
-use Rattle.std.specs.Prelude.{◌≡◌, ℕ, List, [], ◌∷◌, ◌++◌, codes, decimal}
+use Rattle.std.specs.Prelude.{ℕ, List, [], ◌∷◌, ◌++◌, codes, decimal}
 use Rattle.std.specs.List.{flat_map}
 use Rattle.std.specs.Str.Lossy.{utf8_lossy}
 use Rattle.json.specs.Token.{Token, begin_object, end_object, key, string, number}
-use Rattle.json.specs.Written.{Written}
 use Rattle.trace_core.specs.declared.sighting.FenceKey.{FenceKey}
 use Rattle.trace_report.specs.declared.events.part.Names.{Names}
 use Rattle.trace_report.specs.declared.events.part.Part.{Part}
@@ -51,7 +50,3 @@ tokens_in (part.Fence fence_key names) = fence fence_key names
 
 abbrev pub tokens_of : List Part → List Token
 tokens_of parts = flat_map tokens_in parts
-
--- these tokens were written, and nothing else
-abbrev pub Adds : Written → Written → List Token → Type 0
-Adds old new tokens = (new.tokens ≡ old.tokens ++ tokens) × (new.before ≡ old.before)

@@ -1,4 +1,4 @@
--- What is written of a trace.
+-- The document that is written for a trace.
 use Rattle.std.specs.Prelude.{◌≡◌, ℕ, true, List, [], ◌++◌, Option, Contains}
 use Rattle.std.specs.List.{IsDistinct}
 use Rattle.trace_core.specs.Item.{Meaning}
@@ -21,14 +21,15 @@ use Rattle.trace_core.specs.Tracker.{Saw, Tracks}
 use Rattle.trace_report.specs.declared.events.page.Page.{Page}
 use Rattle.trace_report.specs.declared.events.Written.{Written}
 use Rattle.trace_report.specs.declared.events.Written.TheVariants.{Document, NoEvents}
-use Rattle.trace_report.specs.EventPage.{Grows, HasWritten, Passes, WritesDocument}
+use Rattle.trace_report.specs.Block.{Passes}
+use Rattle.trace_report.specs.EventPage.{Grows, HasWritten, WritesDocument}
 use Rattle.trace_report.specs.Slices.{Shown, slices_left, slices_of, slices_within}
 
 -- the slices of an event of the window are added, and nothing for any other piece
 abbrev pub Adds : Next → Tracker → Page → Page → Option (List ℕ) → Option (List ℕ) → Type 0
 Adds (next.Within seen) t old new before after =
-    (middle : Page) × Grows old middle (slices_of (name_or_none t.drivers seen.sighting.key.driver) (name_or_none t.timelines seen.sighting.key.timeline) seen)
-    × Passes middle new before after
+    (middle : Page) × Grows old middle (slices_of (name_or_none t.drivers seen.sighting.key.driver)
+    (name_or_none t.timelines seen.sighting.key.timeline) seen) × Passes middle.held.items new.held.items before after
 Adds (next.Before seen) t old new before after = (new ≡ old) × (after ≡ before)
 Adds (next.Lost events) t old new before after = (new ≡ old) × (after ≡ before)
 Adds next.StartedLate t old new before after = (new ≡ old) × (after ≡ before)
@@ -66,7 +67,8 @@ EndsTrace drivers timelines steps slices before after =
 
 -- A document has the slices of the window's events, in order, then the slices of what is pending at its end, and no others.
 -- Without an event up to the end of the window nothing is written.
-abbrev pub IsOutput : Span → Names → Names → List Step → List (Seen × Printed) → Option (List ℕ) → Option (List ℕ) → Written → Type 0
+abbrev pub IsOutput : Span → Names → Names → List Step → List (Seen × Printed)
+    → Option (List ℕ) → Option (List ℕ) → Written → Type 0
 IsOutput span drivers timelines steps seen before after NoEvents = (seen ≡ []) × (after ≡ before)
 IsOutput span drivers timelines steps seen before after Document =
     (seen ≡ [] → ⊥) × EndsTrace drivers timelines steps (slices_within span seen) before after

@@ -1,5 +1,5 @@
+pub mod Block
 pub mod Found
-pub mod Part
 pub mod Document
 pub mod EventPart
 pub mod TraceEvent

@@ -1,4 +1,4 @@
--- Which slices come of an event, and when they begin and end.
+-- The slices that an event makes, and when they begin and end.
 use Rattle.std.specs.Prelude.{◌+◌, ◌≤◌, nat_lt, if◌then◌else◌, ℕ, max, min, List, [], ◌∷◌, ◌++◌, Option, None, Some}
 use Rattle.std.specs.List.{flat_map}
 use Rattle.trace_core.specs.declared.event.Event.{Event}
@@ -132,13 +132,13 @@ left_by pending.Unnumbered drivers timelines time fence = []
 abbrev pub left_of : Names → Names → ℕ → Pending → List Shown
 left_of drivers timelines time fence = left_by fence.kind drivers timelines time fence
 
--- a wait that goes on at the end
+-- a wait that is unfinished at the end
 abbrev pub unfinished : Names → Names → ℕ → Wait → List Shown
 unfinished drivers timelines time wait =
     of_wait wait.pid (name_or_none drivers wait.key.driver) (name_or_none timelines wait.key.timeline)
     (record { kind = kind.Unfinished; begin = wait.start; end = max time wait.start; key = wait.key }) ∷ []
 
--- the slices of what is pending and of waits that go on, at the end
+-- the slices of pending fences and of unfinished waits, at the end
 abbrev pub slices_left : Names → Names → ℕ → List Pending → List Wait → List Shown
 slices_left drivers timelines time fences waits =
     flat_map (left_of drivers timelines time) fences ++ flat_map (unfinished drivers timelines time) waits

@@ -1,9 +1,11 @@
-// The report as one JSON document.
+//! The report as one JSON document, written in blocks while it is made.
+//!
+//! `Carries` says that what was written and what is held are together the text of some tokens; each function that writes upholds
+//! it. `report` calls `write_json`.
 ghost use Rattle.std.specs.Prelude.{OnOk};
 ghost use Rattle.trace_report.specs.Document.{Carries, Grows, WritesDocument};
 
 mod counts;
-mod part;
 mod pending;
 mod timelines;
 mod waits;
@@ -12,11 +14,11 @@ mod writing;
 use crate::found::Found;
 use crate::table::Content;
 use counts::{add_events, add_summary, add_totals};
-use part::Part;
 use pending::write_pending;
 use point_core::Refusal;
 use std::alloc::{AllocError, Global};
 use std::io::Write;
+use text_core::JsonPart;
 use timelines::{write_contexts, write_timelines};
 use trace_core::{FenceKey, Tracker};
 use waits::write_waits;
@@ -60,7 +62,7 @@ fn write_members<W: Write>(
 fn add_counts(document: &mut Document, tracker: &Tracker) -> Result<(), AllocError>
     ensures grown { OnOk result (Grows document.old.text document.new.text) }
 {
-    document.add(&[Part::BeginObject])?;
+    document.add(&[JsonPart::BeginObject])?;
     add_summary(document, &tracker.summary)?;
     add_events(document, tracker)?;
     Ok(())
@@ -79,7 +81,7 @@ fn write_fences<W: Write>(
     write_pending(document, "hangs", tracker, found.hangs.as_slice(), writer)?;
     let unknown = found.unknown.as_slice();
     write_pending(document, "not_known", tracker, unknown, writer)?;
-    document.add(&[Part::EndObject])?;
+    document.add(&[JsonPart::EndObject])?;
     Ok(())
 }
 
@@ -89,13 +91,13 @@ fn add_fence(document: &mut Document, tracker: &Tracker, key: &FenceKey) -> Resu
 {
     let (driver, timeline) = tracker.names(&key.timeline_key());
     document.add(&[
-        Part::Key("driver"),
-        Part::Name(driver),
-        Part::Key("timeline"),
-        Part::Name(timeline),
-        Part::Key("context"),
-        Part::Number(u64::from(key.context)),
-        Part::Key("seqno"),
-        Part::Number(u64::from(key.seqno)),
+        JsonPart::Key("driver"),
+        JsonPart::Name(driver),
+        JsonPart::Key("timeline"),
+        JsonPart::Name(timeline),
+        JsonPart::Key("context"),
+        JsonPart::Number(u64::from(key.context)),
+        JsonPart::Key("seqno"),
+        JsonPart::Number(u64::from(key.seqno)),
     ])
 }

@@ -1,4 +1,7 @@
-// A trace from a reader, and its trace events to a writer.
+//! A trace as trace events, the JSON that Perfetto opens, written while the trace is read.
+//!
+//! `HasAdded` says that the slices of the events so far are in the page or were written; `add_window` upholds it for each step of
+//! the reading. `fencectl trace --perfetto` calls `events_of_trace`.
 ghost use Rattle.std.specs.Prelude.{◌≡◌, ◌⊎◌, [], List, ℕ, Option, IfOk, IfErr, OnOk};
 ghost use Rattle.point_core.specs.declared.refusal.Refusal.TheVariants.{Read as ReadFault, Write as WriteFault, Memory};
 ghost use Rattle.trace_core.specs.Tracker.{Tracks};

@@ -1,4 +1,4 @@
-// The fences that are pending at the end of a trace.
+//! `Found`: the fences that are pending at the end of a trace, grouped by timeline. `AreHangs` says that those that hang are exact.
 ghost use Rattle.std.specs.Prelude.{◌≡◌, ◌++◌, [], ◌∷◌, List, map, IfOk, OnOk};
 ghost use Rattle.std.specs.List.{filter};
 ghost use Rattle.std.specs.List.Sorted.{IsPermutation};

@@ -1,4 +1,5 @@
-// A trace from a reader, to its end.
+//! Reads a trace to its end, for a report.
+
 use point_core::Refusal;
 use std::io::Read;
 use trace_core::{Reading, Span, Tracker};

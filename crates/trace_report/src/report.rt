@@ -1,4 +1,4 @@
-// A report of a trace.
+//! A report of a trace: reads it to its end, and writes it as text or as JSON. `fencectl trace` calls `report_trace`.
 ghost use Rattle.std.specs.Prelude.{◌≡◌, IfOk, OnOk};
 ghost use Rattle.trace_report.specs.declared.report.Form.TheVariants.{Json};
 ghost use Rattle.trace_report.specs.declared.report.Outcome.TheVariants.{NoEvents};

@@ -1,11 +1,12 @@
-// What a report is of.
+//! `Content`: all that both forms of a report read, and how many fences of each timeline are pending.
+
 use crate::found::{Found, Listed};
 use indexmap::IndexMap;
 use point_core::Refusal;
 use std::alloc::Global;
 use trace_core::{TimelineKey, Tracker};
 
-/// What a report is of.
+/// The tracker, the pending fences and their counts, which every part of a report may read.
 #[derive(Clone, Copy)]
 pub(crate) struct Content<'a> {
     pub(crate) tracker: &'a Tracker,
@@ -20,7 +21,7 @@ pub(crate) struct Timelines {
 }
 
 impl Timelines {
-    /// Of the timelines of what was found.
+    /// Counts the fences that were found, by timeline.
     ///
     /// Fails only with `Memory`.
     pub(crate) fn new(alloc: Global, found: &Found) -> Result<Timelines, Refusal> {

@@ -1,13 +1,15 @@
-// The report as text.
+//! The report as text, for a terminal. Its bytes are tested (`tests/traces`), not proved. `report` calls `write_text`.
+
 mod page;
 
 use crate::found::{Found, Listed};
 use crate::table::Content;
-use page::{Page, Part};
+use page::Page;
 use point_core::Refusal;
 use std::alloc::Global;
 use std::io::Write;
-use trace_core::{FenceKey, Pending, Summary, Tally, TimelineKey, Tracker, Wait};
+use text_core::Part;
+use trace_core::{Delay, FenceKey, Pending, Summary, Tally, TimelineKey, Tracker, Wait};
 
 /// Writes the counts of what was read, the fences that hang, the waits, the broken rules, and what each timeline did.
 ///
@@ -117,7 +119,7 @@ fn add_losses(page: &mut Page, summary: &Summary) {
 }
 
 /// A line, where there are any.
-fn add_count(page: &mut Page, count: u64, text: &str) {
+fn add_count(page: &mut Page, count: u64, text: &'static str) {
     if count > 0 {
         page.add(&[
             Part::Text("  "),
@@ -205,7 +207,7 @@ fn add_waiters(page: &mut Page, tracker: &Tracker, key: &FenceKey) {
 fn add_waiter(page: &mut Page, wait: &Wait) {
     page.add(&[
         Part::Text("    "),
-        Part::Name(wait.task.as_bytes()),
+        Part::Literal(wait.task.as_bytes()),
         Part::Text("-"),
         Part::Number(u64::from(wait.pid)),
         Part::Text(" waits for it since "),
@@ -218,9 +220,9 @@ fn add_waiter(page: &mut Page, wait: &Wait) {
 fn add_fence(page: &mut Page, tracker: &Tracker, key: &FenceKey) {
     let (driver, timeline) = tracker.names(&key.timeline_key());
     page.add(&[
-        Part::Name(driver),
+        Part::Literal(driver),
         Part::Text("/"),
-        Part::Name(timeline),
+        Part::Literal(timeline),
         Part::Text(" context "),
         Part::Number(u64::from(key.context)),
         Part::Text(" seqno "),
@@ -279,17 +281,17 @@ fn add_wait(page: &mut Page, tracker: &Tracker, wait: &Wait, length: u64) {
         Part::Text("  "),
         Part::Seconds(length),
         Part::Text(" s "),
-        Part::Name(wait.task.as_bytes()),
+        Part::Literal(wait.task.as_bytes()),
         Part::Text("-"),
         Part::Number(u64::from(wait.pid)),
         Part::Text(" for "),
     ]);
     add_fence(page, tracker, &wait.key);
-    page.add(&[
-        Part::Text(" since "),
-        Part::Seconds(wait.start),
-        Part::Text("\n"),
-    ]);
+    add_since(page, wait.start);
+}
+
+fn add_since(page: &mut Page, time: u64) {
+    page.add(&[Part::Text(" since "), Part::Seconds(time), Part::Text("\n")]);
 }
 
 fn add_broken(page: &mut Page, total: &Tally) {
@@ -343,12 +345,11 @@ fn add_timeline(
     pending: u64,
 ) {
     let (driver, timeline) = tracker.names(key);
-    let delay = tracker.delays.delay(key);
     page.add(&[
         Part::Text("  "),
-        Part::Name(driver),
+        Part::Literal(driver),
         Part::Text("/"),
-        Part::Name(timeline),
+        Part::Literal(timeline),
         Part::Text(": "),
         Part::Number(tally.contexts),
         Part::Text(" contexts, "),
@@ -359,6 +360,11 @@ fn add_timeline(
         Part::Number(pending),
         Part::Text(" pending; median "),
     ]);
+    add_delay(page, &tracker.delays.delay(key));
+}
+
+/// The seconds from making or emitting to signalling.
+fn add_delay(page: &mut Page, delay: &Delay) {
     page.add(&[
         Part::Seconds(delay.median),
         Part::Text(", 95 % "),

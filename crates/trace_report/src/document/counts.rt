@@ -1,11 +1,11 @@
-// What was read, and what all fences did.
+//! The members on what was read, and on what all fences did.
 ghost use Rattle.std.specs.Prelude.{OnOk};
 ghost use Rattle.trace_report.specs.Document.{Grows};
 
-use crate::document::part::Part;
 use crate::document::writing::Document;
 use crate::found::Found;
 use std::alloc::AllocError;
+use text_core::JsonPart;
 use trace_core::{Clock, Summary, Tally, Tracker};
 
 /// What was read, and what was lost.
@@ -42,18 +42,18 @@ fn add_losses(document: &mut Document, summary: &Summary) -> Result<(), AllocErr
     ensures grown { OnOk result (Grows document.old.text document.new.text) }
 {
     document.add(&[
-        Part::Key("lost"),
-        Part::BeginObject,
-        Part::Key("markers"),
-        Part::Number(summary.loss_markers),
-        Part::Key("events"),
-        Part::Number(summary.lost_events),
+        JsonPart::Key("lost"),
+        JsonPart::BeginObject,
+        JsonPart::Key("markers"),
+        JsonPart::Number(summary.loss_markers),
+        JsonPart::Key("events"),
+        JsonPart::Number(summary.lost_events),
     ])?;
     add_overwritten(document, summary)?;
     document.add(&[
-        Part::Key("unnumbered"),
-        Part::Number(summary.unnumbered_losses),
-        Part::EndObject,
+        JsonPart::Key("unnumbered"),
+        JsonPart::Number(summary.unnumbered_losses),
+        JsonPart::EndObject,
     ])?;
     Ok(())
 }
@@ -66,7 +66,7 @@ fn add_overwritten(document: &mut Document, summary: &Summary) -> Result<(), All
         return document.add(&[]);
     };
     let lost = counts.written.saturating_sub(counts.in_buffer);
-    document.add(&[Part::Key("by_header"), Part::Number(lost)])
+    document.add(&[JsonPart::Key("by_header"), JsonPart::Number(lost)])
 }
 
 /// How many events of each kind there were.
@@ -74,7 +74,7 @@ pub(crate) fn add_events(document: &mut Document, tracker: &Tracker) -> Result<(
     ensures grown { OnOk result (Grows document.old.text document.new.text) }
 {
     let events = tracker.ledger.total().events;
-    document.add(&[Part::Key("events"), Part::BeginObject])?;
+    document.add(&[JsonPart::Key("events"), JsonPart::BeginObject])?;
     document.add_numbers(&[
         ("init", events.init),
         ("emit", events.emit),
@@ -85,7 +85,7 @@ pub(crate) fn add_events(document: &mut Document, tracker: &Tracker) -> Result<(
         ("destroy", events.destroy),
         ("all", tracker.ledger.events()),
     ])?;
-    document.add(&[Part::EndObject])?;
+    document.add(&[JsonPart::EndObject])?;
     Ok(())
 }
 
@@ -100,7 +100,7 @@ pub(crate) fn add_totals(
     let unknown = found.unknown.len() as u64;
     let hangs = found.hangs.len() as u64;
     let fences = hangs.saturating_add(unknown);
-    document.add(&[Part::Key("totals"), Part::BeginObject])?;
+    document.add(&[JsonPart::Key("totals"), JsonPart::BeginObject])?;
     document.add_numbers(&[
         ("inits", total.events.init),
         ("signalled", total.events.signaled),
@@ -129,6 +129,6 @@ pub(crate) fn add_faults(document: &mut Document, tally: &Tally) -> Result<(), A
         ("signalled_twice", tally.signalled_twice),
         ("overtaken", tally.overtaken),
     ])?;
-    document.add(&[Part::EndObject])?;
+    document.add(&[JsonPart::EndObject])?;
     Ok(())
 }

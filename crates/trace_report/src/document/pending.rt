@@ -1,14 +1,14 @@
-// The fences that are pending, and the tasks that wait for them.
+//! The members on fences that are pending, and on the tasks that wait for them.
 ghost use Rattle.std.specs.Prelude.{OnOk};
 ghost use Rattle.trace_report.specs.Document.{Carries};
 
 use crate::document::add_fence;
-use crate::document::part::Part;
 use crate::document::waits::add_task;
 use crate::document::writing::Document;
 use crate::found::Listed;
 use point_core::Refusal;
 use std::io::Write;
+use text_core::JsonPart;
 use trace_core::{FenceKey, Tracker, Wait};
 
 /// The member of that name, with the fences.
@@ -22,11 +22,11 @@ pub(crate) fn write_pending<W: Write>(
     ensures carried { OnOk result (Carries document.old.text document.new.text
         (W.contents writer.old) (W.contents writer.new)) }
 {
-    document.add(&[Part::Key(name), Part::BeginArray])?;
+    document.add(&[JsonPart::Key(name), JsonPart::BeginArray])?;
     for fence in pending {
         write_fence(document, tracker, fence, writer)?;
     }
-    document.add(&[Part::EndArray])?;
+    document.add(&[JsonPart::EndArray])?;
     Ok(())
 }
 
@@ -40,11 +40,14 @@ fn write_fence<W: Write>(
         (W.contents writer.old) (W.contents writer.new)) }
 {
     let key = listed.fence.key;
-    document.open(&Part::BeginObject, writer)?;
+    document.open(&JsonPart::BeginObject, writer)?;
     add_fence(document, tracker, &key)?;
-    document.add(&[Part::Key("since_us"), Part::Number(listed.fence.since)])?;
+    document.add(&[
+        JsonPart::Key("since_us"),
+        JsonPart::Number(listed.fence.since),
+    ])?;
     write_waiters(document, tracker, &key, writer)?;
-    document.add(&[Part::EndObject])?;
+    document.add(&[JsonPart::EndObject])?;
     Ok(())
 }
 
@@ -58,11 +61,11 @@ fn write_waiters<W: Write>(
     ensures carried { OnOk result (Carries document.old.text document.new.text
         (W.contents writer.old) (W.contents writer.new)) }
 {
-    document.add(&[Part::Key("waiters"), Part::BeginArray])?;
+    document.add(&[JsonPart::Key("waiters"), JsonPart::BeginArray])?;
     for (_, wait) in tracker.waits.open().iter() {
         write_waiter(document, key, wait, writer)?;
     }
-    document.add(&[Part::EndArray])?;
+    document.add(&[JsonPart::EndArray])?;
     Ok(())
 }
 
@@ -79,7 +82,7 @@ fn write_waiter<W: Write>(
     if wait.key != *key {
         return Ok(());
     }
-    document.open(&Part::BeginObject, writer)?;
+    document.open(&JsonPart::BeginObject, writer)?;
     add_task(document, wait)?;
     Ok(())
 }

@@ -1,14 +1,14 @@
-// What each timeline and each context did.
+//! The members on what each timeline and each context did.
 ghost use Rattle.std.specs.Prelude.{OnOk};
 ghost use Rattle.trace_report.specs.Document.{Carries, Grows};
 
 use crate::document::counts::add_faults;
-use crate::document::part::Part;
 use crate::document::writing::Document;
 use crate::table::Content;
 use point_core::Refusal;
 use std::alloc::AllocError;
 use std::io::Write;
+use text_core::JsonPart;
 use trace_core::{Context, ContextKey, Tally, TimelineKey, Tracker};
 
 /// The member on timelines.
@@ -21,26 +21,25 @@ pub(crate) fn write_timelines<W: Write>(
         (W.contents writer.old) (W.contents writer.new)) }
 {
     let timelines = content.tracker.ledger.timelines();
-    document.add(&[Part::Key("per_timeline_name"), Part::BeginObject])?;
+    document.add(&[JsonPart::Key("per_timeline_name"), JsonPart::BeginObject])?;
     for (key, tally) in timelines.by_key().iter() {
-        write_timeline(document, content, key, tally, writer)?;
+        let (driver, timeline) = content.tracker.names(key);
+        document.open(&JsonPart::Pair(driver, timeline), writer)?;
+        add_timeline(document, content, key, tally)?;
     }
-    document.add(&[Part::EndObject])?;
+    document.add(&[JsonPart::EndObject])?;
     Ok(())
 }
 
-fn write_timeline<W: Write>(
+/// The object of a timeline.
+fn add_timeline(
     document: &mut Document,
     content: Content<'_>,
     key: &TimelineKey,
     tally: &Tally,
-    writer: &mut W,
-) -> Result<(), Refusal>
-    ensures carried { OnOk result (Carries document.old.text document.new.text
-        (W.contents writer.old) (W.contents writer.new)) }
+) -> Result<(), AllocError>
+    ensures grown { OnOk result (Grows document.old.text document.new.text) }
 {
-    let (driver, timeline) = content.tracker.names(key);
-    document.open(&Part::TimelineKey(driver, timeline), writer)?;
     add_counts(document, tally, content.timelines.pending(key))?;
     add_delay(document, content.tracker, key)?;
     add_faults(document, tally)?;
@@ -51,15 +50,15 @@ fn add_counts(document: &mut Document, tally: &Tally, pending: u64) -> Result<()
     ensures grown { OnOk result (Grows document.old.text document.new.text) }
 {
     document.add(&[
-        Part::BeginObject,
-        Part::Key("contexts"),
-        Part::Number(tally.contexts),
-        Part::Key("inits"),
-        Part::Number(tally.events.init),
-        Part::Key("signalled"),
-        Part::Number(tally.events.signaled),
-        Part::Key("pending"),
-        Part::Number(pending),
+        JsonPart::BeginObject,
+        JsonPart::Key("contexts"),
+        JsonPart::Number(tally.contexts),
+        JsonPart::Key("inits"),
+        JsonPart::Number(tally.events.init),
+        JsonPart::Key("signalled"),
+        JsonPart::Number(tally.events.signaled),
+        JsonPart::Key("pending"),
+        JsonPart::Number(pending),
     ])
 }
 
@@ -92,12 +91,12 @@ pub(crate) fn write_contexts<W: Write>(
         (W.contents writer.old) (W.contents writer.new)) }
 {
     let contexts = tracker.ledger.contexts();
-    document.add(&[Part::Key("contexts"), Part::BeginArray])?;
+    document.add(&[JsonPart::Key("contexts"), JsonPart::BeginArray])?;
     for (key, context) in contexts.by_key().iter() {
-        document.open(&Part::BeginObject, writer)?;
+        document.open(&JsonPart::BeginObject, writer)?;
         add_context(document, tracker, key, context)?;
     }
-    document.add(&[Part::EndArray])?;
+    document.add(&[JsonPart::EndArray])?;
     Ok(())
 }
 
@@ -113,10 +112,10 @@ fn add_context(
     let (driver, timeline) = tracker.names(&key.timeline_key());
     let events = context.tally.events;
     document.add(&[
-        Part::Key("driver"),
-        Part::Name(driver),
-        Part::Key("timeline"),
-        Part::Name(timeline),
+        JsonPart::Key("driver"),
+        JsonPart::Name(driver),
+        JsonPart::Key("timeline"),
+        JsonPart::Name(timeline),
     ])?;
     document.add_numbers(&[
         ("context", u64::from(key.context)),

@@ -1,14 +1,14 @@
-// The waits that go on, and sums of the waits that ended.
+//! The members on waits: the longest, the unfinished, and sums by timeline.
 ghost use Rattle.std.specs.Prelude.{OnOk};
 ghost use Rattle.trace_report.specs.Document.{Carries, Grows};
 
 use crate::document::add_fence;
-use crate::document::part::Part;
 use crate::document::writing::Document;
 use point_core::Refusal;
 use std::alloc::AllocError;
 use std::io::Write;
-use trace_core::{TimelineKey, Tracker, Wait, WaitSum};
+use text_core::JsonPart;
+use trace_core::{Tracker, Wait, WaitSum};
 
 /// The member on waits.
 pub(crate) fn write_waits<W: Write>(
@@ -19,12 +19,12 @@ pub(crate) fn write_waits<W: Write>(
     ensures carried { OnOk result (Carries document.old.text document.new.text
         (W.contents writer.old) (W.contents writer.new)) }
 {
-    document.add(&[Part::Key("waits"), Part::BeginObject])?;
+    document.add(&[JsonPart::Key("waits"), JsonPart::BeginObject])?;
     add_counts(document, tracker)?;
-    write_longest(document, tracker, writer)?;
+    add_longest(document, tracker)?;
     write_open(document, tracker, writer)?;
     write_sums(document, tracker, writer)?;
-    document.add(&[Part::EndObject])?;
+    document.add(&[JsonPart::EndObject])?;
     Ok(())
 }
 
@@ -44,21 +44,16 @@ fn add_counts(document: &mut Document, tracker: &Tracker) -> Result<(), AllocErr
     ])
 }
 
-/// The longest waits that ended.
-fn write_longest<W: Write>(
-    document: &mut Document,
-    tracker: &Tracker,
-    writer: &mut W,
-) -> Result<(), Refusal>
-    ensures carried { OnOk result (Carries document.old.text document.new.text
-        (W.contents writer.old) (W.contents writer.new)) }
+/// The longest waits that ended, which are few.
+fn add_longest(document: &mut Document, tracker: &Tracker) -> Result<(), AllocError>
+    ensures grown { OnOk result (Grows document.old.text document.new.text) }
 {
-    document.add(&[Part::Key("longest"), Part::BeginArray])?;
+    document.add(&[JsonPart::Key("longest"), JsonPart::BeginArray])?;
     for wait in tracker.waits.longest() {
-        document.open(&Part::BeginObject, writer)?;
+        document.add(&[JsonPart::BeginObject])?;
         add_wait(document, tracker, wait, wait.length)?;
     }
-    document.add(&[Part::EndArray])?;
+    document.add(&[JsonPart::EndArray])?;
     Ok(())
 }
 
@@ -71,13 +66,13 @@ fn write_open<W: Write>(
     ensures carried { OnOk result (Carries document.old.text document.new.text
         (W.contents writer.old) (W.contents writer.new)) }
 {
-    document.add(&[Part::Key("unfinished"), Part::BeginArray])?;
+    document.add(&[JsonPart::Key("unfinished"), JsonPart::BeginArray])?;
     for (_, wait) in tracker.waits.open().iter() {
-        document.open(&Part::BeginObject, writer)?;
+        document.open(&JsonPart::BeginObject, writer)?;
         let length = tracker.latest().saturating_sub(wait.start);
         add_wait(document, tracker, wait, length)?;
     }
-    document.add(&[Part::EndArray])?;
+    document.add(&[JsonPart::EndArray])?;
     Ok(())
 }
 
@@ -91,7 +86,7 @@ fn add_wait(
     ensures grown { OnOk result (Grows document.old.text document.new.text) }
 {
     add_fence(document, tracker, &wait.key)?;
-    document.add(&[Part::Key("us"), Part::Number(length)])?;
+    document.add(&[JsonPart::Key("us"), JsonPart::Number(length)])?;
     add_task(document, wait)?;
     Ok(())
 }
@@ -101,13 +96,13 @@ pub(crate) fn add_task(document: &mut Document, wait: &Wait) -> Result<(), Alloc
     ensures grown { OnOk result (Grows document.old.text document.new.text) }
 {
     document.add(&[
-        Part::Key("pid"),
-        Part::Number(u64::from(wait.pid)),
-        Part::Key("start_us"),
-        Part::Number(wait.start),
-        Part::Key("task"),
-        Part::Name(wait.task.as_bytes()),
-        Part::EndObject,
+        JsonPart::Key("pid"),
+        JsonPart::Number(u64::from(wait.pid)),
+        JsonPart::Key("start_us"),
+        JsonPart::Number(wait.start),
+        JsonPart::Key("task"),
+        JsonPart::Name(wait.task.as_bytes()),
+        JsonPart::EndObject,
     ])
 }
 
@@ -121,30 +116,24 @@ fn write_sums<W: Write>(
         (W.contents writer.old) (W.contents writer.new)) }
 {
     let name = "by_timeline_count_total_longest_us";
-    document.add(&[Part::Key(name), Part::BeginObject])?;
+    document.add(&[JsonPart::Key(name), JsonPart::BeginObject])?;
     for (key, sum) in tracker.waits.by_timeline().iter() {
-        write_sum(document, tracker, key, sum, writer)?;
+        let (driver, timeline) = tracker.names(key);
+        document.open(&JsonPart::Pair(driver, timeline), writer)?;
+        add_sum(document, sum)?;
     }
-    document.add(&[Part::EndObject])?;
+    document.add(&[JsonPart::EndObject])?;
     Ok(())
 }
 
-fn write_sum<W: Write>(
-    document: &mut Document,
-    tracker: &Tracker,
-    key: &TimelineKey,
-    sum: &WaitSum,
-    writer: &mut W,
-) -> Result<(), Refusal>
-    ensures carried { OnOk result (Carries document.old.text document.new.text
-        (W.contents writer.old) (W.contents writer.new)) }
+fn add_sum(document: &mut Document, sum: &WaitSum) -> Result<(), AllocError>
+    ensures grown { OnOk result (Grows document.old.text document.new.text) }
 {
-    let (driver, timeline) = tracker.names(key);
-    document.add(&[Part::TimelineKey(driver, timeline)])?;
-    document.open(&Part::BeginArray, writer)?;
-    document.add_number(sum.count)?;
-    document.add_number(sum.total)?;
-    document.add_number(sum.longest)?;
-    document.add(&[Part::EndArray])?;
-    Ok(())
+    document.add(&[
+        JsonPart::BeginArray,
+        JsonPart::Number(sum.count),
+        JsonPart::Number(sum.total),
+        JsonPart::Number(sum.longest),
+        JsonPart::EndArray,
+    ])
 }

@@ -1,19 +1,20 @@
-// A JSON document on its way to a writer.
+//! `Document`: a JSON document on its way to a writer.
+//!
+//! The kit's writer knows whether a comma is due only by what it holds, so bytes are written only after a token after which none
+//! can be due (`open`).
 ghost use Rattle.std.specs.Prelude.{◌≡◌, ◌++◌, ◌∷◌, [], IfOk, OnOk, false};
 ghost use Rattle.json.specs.Print.{ends, print};
-ghost use Rattle.trace_report.specs.Part.{token_of};
-ghost use Rattle.trace_report.specs.Document.{Carries, EndsDocument, Grows, Passes};
+ghost use Rattle.text_core.specs.JsonPart.{token_of};
+ghost use Rattle.trace_report.specs.Document.{Carries, EndsDocument, Grows};
 
-use crate::document::part::{Part, put, put_all, put_number};
+use crate::block::write_block;
 use json::Writer;
 use point_core::Refusal;
 use report_core::write_whole;
 use std::alloc::{AllocError, Global};
 use std::io::Write;
 use std::mem;
-
-/// The bytes that are held at least before they are written.
-const BLOCK_BYTES: usize = 16384;
+use text_core::{JsonPart, put, put_all};
 
 /// A JSON document on its way to a writer.
 #[derive(Drop)]
@@ -23,7 +24,7 @@ pub(crate) struct Document {
 }
 
 impl Document {
-    /// Nothing was written. It takes no memory.
+    /// An empty document. Does not allocate.
     pub(crate) fn new(alloc: Global) -> Document
         ensures before { result.text.before ≡ [] }
         ensures tokens { result.text.tokens ≡ [] }
@@ -37,19 +38,10 @@ impl Document {
     /// Adds the parts, one after another.
     ///
     /// Fails only with `Memory`.
-    pub(crate) fn add(&mut self, parts: &[Part<'_>]) -> Result<(), AllocError>
+    pub(crate) fn add(&mut self, parts: &[JsonPart<'_>]) -> Result<(), AllocError>
         ensures grown { OnOk result (Grows self.old.text self.new.text) }
     {
         put_all(self.alloc, &mut self.text, parts)
-    }
-
-    /// Adds a number.
-    ///
-    /// Fails only with `Memory`.
-    pub(crate) fn add_number(&mut self, number: u64) -> Result<(), AllocError>
-        ensures grown { OnOk result (Grows self.old.text self.new.text) }
-    {
-        put_number(&mut self.text, number)
     }
 
     /// Adds members that are numbers.
@@ -59,7 +51,7 @@ impl Document {
         ensures grown { OnOk result (Grows self.old.text self.new.text) }
     {
         for (name, number) in members {
-            self.add(&[Part::Key(name), Part::Number(*number)])?;
+            self.add(&[JsonPart::Key(name), JsonPart::Number(*number)])?;
         }
         Ok(())
     }
@@ -67,15 +59,19 @@ impl Document {
     /// Adds a part after which no comma can be due, and writes what is held where it is a block.
     ///
     /// Fails with `Memory`, and with `Write` where the writer fails.
-    pub(crate) fn open<W: Write>(&mut self, part: &Part<'_>, writer: &mut W) -> Result<(), Refusal>
+    pub(crate) fn open<W: Write>(
+        &mut self,
+        part: &JsonPart<'_>,
+        writer: &mut W,
+    ) -> Result<(), Refusal>
         requires opens { ends (token_of part.now) ≡ false }
         ensures carried { OnOk result (Carries self.old.text self.new.text
             (W.contents writer.old) (W.contents writer.new)) }
     {
         put(self.alloc, &mut self.text, part)?;
-        let held = self.take();
-        let rest = write_block(held, writer)?;
-        self.text = Writer::new(rest);
+        let mut held = self.take();
+        write_block(&mut held, writer)?;
+        self.text = Writer::new(held);
         Ok(())
     }
 
@@ -105,19 +101,4 @@ fn with_line_feed(text: Vec<u8>) -> Result<Vec<u8>, AllocError>
     let mut text = text;
     text.extend_from_slice(b"\n")?;
     Ok(text)
-}
-
-/// Writes what is held where it is a block. Gives what is held after it.
-///
-/// Fails only with `Write`.
-fn write_block<W: Write>(held: Vec<u8>, writer: &mut W) -> Result<Vec<u8>, Refusal>
-    ensures passed { IfOk result (λ rest. Passes held.items rest.items (W.contents writer.old) (W.contents writer.new)) }
-{
-    if held.len() < BLOCK_BYTES {
-        return Ok(held);
-    }
-    let mut held = held;
-    write_whole(writer, held.as_slice())?;
-    held.clear();
-    Ok(held)
 }

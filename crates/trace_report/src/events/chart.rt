@@ -1,4 +1,6 @@
-// The trace events that come of a trace's records.
+//! `Chart`: the slices, arrows and marks of a trace's events, added to the page as they end.
+//!
+//! Each method's `Grows` says which slices it adds; names of rows, arrows and losses add none.
 ghost use Rattle.std.specs.Prelude.{◌≡◌, ◌⊎◌, [], ◌∷◌, ◌++◌, List, ℕ, Option, IfOk, IfErr, OnOk, if◌then◌else◌};
 ghost use Rattle.std.specs.List.{IsDistinct, flat_map};
 ghost use Rattle.std.specs.Map.{keys_of};
@@ -376,8 +378,8 @@ impl Chart {
         Ok(())
     }
 
-    /// Adds the losses since the last event, the fences that are pending, the waits that go on, and the end of the document.
-    /// Writes all.
+    /// Adds the losses since the last event, the pending fences, the unfinished waits and the end of the document, and writes
+    /// all.
     pub(crate) fn finish<W: Write>(
         &mut self,
         tracker: &Tracker,

@@ -1,6 +1,6 @@
-// Trace events, as their format has them.
+//! `TraceEvent`: an object of the trace event format, by `specs/TraceEvent.antt`. The page makes its bytes.
 ghost use Rattle.std.specs.Prelude.{◌≡◌, ◌++◌, OnOk, IfOk};
-ghost use Rattle.trace_report.specs.EventPart.{Adds};
+ghost use Rattle.text_core.specs.JsonPart.{Adds};
 ghost use Rattle.trace_report.specs.TraceEvent.{broken_tokens, category_of, end_text, end_tokens, event_text, event_tokens};
 ghost use Rattle.trace_report.specs.TraceEvent.{flow_begin_tokens, flow_end_tokens, lost_tokens, named_tokens, order_tokens};
 ghost use Rattle.trace_report.specs.TraceEvent.{rule_name, slice_tokens};

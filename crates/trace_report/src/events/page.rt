@@ -1,20 +1,18 @@
-// Trace events on their way to a writer.
+//! `Page`: trace events on their way to a writer. It holds text only, which is written in blocks.
 ghost use Rattle.std.specs.Prelude.{◌≡◌, ◌++◌, [], IfOk, IfErr, OnOk, option_to_list};
 ghost use Rattle.std.specs.Io.KnownBytes.{Appends};
 ghost use Rattle.point_core.specs.declared.refusal.Refusal.TheVariants.{Write as WriteFault};
 ghost use Rattle.trace_report.specs.TraceEvent.{end_text, head};
-ghost use Rattle.trace_report.specs.EventPage.{Grows, Passes};
+ghost use Rattle.trace_report.specs.Block.{Passes};
+ghost use Rattle.trace_report.specs.EventPage.{Grows};
 ghost use Rattle.trace_report.specs.Slices.{slice_in};
 
+use crate::block::{write_block, write_held};
 use crate::events::event::{TraceEvent, push_end, push_event};
 use point_core::Refusal;
-use report_core::write_whole;
 use std::alloc::{AllocError, Global};
 use std::io::Write;
 use std::mem;
-
-/// The bytes that are held at least before they are written.
-const BLOCK_BYTES: usize = 16384;
 
 /// Trace events on their way to a writer.
 #[derive(Drop)]
@@ -57,13 +55,10 @@ impl Page {
     /// Writes what is held where it is a block.
     pub(crate) fn write_block<W: Write>(&mut self, writer: &mut W) -> Result<(), Refusal>
         ensures refusals { IfErr result (λ e. e ≡ WriteFault) }
-        ensures passed { OnOk result (Passes self.old self.new (W.contents writer.old) (W.contents writer.new)) }
+        ensures passed { OnOk result (Passes self.old.held.items self.new.held.items
+            (W.contents writer.old) (W.contents writer.new)) }
     {
-        if self.held.len() < BLOCK_BYTES {
-            return Ok(());
-        }
-        self.write(writer)?;
-        Ok(())
+        write_block(&mut self.held, writer)
     }
 
     /// Writes what is held.
@@ -72,8 +67,6 @@ impl Page {
         ensures written { OnOk result (Appends (W.contents writer.old) (W.contents writer.new) self.old.held.items) }
         ensures none { OnOk result (self.new.held.items ≡ []) }
     {
-        write_whole(writer, self.held.as_slice())?;
-        self.held.clear();
-        Ok(())
+        write_held(&mut self.held, writer)
     }
 }

@@ -1,14 +1,15 @@
-// The parts of a trace event.
-ghost use Rattle.std.specs.Prelude.{◌≡◌, ◌++◌, OnOk, [], ◌∷◌, codes};
+//! `Part`: members of a trace event's object, each with its tokens (`specs/EventPart.antt`).
+ghost use Rattle.std.specs.Prelude.{◌≡◌, ◌++◌, OnOk, codes};
 ghost use Rattle.std.specs.Str.Lossy.{utf8_lossy};
 ghost use Rattle.std.specs.String.{string_bytes};
-ghost use Rattle.json.specs.Token.{string};
-ghost use Rattle.trace_report.specs.EventPart.{Adds, arguments_begin, arrow, at, count, fence, point_text};
+ghost use Rattle.text_core.specs.JsonPart.{Adds};
+ghost use Rattle.trace_report.specs.EventPart.{arguments_begin, arrow, at, count, fence, point_text};
 ghost use Rattle.trace_report.specs.EventPart.{text, tokens_in, tokens_of};
 
 use itoa::Buffer;
 use json::Writer;
 use std::alloc::{AllocError, Global};
+use text_core::put_lossy;
 use trace_core::FenceKey;
 
 /// A row: a thread of a process, by their numbers.
@@ -142,22 +143,6 @@ fn put_name(alloc: Global, writer: &mut Writer, name: &str, value: &[u8]) -> Res
     writer.key(name)?;
     put_lossy(alloc, writer, value)?;
     Ok(())
-}
-
-fn put_lossy(alloc: Global, writer: &mut Writer, name: &[u8]) -> Result<(), AllocError>
-    ensures added { OnOk result (Adds writer.old writer.new (string (utf8_lossy name.now) ∷ [])) }
-{
-    match str::from_utf8(name) {
-        Ok(text) => writer.string(text),
-        Err(_) => put_replaced(alloc, writer, name),
-    }
-}
-
-fn put_replaced(alloc: Global, writer: &mut Writer, name: &[u8]) -> Result<(), AllocError>
-    ensures added { OnOk result (Adds writer.old writer.new (string (utf8_lossy name.now) ∷ [])) }
-{
-    let text = String::from_utf8_lossy(alloc, name)?;
-    writer.string(text.as_str())
 }
 
 fn put_point(alloc: Global, writer: &mut Writer, key: &FenceKey) -> Result<(), AllocError>

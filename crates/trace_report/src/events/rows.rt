@@ -1,4 +1,5 @@
-// Rows, on which no two slices overlap.
+//! `Rows`: rows on which no two slices overlap, as Perfetto needs. A row keeps the end of its last slice; a slice gets a row that
+//! ended before it begins.
 ghost use Rattle.std.specs.Prelude.{◌≡◌, IfOk, IfErr};
 ghost use Rattle.point_core.specs.declared.refusal.Refusal.TheVariants.{Memory};
 ghost use Rattle.trace_report.specs.Rows.{process_of};
@@ -18,7 +19,7 @@ const PIDS: u64 = 4_194_304;
 /// Rows that show no thread of the kernel have this number or a greater one.
 const ROWS: u64 = 8_388_608;
 
-/// What has rows of its own.
+/// The owner of rows.
 #[derive(Clone, Copy, PartialEq, Eq, Hash)]
 pub(crate) enum Track {
     /// A timeline: the fences of its first context, and of its contexts that have one point.
@@ -57,7 +58,7 @@ struct Used {
     thread: u64,
 }
 
-/// The row of a slice, and what is new of it.
+/// The row of a slice, and whether the row is new.
 #[derive(Clone, Copy)]
 pub(crate) struct Place {
     pub(crate) row: Row,
@@ -75,7 +76,7 @@ pub(crate) struct Rows {
 }
 
 impl Rows {
-    /// No rows. It takes no memory.
+    /// No rows. Does not allocate.
     pub(crate) fn new(alloc: Global) -> Rows {
         Rows {
             tracks: IndexSet::new(alloc),
@@ -83,8 +84,7 @@ impl Rows {
         }
     }
 
-    /// A row of the track on which each slice ended before this one begins: of several, the one that was left last, and a new
-    /// one if there is none.
+    /// A row of the track on which each slice ended before `begin`: the one that was left last, or a new one if there is none.
     pub(crate) fn place(&mut self, track: Track, begin: u64, end: u64) -> Result<Place, Refusal>
         ensures process { IfOk result (λ place. place.row.process ≡ process_of track) }
         ensures memory { IfErr result (λ e. e ≡ Memory) }
@@ -113,7 +113,7 @@ impl Rows {
         })
     }
 
-    /// Takes away the row of the track on which a slice ended last before that time. Gives its number.
+    /// Takes away the row of the track that was left last before `begin`, and answers its number.
     fn take_free(&mut self, track: u64, begin: u64) -> Option<u64> {
         let row = self.free(track, begin)?;
         self.used.remove(&row);

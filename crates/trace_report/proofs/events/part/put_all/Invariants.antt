@@ -1,5 +1,6 @@
 use Rattle.std.proofs.Common.{take}
-use Rattle.trace_report.specs.EventPart.{Adds, tokens_of}
+use Rattle.text_core.specs.JsonPart.{Adds}
+use Rattle.trace_report.specs.EventPart.{tokens_of}
 use Rattle.trace_report.proofs.events.part.put_all.Given as goal
 
 abbrev pub invariant-loop-part : goal.invariant-loop-part

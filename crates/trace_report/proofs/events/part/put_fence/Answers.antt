@@ -1,7 +1,7 @@
 use Rattle.std.proofs.Common.{◌≡◌, ◌++◌, codes}
 use Rattle.std.specs.Str.Lossy.{utf8_lossy}
 use Rattle.trace_report.specs.EventPart.{count, text}
-use Rattle.trace_report.proofs.Adding.{Adds-then}
+use Rattle.text_core.proofs.Adding.{Adds-then}
 use Rattle.trace_report.proofs.events.part.put_fence.Goals as goal
 
 pub returns : goal.returns

@@ -1,6 +1,0 @@
-use Rattle.std.proofs.Common.{take}
-use Rattle.trace_report.specs.Part.{Adds, tokens_of}
-use Rattle.trace_report.proofs.document.part.put_all.Given as goal
-
-abbrev pub invariant-loop-part : goal.invariant-loop-part
-invariant-loop-part l = Adds l.fn.writer l.writer (tokens_of (take l.part-index l.parts))
