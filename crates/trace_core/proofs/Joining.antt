@@ -26,7 +26,7 @@ AreLines-line bytes whole line len is = record {
   ];
 }
 
--- without a line feed, a line goes on with what follows
+-- without a line feed, a line continues with the bytes after it
 no_feed-longer : (rest more : List ℕ) → HasNoLineFeed rest → length rest ≤ length (first_line (rest ++ more))
 no_feed-longer rest more none =
     elim (cases_lt (position_or_len is_line_feed (rest ++ more)) (length rest)) [

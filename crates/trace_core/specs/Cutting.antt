@@ -42,7 +42,7 @@ abbrev pub JoinsTo : List ℕ → Bool → List ℕ → ℕ → (ℕ → List �
 JoinsTo bytes whole lines end given =
     (n : ℕ) (more : List ℕ) → MayFollow whole more → joined_from (suc n) lines (drop end bytes ++ more) ≡ given n more
 
--- what the lines are with the next line, whichever way the text goes on
+-- what the lines are with the next line, for every continuation of the text
 abbrev pub IsJoining : List ℕ → Bool → List ℕ → ℕ → Joining → Type 0
 IsJoining bytes whole lines end Waits = (whole ≡ false) × (length bytes ≤ PIECE_BYTES)
 IsJoining bytes whole lines end Alone = JoinsTo bytes whole lines end (λ n more. None)
@@ -57,17 +57,17 @@ IsJoining bytes whole lines end (Longer next) =
 abbrev pub Takes : List ℕ → Piece → Type 0
 Takes bytes piece = (1 ≤ piece.length) × (piece.length ≤ length bytes)
 
--- what the piece is, and what follows it where the text goes on so
+-- what the piece is, and the bytes after it, for one continuation of the text
 abbrev pub piece_and_rest : List ℕ → Piece → List ℕ → Meaning × List ℕ
 piece_and_rest bytes piece more = (meaning_of piece.item, drop piece.length bytes ++ more)
 
--- the piece is made of the first lines, whichever way the text goes on
+-- the piece is made of the first lines, for every continuation of the text
 abbrev pub IsJoined : List ℕ → Bool → List ℕ → ℕ → Piece → Type 0
 IsJoined bytes whole line first piece =
     (more : List ℕ) → MayFollow whole more →
     joined_or_alone line (drop first bytes ++ more) ≡ piece_and_rest bytes piece more
 
--- the piece is the text's first, whichever way the text goes on
+-- the piece is the text's first, for every continuation of the text
 abbrev pub IsFirstPiece : List ℕ → Bool → Piece → Type 0
 IsFirstPiece bytes whole piece =
     (more : List ℕ) → MayFollow whole more → first_item (bytes ++ more) ≡ piece_and_rest bytes piece more

@@ -79,7 +79,7 @@ joined_or_unread (Some joined) rest = (Event joined.0, joined.1)
 abbrev pub joined_or_alone : List ℕ → List ℕ → Meaning × List ℕ
 joined_or_alone line rest = joined_or_unread (joined_from (RECORD_LINES - 1) line rest) rest
 
--- an unread line that begins as a record may go on in the next lines
+-- an unread line that begins as a record may continue in the next lines
 abbrev pub with_lines : Meaning → List ℕ → List ℕ → Meaning × List ℕ
 with_lines Unread line rest = if begins_record line then joined_or_alone line rest else (Unread, rest)
 with_lines (Event r) line rest = (Event r, rest)

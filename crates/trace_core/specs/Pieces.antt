@@ -39,7 +39,7 @@ pub record HasReadAll (before now : Option (List ℕ)) (items : List Meaning) : 
   pub end : IsAtEnd now
   pub reads : ReadsAs text items
 
--- the next piece is that item, `len` bytes long, whichever way the text goes on
+-- the next piece is that item, `len` bytes long, for every continuation of the text
 pub record IsNext (s : Unpassed) (item : Meaning) (len : ℕ) : Type 0 where
   pub within : len ≤ length s.bytes
   pub some : s.long ≡ false → 1 ≤ len

@@ -14,7 +14,7 @@ use Rattle.trace_core.specs.declared.window.Stage.TheVariants.{Before, Within, A
 use Rattle.trace_core.specs.Tracker.{Tracks}
 use Rattle.trace_core.specs.Window.{is_over, stage_after}
 
--- where a reading is after an item; only events have a time
+-- the stage after an item; only events have a time
 abbrev pub stage_with : Stage → Span → Meaning → Stage
 stage_with stage span (Event r) = stage_after span r.time stage
 stage_with stage span Other = stage
@@ -24,7 +24,7 @@ stage_with stage span (BufferStarted cpu) = stage
 stage_with stage span (Counts held written processors) = stage
 stage_with stage span Note = stage
 
--- where it is after these events, the newest first
+-- the stage after these events, the newest first
 abbrev pub stage_at : Span → List (Seen × Printed) → Stage
 stage_at span [] = Before
 stage_at span (seen ∷ earlier) = stage_after span seen.1.time (stage_at span earlier)
@@ -57,8 +57,9 @@ abbrev pub next_of : Stage → Option Seen → Meaning → Next
 next_of stage (Some seen) item = event_at stage seen
 next_of stage None item = loss_of item
 
--- These are the pieces that the tracker took in, and this was given of their events. The newest come first.
-pub record HasRead (span : Span) (r : Reading) (t : Tracker) (before now : Option (List ℕ)) (items : List Meaning) (seen : List (Seen × Printed)) : Type 0 where
+-- These are the pieces that the tracker took in, and these its answers for their events. The newest come first.
+pub record HasRead (span : Span) (r : Reading) (t : Tracker) (before now : Option (List ℕ))
+    (items : List Meaning) (seen : List (Seen × Printed)) : Type 0 where
   pub span_is : r.span ≡ span
   pub passed : HasPassed before now r.pieces (reverse items)
   pub stage : r.stage ≡ stage_at span seen
@@ -79,18 +80,21 @@ pub record HasReadWindow (span : Span) (before now : Option (List ℕ)) (items :
   pub passed : HasPassed before now rest (reverse items)
   pub over : HasReadAll before now (reverse items) ⊎ IsPast span rest seen
 
--- an event was taken in, where the reading is at that stage after it
-abbrev pub TookIn : Span → Reading → Tracker → Option (List ℕ) → Option (List ℕ) → List Meaning → List (Seen × Printed) → Seen → Stage → Type 0
+-- an event was taken in, and the reading is at that stage after the event
+abbrev pub TookIn : Span → Reading → Tracker → Option (List ℕ) → Option (List ℕ)
+    → List Meaning → List (Seen × Printed) → Seen → Stage → Type 0
 TookIn span r t before now items earlier seen stage =
     (printed : Printed) × HasRead span r t before now (Event printed ∷ items) ((seen, printed) ∷ earlier)
     × (stage_at span ((seen, printed) ∷ earlier) ≡ stage)
 
 -- pieces were taken in that are no events
-abbrev pub PassedOver : Span → Reading → Tracker → Option (List ℕ) → Option (List ℕ) → List Meaning → List (Seen × Printed) → Type 0
+abbrev pub PassedOver : Span → Reading → Tracker → Option (List ℕ) → Option (List ℕ)
+    → List Meaning → List (Seen × Printed) → Type 0
 PassedOver span r t before now items seen = (more : List Meaning) × HasRead span r t before now (more ++ items) seen
 
--- what a step tells is so, and nothing else was taken in
-abbrev pub GoesOn : Span → Reading → Tracker → Option (List ℕ) → Option (List ℕ) → List Meaning → List (Seen × Printed) → Next → Type 0
+-- the answer of a step is true, and nothing else was taken in
+abbrev pub GoesOn : Span → Reading → Tracker → Option (List ℕ) → Option (List ℕ)
+    → List Meaning → List (Seen × Printed) → Next → Type 0
 GoesOn span r t before now items earlier (next.Before seen) = TookIn span r t before now items earlier seen Before
 GoesOn span r t before now items earlier (next.Within seen) = TookIn span r t before now items earlier seen Within
 GoesOn span r t before now items earlier next.End =

@@ -57,14 +57,14 @@ AreSteps drivers timelines (said ∷ more) (step ∷ steps) =
 abbrev pub Keeps : Names → Names → Type 0
 Keeps old new = (n : ℕ) (name : List ℕ) → name_at old n ≡ Some name → name_at new n ≡ Some name
 
--- what is given for an event: what was known of its key before it, what it is by that, and a wait of its task for its fence
+-- the answer for an event: its key's life before the event, what was found of it, and a wait of its task for its fence
 pub record IsSeen (earlier : List Step) (e : Sighting) (seen : SeenEvent) : Type 0 where
   pub event : seen.sighting ≡ e
   pub life : seen.life ≡ life_in earlier e.key
   pub found : seen.found ≡ found_in earlier e
   pub wait : IfSome seen.wait (IsWaitOf e)
 
--- what was given for the events, each with its record; the newest first in both
+-- the answers for the events, each with its record; the newest first in both
 abbrev pub AreSeen : List Step → List (SeenEvent × Printed) → Type 0
 AreSeen [] [] = ⊤
 AreSeen [] (seen ∷ more) = ⊥
@@ -83,7 +83,7 @@ is_event Unread = false
 is_event (Counts held written processors) = false
 is_event Note = false
 
--- what is given for an item, with its record
+-- the answer for an item, with its record
 abbrev pub given : Option SeenEvent → Meaning → List (SeenEvent × Printed)
 given None item = []
 given (Some seen) (Event r) = (seen, r) ∷ []
@@ -105,13 +105,13 @@ records_in (Unread ∷ items) = records_in items
 records_in (Counts held written processors ∷ items) = records_in items
 records_in (Note ∷ items) = records_in items
 
--- The steps are the items' events and losses, each once and in order, and this was given for each event. The newest come first.
+-- The steps are the items' events and losses, each once and in order, and these are the answers. The newest come first.
 pub record Saw (drivers timelines : Names) (items : List Meaning) (seen : List (SeenEvent × Printed)) (steps : List Step) : Type 0 where
   pub are : AreSteps drivers timelines (steps_of items) (unforgetting steps)
   pub seen_are : AreSeen steps seen
   pub records : records_in items ≡ map (λ s. s.1) seen
 
--- the ledger is the folds over the items' events and losses, and this was given for the events
+-- the ledger is the folds over the items' events and losses, and these were the answers for the events
 pub record Tracks (t : Tracker) (items : List Meaning) (seen : List (SeenEvent × Printed)) : Type 0 where
   pub steps : List Step
   pub saw : Saw t.drivers t.timelines items seen steps

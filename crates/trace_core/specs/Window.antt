@@ -4,11 +4,11 @@ use Rattle.trace_core.specs.declared.window.Span.{Span}
 use Rattle.trace_core.specs.declared.window.Stage.{Stage}
 use Rattle.trace_core.specs.declared.window.Stage.TheVariants.{Before, Within, After}
 
--- where a reading is after an event of that time, once the window began: past it from the first event that is later than its end
+-- the stage after an event once the window began: past the window from the first event that is later than its end
 abbrev pub within : Span → ℕ → Stage
 within span time = if nat_lt span.to time then After else Within
 
--- where a reading is after an event of that time: times may step back, but a window that began goes on, and one that ended is over
+-- the stage after an event at a time: times may step back, but a window that began stays open, and one that ended is over
 unfoldable pub stage_after : Span → ℕ → Stage → Stage
 stage_after span time Before = if nat_lt time span.from then Before else within span time
 stage_after span time Within = within span time

@@ -1,4 +1,5 @@
-// What each context did.
+//! `Contexts`: for each context the order of its signals, its points and its tally. It is a cache: the ledger forgets contexts
+//! without fences when there are more than `KEPT_CONTEXTS`, so that a trace of any length fits in memory.
 ghost use Rattle.std.specs.Prelude.{◌≡◌, false, true, if◌then◌else◌, OnOk, IfOk, IfErr, nat_lt, length};
 ghost use Rattle.point_core.specs.declared.refusal.Refusal.TheVariants.{Memory};
 ghost use Rattle.trace_core.specs.declared.sighting.ContextKey.{ContextKey};
@@ -49,7 +50,7 @@ impl Context {
         )
     }
 
-    /// Takes in an event of one of its fences, which is number `at`, with what was found of it.
+    /// Takes in event number `at`, of one of its fences, classified as `found`.
     #[inline(always)]
     fn see(&mut self, sighting: &Sighting, at: u64, found: &Finding)
         ensures { self.new ≡ context_after sighting.now at found.now self.old }
@@ -68,7 +69,7 @@ pub struct Contexts {
 }
 
 impl Contexts {
-    /// No contexts. It takes no memory.
+    /// No contexts. Does not allocate.
     pub fn new(alloc: Global) -> Contexts
         ensures { (key : ContextKey) → context_at result key ≡ no_context }
     {
@@ -95,7 +96,7 @@ impl Contexts {
     }
 
     /// Takes in event number `at`. `life` is what was known of its key before it, and `sure` whether no events were lost
-    /// since. Gives what was found of the event.
+    /// since. Answers what the event is.
     ///
     /// Fails only with `Memory`, and then nothing has changed.
     pub fn see(

@@ -1,4 +1,5 @@
-// How long fences took from making or emitting to signalling.
+//! `Delays`: how long the fences of each timeline took to signal, as counts by step of time, so that memory does not grow with the
+//! number of fences. Tested, not proved.
 ghost use Rattle.std.specs.Prelude.{◌≡◌, IfErr};
 ghost use Rattle.point_core.specs.declared.refusal.Refusal.TheVariants.{Memory};
 
@@ -49,7 +50,7 @@ pub struct Delays {
 }
 
 impl Delays {
-    /// No times. It takes no memory.
+    /// No times. Does not allocate.
     pub fn new(alloc: Global) -> Delays {
         Delays {
             steps: IndexMap::new(alloc),
@@ -93,7 +94,7 @@ impl Delays {
         }
     }
 
-    /// What is known of the times of a timeline.
+    /// The count, the percentiles and the longest of a timeline's times.
     pub fn delay(&self, timeline: &TimelineKey) -> Delay {
         let span = self.span(timeline);
         Delay {
@@ -116,7 +117,7 @@ impl Delays {
         }
     }
 
-    /// The greatest time of the step that the time of that place falls into, when they are put in order.
+    /// The greatest time in the step of the time at `place`, in ascending order.
     fn time_at(&self, timeline: &TimelineKey, place: u64) -> u64 {
         let mut key = StepKey {
             timeline: *timeline,

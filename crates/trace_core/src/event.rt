@@ -1,4 +1,4 @@
-// The kinds of events.
+//! `Event`: the seven kinds of `dma_fence` events, and how a record names them.
 ghost use Rattle.std.specs.Prelude.{◌≡◌, option_map, drop};
 ghost use Rattle.trace_core.specs.Event.{event_at, without_system, kind_of, kind_at, kinds};
 

@@ -1,4 +1,4 @@
-// The fields of a dma_fence event.
+//! The fields of a `dma_fence` event, as its trace format prints them. `record` calls it for the text after an event's name.
 ghost use Rattle.std.specs.Prelude.{◌≡◌, option_map};
 ghost use Rattle.trace_core.specs.Fields.{fields_of, fields_from, names_of};
 

@@ -1,4 +1,4 @@
-// What an event is, by what was known before it.
+//! `Finding`: what an event is, by what was known before it. Every counter of a tally is a function of it.
 ghost use Rattle.std.specs.Prelude.{◌≡◌};
 ghost use Rattle.trace_core.specs.Finding.{finding_of, is_overtaken, is_plain, is_signalled_only};
 
@@ -7,8 +7,7 @@ use crate::life::Life;
 use crate::order::Order;
 use crate::points::Points;
 
-/// What an event is, by what was known of its key and of its context before it. What each says is said at the counts of
-/// [`Tally`](crate::Tally).
+/// What an event is, by what was known of its key and of its context before it. [`Tally`](crate::Tally) explains each.
 #[derive(Clone, Copy, Debug)]
 pub struct Finding {
     pub event: Event,
@@ -25,8 +24,7 @@ pub struct Finding {
 }
 
 impl Finding {
-    /// What the event of a fence of that seqno is. It is sure what became of the fence where no events were lost since it
-    /// was made.
+    /// Classifies an event of a fence with `seqno`. `sure` says that no events were lost since the fence was made.
     #[inline(always)]
     #[tactic(auto, unfolding(crate::specs::Finding::finding_of))]
     pub fn of(
@@ -58,7 +56,7 @@ impl Finding {
         }
     }
 
-    /// Whether nothing else was found of the event, so that it only counts by its kind.
+    /// Whether the event only counts by its kind: nothing else was found of it.
     #[inline(always)]
     #[tactic(auto, unfolding(crate::specs::Finding::is_plain))]
     pub fn is_plain(&self) -> bool

@@ -1,4 +1,5 @@
-// The head of a record, before its event: the task, the processor and the time.
+//! The head of a record, before its event: task, thread, processor and time, as ftrace's default format, `trace-cmd report`
+//! and `perf script` print them. Each function reads one column, and answers none where the bytes have another form.
 ghost use Rattle.std.specs.Prelude.{◌≡◌, option_map};
 ghost use Rattle.trace_core.specs.Header.{header_of, thread, processor, after_dash, after_group, after_flags, trimmed, header_from};
 
@@ -77,7 +78,7 @@ fn processor(bytes: &[u8]) -> Option<(u32, &[u8])>
     Some((cpu, after_blanks(after(rest, b"]")?)?))
 }
 
-/// What follows `(`, blanks, digits or dashes, and `) `, where the bytes begin with `(`.
+/// The bytes after `(`, blanks, digits or dashes, and `) `, if the bytes begin with `(`.
 #[tactic(auto, unfolding(crate::specs::Header::after_group))]
 fn after_group(bytes: &[u8]) -> Option<&[u8]>
     ensures rest { option_map (λ r. r.now) result ≡ after_group bytes.now }
@@ -88,7 +89,7 @@ fn after_group(bytes: &[u8]) -> Option<&[u8]>
     }
 }
 
-/// What follows the flags and blanks, where the bytes begin with flags.
+/// The bytes after the flags and blanks, if the bytes begin with flags.
 #[tactic(auto, unfolding(crate::specs::Header::after_flags))]
 fn after_flags(bytes: &[u8]) -> Option<&[u8]>
     ensures rest { option_map (λ r. r.now) result ≡ after_flags bytes.now }

@@ -1,4 +1,4 @@
-// What a piece of the text is.
+//! `Item`: what a piece of the text is. `item_of` decides it by the piece's bytes only, as `specs/Piece.antt` defines it.
 ghost use Rattle.std.specs.Prelude.{◌≡◌};
 ghost use Rattle.trace_core.specs.Item.{meaning_of};
 ghost use Rattle.trace_core.specs.Piece.{item_of, record_or_other};
@@ -26,7 +26,7 @@ pub enum Item<'a> {
         cpu: u32,
         events: Option<u64>,
     },
-    /// Of a processor all events before this line are missing: `##### CPU n buffer started ####`.
+    /// All events of a processor before this line are missing: `##### CPU n buffer started ####`.
     BufferStarted {
         cpu: u32,
     },

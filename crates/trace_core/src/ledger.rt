@@ -1,4 +1,7 @@
-// What the events of a trace say of its fences.
+//! `Ledger`: what the events of a trace say of its fences.
+//!
+//! After any steps the ledger equals the folds of `specs/History.antt` over them (`IsLedgerOf`). `see`, `lose` and `forget` each
+//! add one step; the tracker calls them in the order of the text.
 ghost use Rattle.std.specs.Prelude.{◌≡◌, List, [], ◌∷◌, true, false, OnOk, IfOk, IfErr};
 ghost use Rattle.point_core.specs.declared.refusal.Refusal.TheVariants.{Memory};
 ghost use Rattle.trace_core.specs.Contexts.{context_at};
@@ -17,7 +20,7 @@ use crate::timelines::Timelines;
 use point_core::Refusal;
 use std::alloc::Global;
 
-/// What an event came upon.
+/// What was known before an event, and what the event is by that.
 #[derive(Clone, Copy, Debug)]
 pub struct Sight {
     /// What was known of its key.
@@ -30,7 +33,7 @@ pub struct Sight {
 #[derive(Drop)]
 pub struct Ledger {
     events: u64,
-    // how many events came before events were lost the last time: of what was made earlier, missing signals prove nothing
+    // how many events came before the last loss: a fence that was made earlier may have been signalled unseen
     loss: u64,
     lives: Lives,
     contexts: Contexts,
@@ -39,7 +42,7 @@ pub struct Ledger {
 }
 
 impl Ledger {
-    /// Nothing was seen. It takes no memory.
+    /// A ledger before the first event. Does not allocate.
     pub fn new(alloc: Global) -> Ledger
         ensures { IsLedgerOf result [] }
     {
@@ -53,9 +56,9 @@ impl Ledger {
         }
     }
 
-    /// Takes in an event. Gives what it came upon.
+    /// Takes in an event. Answers what was known of its key, and what the event is by that.
     ///
-    /// Fails only with `Memory`; then it is not to be used further.
+    /// Fails only with `Memory`; then the ledger is not to be used further.
     pub fn see(&mut self, sighting: &Sighting) -> Result<Sight, Refusal>
         ensures known { IfOk result (λ sight. (steps : List Step) →
             IsLedgerOf self.old steps → sight.life ≡ life_in steps sighting.now.key) }
@@ -185,7 +188,7 @@ impl Ledger {
     }
 }
 
-/// Whether the event, before which that was known of its key, may leave no fence of the key alive.
+/// Whether the event may leave no fence of its key alive. `life` is what was known of the key before it.
 fn may_end(event: Event, life: Life) -> bool {
     match event {
         Event::Destroy => true,

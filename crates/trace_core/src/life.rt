@@ -1,4 +1,5 @@
-// What is known of the fences of one key.
+//! `Life`: the state of one key's fences, a fold over the key's events (`specs/Life.antt`). A driver may use a key again, so it
+//! counts fences instead of naming one.
 ghost use Rattle.std.specs.Prelude.{◌≡◌};
 ghost use Rattle.trace_core.specs.Life.{made, emitted, signalled, destroyed, without_one, life_after, is_over, is_pending};
 
@@ -15,7 +16,7 @@ pub struct Life {
     pub has_signalled: bool,
     /// How many events came before the last one was made or emitted.
     pub born: u64,
-    /// When that was, in microseconds.
+    /// When the last one was made or emitted, in microseconds.
     pub since: u64,
 }
 

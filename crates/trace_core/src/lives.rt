@@ -1,4 +1,5 @@
-// What is known of the keys of fences that are alive.
+//! `Lives`: the `Life` of each key that has fences alive. A key whose fences are all gone is dropped, so memory is bounded by what is
+//! alive at once.
 ghost use Rattle.std.specs.Prelude.{◌≡◌, ◌&&◌, nat_eq, if◌then◌else◌, OnOk, OnErr, IfOk, IfErr};
 ghost use Rattle.point_core.specs.declared.refusal.Refusal.TheVariants.{Memory};
 ghost use Rattle.trace_core.specs.declared.sighting.FenceKey.{FenceKey};
@@ -21,7 +22,7 @@ pub struct Lives {
 }
 
 impl Lives {
-    /// Nothing is known. It takes no memory.
+    /// No key has a fence. Does not allocate.
     pub fn new(alloc: Global) -> Lives
         ensures { (key : FenceKey) → life_at result key ≡ unborn }
     {
@@ -47,9 +48,9 @@ impl Lives {
         &self.by_key
     }
 
-    /// Takes in event number `born`. Gives what was known of its key.
+    /// Takes in event number `born`. Answers what was known of its key.
     ///
-    /// Fails only with `Memory`; then it is not to be used further.
+    /// Fails only with `Memory`; then no more events are to be taken in.
     #[tactic(auto, unfolding(crate::specs::Lives::life_step))]
     pub fn see(&mut self, sighting: &Sighting, born: u64) -> Result<Life, Refusal>
         ensures known { IfOk result (λ own. own ≡ life_at self.old sighting.now.key) }

@@ -1,4 +1,4 @@
-// Lines that report lost events, and notes.
+//! Lines that report lost events (Linux's `CPU:n [LOST m EVENTS]`), and notes, which begin with `#`.
 ghost use Rattle.std.specs.Prelude.{◌≡◌};
 ghost use Rattle.trace_core.specs.Item.{meaning_of};
 ghost use Rattle.trace_core.specs.Loss.{lost, losses, counted, buffer_started, counts, note};
@@ -43,7 +43,7 @@ fn counted(bytes: &[u8], text: &str) -> Option<Option<u64>>
     }
 }
 
-/// What a line says that begins with `#`.
+/// The item of a line that begins with `#`.
 #[inline(never)]
 #[tactic(auto, unfolding(crate::specs::Loss::note))]
 pub(crate) fn note(line: &[u8]) -> Item<'_>

@@ -1,4 +1,5 @@
-// Names by number.
+//! `Names`: names of drivers and timelines, numbered by first sight. A name keeps its number, so keys can hold numbers instead of
+//! names. The tracker numbers the names of each record.
 ghost use Rattle.std.specs.Prelude.{◌≡◌, ◌<◌, List, ℕ, Some, IfOk, IfErr, IfSome, option_map};
 ghost use Rattle.trace_core.specs.declared.names.TheConstants.{RECENT};
 ghost use Rattle.point_core.specs.declared.refusal.Refusal.TheVariants.{Memory};
@@ -8,7 +9,7 @@ use indexmap::IndexSet;
 use point_core::Refusal;
 use std::alloc::Global;
 
-/// How many numbers are kept of names that were asked for lately. It is a power of two.
+/// How many recent numbers are kept. A power of two.
 const RECENT: usize = 32;
 
 /// Names, numbered by first sight.
@@ -20,7 +21,7 @@ pub struct Names {
 }
 
 impl Names {
-    /// No names. It takes no memory.
+    /// No names. Does not allocate.
     pub fn new(alloc: Global) -> Names {
         Names {
             names: IndexSet::new(alloc),
@@ -28,7 +29,7 @@ impl Names {
         }
     }
 
-    /// The name of that number, or none where it was not given.
+    /// The name with this number, if a name has it.
     pub fn name(&self, number: u32) -> Option<&[u8]>
         ensures { option_map (λ n. n.now) result ≡ name_at self.now number }
     {

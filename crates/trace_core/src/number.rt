@@ -1,4 +1,4 @@
-// Numbers of a line.
+//! Numbers of a line: decimal, of 32 or 64 bits, and times with decimals. A number that is too great is none.
 ghost use Rattle.std.specs.Prelude.{◌≡◌, ◌≤◌, ◌^◌, length, option_map, take, drop};
 ghost use Rattle.std.specs.List.{prefix_len};
 ghost use Rattle.std.specs.Char.{is_ascii_digit};

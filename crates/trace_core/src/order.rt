@@ -1,4 +1,5 @@
-// The order in which the fences of a context were signalled.
+//! `Order`: how far the signals of a context have come. The kernel prints 32 bits of a seqno, so it is kept both as numbers and on
+//! the circle of 32 bits (Linux's `__dma_fence_is_later`).
 ghost use Rattle.std.specs.Prelude.{◌≡◌};
 ghost use Rattle.trace_core.specs.Order.{is_late, is_late_wrapped, is_repeat, order_after, order_signalled, is_furthest, is_later};
 
@@ -54,7 +55,7 @@ impl Order {
         self.some && self.last == seqno
     }
 
-    /// The order after event number `at`, of a fence of that seqno.
+    /// The order after event number `at`, of the fence with `seqno`.
     #[tactic(auto, unfolding(crate::specs::Order::order_after))]
     pub fn after(self, event: Event, seqno: u32, at: u64) -> Order
         ensures { result ≡ order_after event seqno at self }

@@ -1,4 +1,5 @@
-// The fences that are pending.
+//! The fences that are pending: `pending_of` lists them for reports, scripts and trace events alike, and says of each whether it
+//! hangs, may have lost its signal, or has no number yet.
 ghost use Rattle.std.specs.Prelude.{◌≡◌, List, IfOk, IfErr};
 ghost use Rattle.std.specs.List.{IsDistinct};
 ghost use Rattle.std.specs.Map.{keys_of};
@@ -23,7 +24,7 @@ pub enum PendingKind {
     Unnumbered,
 }
 
-/// A fence that is pending: it was made or emitted, and not signalled. The first in order was made first.
+/// A fence that is pending: it was made or emitted, and not signalled. Its order is the order of making.
 #[derive(Clone, Copy, Debug, PartialEq, Eq, PartialOrd, Ord)]
 pub struct Pending {
     /// How many events came before it was made or emitted.

@@ -1,4 +1,5 @@
-// The first piece of a text.
+//! The first piece of a text: a line, or the lines of one record. A name may hold line feeds, so lines that begin as a record but
+//! are none are joined with the next ones, up to `RECORD_LINES` lines and `PIECE_BYTES` bytes.
 ghost use Rattle.std.specs.Prelude.{◌≡◌, ◌+◌, ◌-◌, ◌≤◌, ◌⊎◌, ◌++◌, List, ℕ, true, false, [], length, take, drop, IfSome, IfNone, position};
 ghost use Rattle.trace_core.specs.declared.item.TheConstants.{PIECE_BYTES};
 ghost use Rattle.trace_core.specs.Item.{meaning_of, Unread};
@@ -22,11 +23,11 @@ pub struct Piece<'a> {
     pub item: Item<'a>,
     /// How many lines it has.
     pub lines: usize,
-    /// How many of the bytes it takes, the line feed at its end among them. Of a line that is too long only the last ones.
+    /// How many of the bytes it takes, with the line feed at its end. For a line that is too long only its last bytes count.
     pub length: usize,
 }
 
-/// The first piece of the bytes, or none if that takes more bytes. `whole` says that none are to come.
+/// The first piece of the bytes, or none if more bytes must be read first. `whole` says that no more will come.
 pub(crate) fn first_piece(bytes: &[u8], whole: bool) -> Option<Piece<'_>>
     ensures piece { IfSome result (IsFirstPiece bytes.now whole) }
     ensures takes { IfSome result (Takes bytes.now) }
@@ -80,7 +81,7 @@ fn line_feed(bytes: &[u8]) -> Option<usize>
     memchr(b'\n', bytes)
 }
 
-/// The first line, and how many bytes it takes with its line feed, or none where its end is not among the bytes.
+/// The first line, and its length with the line feed, or none if the bytes do not have the line's end.
 fn first_line(bytes: &[u8], whole: bool) -> Option<(&[u8], usize)>
     ensures line { IfSome result (λ l. IsLine bytes.now whole l.0.now l.1) }
     ensures all { IfNone result (whole ≡ true → bytes.now ≡ []) }
@@ -98,7 +99,7 @@ fn first_line(bytes: &[u8], whole: bool) -> Option<(&[u8], usize)>
 enum Joining<'a> {
     /// More has to be read first.
     Waits,
-    /// No record, whatever follows.
+    /// No record, whatever the next bytes are.
     Alone,
     /// A record, and where it ends.
     Whole(Record<'a>, usize),
@@ -106,8 +107,8 @@ enum Joining<'a> {
     Longer(usize),
 }
 
-/// The record of the fewest lines that the bytes begin with. The first, which takes `first` bytes, is no record. Where there
-/// is none, it is unread.
+/// The record that the bytes begin with, of the fewest lines. The first line, of `first` bytes, is no record; it is unread if
+/// no record begins with it.
 fn joined<'a>(bytes: &'a [u8], line: &[u8], first: usize, whole: bool) -> Option<Piece<'a>>
     requires lines { AreLines bytes.now whole line.now first }
     ensures piece { IfSome result (IsJoined bytes.now whole line.now first) }

@@ -1,4 +1,7 @@
-// The pieces of a text, from a reader.
+//! `Pieces`: the pieces of a text, from a reader, with one block of the text in memory.
+//!
+//! The unpassed bytes are those between `start` and `end` (`AreWithin`); `HasPassed` says which items of the text were passed.
+//! `Reading` calls `next`, then `pass` or `read`.
 ghost use Rattle.std.specs.Prelude.{◌≡◌, ◌≤◌, ◌++◌, ◌∷◌, ◌||◌, [], List, ℕ, Option, true, false, nat_lt, length, IfSome, IfNone, if◌then◌else◌};
 ghost use Rattle.trace_core.specs.Item.{Meaning, meaning_of};
 
@@ -26,17 +29,17 @@ pub enum Progress {
 
 /// The pieces of a text, one after another. It holds one block of the text and the beginning of a piece that began before it.
 ///
-/// `next` gives the next piece and `pass` goes on after it; when `next` gives none, `read` reads more, or the text is at
-/// its end if it `is_whole`.
+/// `next` answers the next piece, and `pass` drops it; when `next` answers none, `read` reads more, or the text is at its end
+/// if it `is_whole`.
 #[derive(Drop)]
 pub struct Pieces {
     held: [u8; HELD_BYTES],
-    // what was read and not passed lies from start to end
+    // bytes from start to end were read and not passed
     start: usize,
     end: usize,
     // whether the reader was at its end
     whole: bool,
-    // whether the beginning of the line was let go, since the line is too long
+    // whether the beginning of the line was dropped, since the line is too long
     long: bool,
 }
 
@@ -88,7 +91,7 @@ impl Pieces {
         }
     }
 
-    /// Goes on after a piece of `count` bytes.
+    /// Drops a piece of `count` bytes.
     pub fn pass(&mut self, count: usize)
         requires within { count ≤ length self.old.bytes }
         ensures passed { self.new ≡ passed self.old count }

@@ -1,4 +1,4 @@
-// The points of a context.
+//! `Points`: whether a context has no seqno, one or several. The ledger needs no more to know when a context may be forgotten.
 ghost use Rattle.std.specs.Prelude.{◌≡◌};
 ghost use Rattle.trace_core.specs.Points.{are_none, is_only, points_after};
 
@@ -21,7 +21,7 @@ impl Points {
         matches!(self, Points::None)
     }
 
-    /// Whether that one was seen, and no other.
+    /// Whether `seqno` was seen, and no other.
     #[tactic(auto, unfolding(crate::specs::Points::is_only))]
     pub fn is_only(&self, seqno: u32) -> bool
         ensures { result ≡ is_only seqno self.now }

@@ -1,4 +1,7 @@
-// A window of a trace, from a reader.
+//! `Reading`: a window of a trace, from a reader, step by step.
+//!
+//! The one loop over pieces that reports, scripts and trace events share: each step hands one piece to the tracker, and answers
+//! what it was. `HasRead` says which pieces were taken in so far; `next` upholds it.
 ghost use Rattle.std.specs.Prelude.{◌≡◌, ◌⊎◌, [], List, ℕ, Option, IfOk, IfErr};
 ghost use Rattle.point_core.specs.declared.refusal.Refusal.TheVariants.{Read as ReadFault, Memory};
 ghost use Rattle.trace_core.specs.Item.{Meaning, meaning_of};
@@ -55,7 +58,7 @@ pub struct Reading {
 }
 
 impl Reading {
-    /// Nothing was read. It takes no memory.
+    /// Before the first read. Does not allocate.
     pub fn new(span: Span) -> Reading
         ensures none { (now : Option (List ℕ)) → (tracker : Tracker) →
             Tracks tracker [] [] → HasRead span result tracker now now [] [] }
@@ -68,9 +71,9 @@ impl Reading {
         }
     }
 
-    /// Goes on to the next piece of the text, which the tracker takes in, or reads more.
+    /// Takes the next piece of the text, which the tracker takes in, or reads more.
     ///
-    /// After a refusal neither is to be used further.
+    /// After a refusal neither the reading nor the tracker is to be used further.
     pub fn next<R: Read>(&mut self, tracker: &mut Tracker, reader: &mut R) -> Result<Next, Refusal>
         ensures more { IfOk result (λ next. (span : Span) → (before : Option (List ℕ)) →
             (items : List Meaning) → (seen : List (Seen × Printed)) →
@@ -120,7 +123,7 @@ impl Reading {
     }
 }
 
-/// Where a reading is after the item.
+/// The stage after the item; only events have a time.
 fn stage_with(stage: Stage, span: Span, item: &Item<'_>) -> Stage
     ensures { result ≡ stage_with stage span (meaning_of item.now) }
 {
@@ -139,7 +142,7 @@ fn stage_with(stage: Stage, span: Span, item: &Item<'_>) -> Stage
     }
 }
 
-/// What is given of an item, at the stage after it.
+/// The step that an item makes, at the stage after the item.
 fn next_of(stage: Stage, seen: Option<Seen>, item: &Item<'_>) -> Next
     ensures { result ≡ next_of stage seen (meaning_of item.now) }
 {

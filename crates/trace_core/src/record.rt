@@ -1,4 +1,4 @@
-// A record of a dma_fence event.
+//! `Record`: one `dma_fence` event of a trace. `laws::records_as_printed` says that it is read exactly as the kernel prints it.
 ghost use Rattle.std.specs.Prelude.{◌≡◌, option_map};
 ghost use Rattle.trace_core.specs.Header.{header_from};
 ghost use Rattle.trace_core.specs.Record.{record_of, record_from, record_with, printed};
@@ -25,8 +25,8 @@ pub struct Record<'a> {
     pub seqno: u32,
 }
 
-/// The record that the piece is, or none where it is no record of a `dma_fence` event: one with a number that is too great
-/// neither.
+/// The record that the piece is, or none if it is no record of a `dma_fence` event. A record with a number that is too great is
+/// none.
 #[tactic(auto, unfolding(crate::specs::Record::record_of))]
 pub fn record_of(piece: &[u8]) -> Option<Record<'_>>
     ensures record { option_map printed result ≡ record_of piece.now }

@@ -1,4 +1,4 @@
-// Runs of bytes of one class.
+//! Runs of bytes of one class, from either end. The readers of records take columns apart with them.
 ghost use Rattle.std.specs.Prelude.{◌≡◌, ◌+◌, ◌≤◌, length, take, drop};
 ghost use Rattle.std.specs.List.{prefix_len, suffix_len};
 ghost use Rattle.trace_core.specs.Runs.{is_of};

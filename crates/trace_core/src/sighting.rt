@@ -1,4 +1,5 @@
-// One event of a fence, with its timeline by number.
+//! `Sighting` and its keys: one event of a fence, with the names of driver and timeline as numbers, so that keys are `Copy` and
+//! compare fast. The tracker numbers the names; the ledger sees only sightings.
 ghost use Rattle.std.specs.Prelude.{◌≡◌};
 ghost use Rattle.trace_core.specs.Keys.{timeline_of, context_of, unnumbered};
 

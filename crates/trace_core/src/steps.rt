@@ -1,11 +1,12 @@
-// Steps of reading: what follows a text or blanks.
+//! Steps of reading: each answers the bytes after what it read, or none. The readers of headers, events and fields are made of
+//! these, so that their contracts are the same steps over lists.
 ghost use Rattle.std.specs.Prelude.{◌≡◌, ◌≤◌, true, length, take, option_map};
 ghost use Rattle.std.specs.Str.{bytes_eq};
 ghost use Rattle.trace_core.specs.Steps.{after, before, without_blanks, after_blanks, part_at};
 
 use crate::runs::{Class, without_run};
 
-/// Whether the bytes begin with the text. It is unrolled where the text is a literal.
+/// Whether the bytes begin with the text. The loop is unrolled where the text is a literal.
 fn begins_with(bytes: &[u8], text: &[u8]) -> bool
     ensures begins { result ≡ bytes_eq (take (length text.now) bytes.now) text.now }
     ensures fits { result ≡ true → length text.now ≤ length bytes.now }
@@ -21,7 +22,7 @@ fn begins_with(bytes: &[u8], text: &[u8]) -> bool
     true
 }
 
-/// What follows the text, where the bytes begin with it.
+/// The bytes after the text, if the bytes begin with the text.
 #[tactic(auto, unfolding(crate::specs::Steps::after))]
 pub(crate) fn after<'a>(bytes: &'a [u8], text: &[u8]) -> Option<&'a [u8]>
     ensures rest { option_map (λ r. r.now) result ≡ after bytes.now text.now }
@@ -56,7 +57,7 @@ pub(crate) fn without_blanks(bytes: &[u8]) -> &[u8]
     without_run(bytes, Class::Blank)
 }
 
-/// What follows the blanks, where the bytes begin with one at least.
+/// The bytes after one blank or more, if the bytes begin with a blank.
 #[tactic(auto, unfolding(crate::specs::Steps::after_blanks))]
 pub(crate) fn after_blanks(bytes: &[u8]) -> Option<&[u8]>
     ensures rest { option_map (λ r. r.now) result ≡ after_blanks bytes.now }
@@ -76,7 +77,7 @@ pub(crate) fn part_at<'a>(bytes: &'a [u8], text: &[u8]) -> Option<(&'a [u8], &'a
     None
 }
 
-/// Whether the word is that text.
+/// Whether the word is the text.
 pub(crate) fn is(word: &[u8], text: &str) -> bool
     ensures same { result ≡ bytes_eq word.now text.now }
 {

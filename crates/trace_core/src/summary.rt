@@ -1,4 +1,4 @@
-// What a text was made of.
+//! `Summary`: counts of a text's lines, losses and times. Tested, not proved; `Tracker::take` adds each piece.
 ghost use Rattle.std.specs.Prelude.{◌≡◌, IfErr};
 ghost use Rattle.point_core.specs.declared.refusal.Refusal.TheVariants.{Memory};
 
@@ -7,7 +7,7 @@ use crate::piece::Piece;
 use point_core::Refusal;
 use std::alloc::Global;
 
-/// The most processors with buffers that started late of which the numbers are kept.
+/// How many numbers of processors are kept whose buffers started late.
 const LATE_BUFFERS: usize = 4096;
 
 /// How many events the buffer had, how many were written to it, and how many processors there were, as a header says.
@@ -42,9 +42,9 @@ pub struct Summary {
     pub over_lines: u64,
     /// Lines that say that events were lost.
     pub loss_markers: u64,
-    /// How many events they say were lost.
+    /// How many events these lines say were lost.
     pub lost_events: u64,
-    /// Lines that don't say how many.
+    /// Lines that say that events were lost, and not how many.
     pub unnumbered_losses: u64,
     pub counts: Option<Counts>,
     /// The processors that lack all events before some time, since their buffers started late.
@@ -53,7 +53,7 @@ pub struct Summary {
 }
 
 impl Summary {
-    /// Of no text. It takes no memory.
+    /// The summary of an empty text. Does not allocate.
     pub fn new(alloc: Global) -> Summary {
         Summary {
             bytes: 0,

@@ -1,4 +1,4 @@
-// Counts of events and of what they did.
+//! `Tally`: how often each thing was found of events. Each counter is a function of the `Finding`, so it is proved once.
 ghost use Rattle.std.specs.Prelude.{◌≡◌};
 ghost use Rattle.trace_core.specs.Tally.{counts_after, tally_after, count_if};
 
@@ -62,7 +62,7 @@ pub struct Tally {
     pub destroyed_unseen: u64,
     /// Signals of fences after a greater seqno of their context was signalled.
     pub out_of_order: u64,
-    /// The same, compared on the circle of 32 bits.
+    /// As `out_of_order`, compared on the circle of 32 bits.
     pub out_of_order_wrapped: u64,
     /// Signals of the seqno that was signalled last in its context.
     pub repeats: u64,

@@ -1,4 +1,4 @@
-// The name of a task.
+//! `TaskName`: the name of a task, of the kernel's fixed length, so that a wait is a `Copy` value.
 
 /// The bytes that a task's name has at most in a trace.
 pub const TASK_BYTES: usize = 16;

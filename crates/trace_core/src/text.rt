@@ -1,4 +1,4 @@
-// Numbers and times as text.
+//! Numbers and times as text, for the crates that write what a trace shows.
 ghost use Rattle.std.specs.Prelude.{◌≡◌, ◌++◌, OnOk, drop, decimal};
 ghost use Rattle.trace_core.specs.Text.{seconds};
 

@@ -1,4 +1,4 @@
-// What each timeline did.
+//! `Timelines`: the tally of each timeline, a fold over the timeline's events (`specs/Timelines.antt`).
 ghost use Rattle.std.specs.Prelude.{◌≡◌, if◌then◌else◌, OnOk, IfErr};
 ghost use Rattle.point_core.specs.declared.refusal.Refusal.TheVariants.{Memory};
 ghost use Rattle.trace_core.specs.declared.sighting.TimelineKey.{TimelineKey};
@@ -20,7 +20,7 @@ pub struct Timelines {
 }
 
 impl Timelines {
-    /// No timelines. It takes no memory.
+    /// No timelines. Does not allocate.
     pub fn new(alloc: Global) -> Timelines
         ensures { (key : TimelineKey) → tally_at result key ≡ none }
     {

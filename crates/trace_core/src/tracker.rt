@@ -1,4 +1,5 @@
-// A trace, piece by piece.
+//! `Tracker`: everything that a trace says of fences, piece by piece. `Tracks` relates it to the items of the text; `take` upholds
+//! it, and `Reading::next` is the only caller.
 ghost use Rattle.std.specs.Prelude.{◌≡◌, List, [], ◌∷◌, ◌++◌, is_some, IfOk, IfErr, IfSome};
 ghost use Rattle.point_core.specs.declared.refusal.Refusal.TheVariants.{Memory};
 ghost use Rattle.trace_core.specs.Item.{Meaning, meaning_of, Event as EventMeaning};
@@ -48,7 +49,7 @@ pub struct Tracker {
 }
 
 impl Tracker {
-    /// Nothing was read. It takes no memory.
+    /// A tracker before the first piece. Does not allocate.
     pub fn new(alloc: Global) -> Tracker
         ensures none { Tracks result [] [] }
     {
@@ -62,9 +63,9 @@ impl Tracker {
         }
     }
 
-    /// Takes in the next piece of the text. Gives the event that it is a record of, where it is one.
+    /// Takes in the next piece of the text. Answers the event, if the piece is the record of one.
     ///
-    /// After `Memory` it is not to be used further.
+    /// After `Memory` the tracker is not to be used further.
     pub fn take(&mut self, piece: &Piece<'_>) -> Result<Option<Seen>, Refusal>
         ensures more { IfOk result (λ seen. (items : List Meaning) → (earlier : List (Seen × Printed)) →
             Tracks self.old items earlier → Tracks self.new (meaning_of piece.now.item ∷ items)
@@ -147,7 +148,8 @@ impl Tracker {
         })
     }
 
-    /// What the event says of waits and of times, where that was known of its key. Gives the wait that it begins or ends.
+    /// Takes in what the event says of waits and of times. `life` is what was known of its key before it. Answers the wait that
+    /// the event begins or ends.
     fn time(
         &mut self,
         sighting: &Sighting,

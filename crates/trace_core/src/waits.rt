@@ -1,4 +1,5 @@
-// Waits for fences.
+//! `Waits`: which threads wait for which fences, by `wait_start` and `wait_end`, and sums of the waits that ended. Tested; its only
+//! clause is that a wait is one of the event's thread and fence (`IsWaitOf`).
 ghost use Rattle.std.specs.Prelude.{◌≡◌, IfOk, IfErr, IfSome};
 ghost use Rattle.point_core.specs.declared.refusal.Refusal.TheVariants.{Memory};
 ghost use Rattle.trace_core.specs.Waits.{IsWaitOf};
@@ -69,7 +70,7 @@ pub struct Waits {
 }
 
 impl Waits {
-    /// Nobody waits. It takes no memory.
+    /// Nobody waits. Does not allocate.
     pub fn new(alloc: Global) -> Waits {
         Waits {
             open: IndexMap::new(alloc),
@@ -111,7 +112,7 @@ impl Waits {
         self.unsignalled
     }
 
-    /// A wait begins. Gives the wait.
+    /// Begins a wait, and answers it.
     pub fn start(&mut self, sighting: &Sighting, task: TaskName) -> Result<Wait, Refusal>
         ensures begun { IfOk result (IsWaitOf sighting.now) }
         ensures memory { IfErr result (λ e. e ≡ Memory) }
@@ -130,7 +131,7 @@ impl Waits {
         Ok(wait)
     }
 
-    /// A wait ends, of a fence that is pending or not. Gives the wait, where its start was seen.
+    /// Ends a wait for a fence that is pending or not. Answers the wait, if its start was seen.
     pub fn end(&mut self, sighting: &Sighting, is_pending: bool) -> Result<Option<Wait>, Refusal>
         ensures ended { IfOk result (λ wait. IfSome wait (IsWaitOf sighting.now)) }
         ensures memory { IfErr result (λ e. e ≡ Memory) }

@@ -1,4 +1,5 @@
-// A window of time.
+//! `Span` and `Stage`: a window of a trace's time, and where a reading is: before the window, within it or past it.
+//! A stage never goes back, though times may: `Stage::after` upholds that, and `reading` calls it once for each event.
 ghost use Rattle.std.specs.Prelude.{◌≡◌, ◌≤◌, IfSome};
 ghost use Rattle.trace_core.specs.Window.{is_over, stage_after, within};
 
@@ -88,7 +89,8 @@ pub enum Stage {
 }
 
 impl Stage {
-    /// Where it is after an event of that time. Times may step back, but a window that began goes on, and one that ended is over.
+    /// The stage after an event at `time`. Times may step back, but a window that began stays open, and a window that ended is
+    /// over.
     #[tactic(auto, unfolding(crate::specs::Window::stage_after))]
     pub fn after(self, span: Span, time: u64) -> Stage
         ensures { result ≡ stage_after span time self }
