@@ -3,6 +3,7 @@ ghost use Rattle.std.specs.Prelude.{◌≡◌, IfOk};
 ghost use Rattle.line_core.specs.Script.{script_of};
 ghost use Rattle.draw_core.specs.Pictured.{ShowsScript};
 
+use crate::note::Explain;
 use crate::run::Run;
 use crate::window::Window;
 use picture_core::{History, Picture, picture_of, svg_text};
@@ -18,13 +19,18 @@ pub struct Drawing {
 
 impl Drawing {
     /// Runs the lines of a script up to the window's last, and draws those in the window, one column for each that has
-    /// an answer. Refused lines are drawn too.
+    /// an answer. Refused lines are drawn too, with an explanation by `reasons`.
     ///
     /// Fails only with `Memory`.
-    pub fn of(alloc: Global, script: &[u8], window: &Window) -> Result<Drawing, Refusal>
+    pub fn of<X: Explain>(
+        alloc: Global,
+        script: &[u8],
+        window: &Window,
+        reasons: &mut X,
+    ) -> Result<Drawing, Refusal>
         ensures { IfOk result (λ drawing. ShowsScript window.now (script_of script.now) drawing.picture) }
     {
-        let run = Run::of(alloc, script, window)?;
+        let run = Run::of(alloc, script, window, reasons)?;
         let picture = picture_of(alloc, run.history())?;
         Ok(Drawing { run, picture })
     }

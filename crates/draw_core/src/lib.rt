@@ -1,6 +1,7 @@
 //! Records a script's run for its picture: its history column by column, and the graph of waiters at its end.
 //!
-//! A drawing depends only on the desk and its answers.
+//! A drawing depends only on the desk and its answers. The explanations of refused lines are the caller's (`Explain`), so that
+//! this crate needs none of `reason_core`.
 #![tactic(auto)]
 
 mod asking;
@@ -14,6 +15,7 @@ mod window;
 
 pub use asking::{ask, ask_all};
 pub use drawing::Drawing;
+pub use note::Explain;
 pub use run::{COLUMNS, Run, count_lines};
 pub use waiting::{waiting_for, waiting_on};
 pub use window::Window;

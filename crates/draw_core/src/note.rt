@@ -1,15 +1,35 @@
-//! The note of a column, which shows on hovering: the line, its answer, and the reason if it was refused.
+//! The note of a column, which shows on hovering: the line, its answer, and the reason if it was refused. The reason comes
+//! from the caller, by `Explain`.
 
 use command_core::{Answer, Command};
 use desk_core::Desk;
-use line_core::RawLine;
+use line_core::{Body, RawLine};
 use point_core::Refusal;
-use reason_core::{Book, Look, Place, explain_bad_line, explain_command};
-use script_core::print;
-use std::alloc::Global;
+use report_core::print;
 
 /// The most bytes of an answer in a note. A longer answer is cut.
 const NOTE_BYTES: usize = 2048;
+
+/// Explains refused lines in the notes of a picture. It sees every line of the run in order, so it may remember which line
+/// made a name.
+pub trait Explain {
+    /// Sees a command that `desk` has just accepted, of line `line`.
+    ///
+    /// Fails only with `Memory`.
+    fn accept(&mut self, line: u32, command: &Command, desk: &Desk) -> Result<(), Refusal>;
+
+    /// Appends to `note` why a line was refused, which `desk` has just done.
+    ///
+    /// Fails only with `Memory`.
+    fn explain(
+        &self,
+        desk: &Desk,
+        line: &RawLine<'_>,
+        body: &Body,
+        refusal: Refusal,
+        note: &mut Vec<u8>,
+    ) -> Result<(), Refusal>;
+}
 
 /// Writes a line and its answer, which ends with a line feed.
 ///
@@ -27,39 +47,4 @@ pub(crate) fn push_answer(
         note.extend_from_slice(b"...\n")?;
     }
     Ok(())
-}
-
-/// Writes the reason why a command was refused.
-///
-/// Fails only with `Memory`.
-pub(crate) fn push_reason(
-    desk: &Desk,
-    book: &Book,
-    line: u32,
-    command: &Command,
-    refusal: Refusal,
-    note: &mut Vec<u8>,
-) -> Result<(), Refusal> {
-    let place = place_of(line);
-    explain_command(desk, book, &place, command, refusal, note).map_err(|_| Refusal::Memory)
-}
-
-/// Writes the reason why a line is no command.
-///
-/// Fails only with `Memory`.
-pub(crate) fn push_fault(
-    alloc: Global,
-    line: &RawLine<'_>,
-    refusal: Refusal,
-    note: &mut Vec<u8>,
-) -> Result<(), Refusal> {
-    let place = place_of(line.number);
-    explain_bad_line(alloc, &place, line, refusal, note).map_err(|_| Refusal::Memory)
-}
-
-fn place_of(line: u32) -> Place {
-    Place {
-        line,
-        look: Look::Plain,
-    }
 }

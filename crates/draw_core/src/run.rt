@@ -16,7 +16,7 @@ ghost use Rattle.draw_core.specs.Waiting.{StandsAfter, edges_in};
 
 use crate::asking::ask_all;
 use crate::graph::enter_all;
-use crate::note::{push_answer, push_fault, push_reason};
+use crate::note::{Explain, push_answer};
 use crate::texts::Texts;
 use crate::waiting::waiting_for;
 use crate::window::Window;
@@ -25,7 +25,6 @@ use desk_core::Desk;
 use line_core::{Body, LINE_BYTES, Line, RawLine, read_script};
 use picture_core::{BarWait, Column, Graph, History};
 use point_core::{Point, Refusal};
-use reason_core::Book;
 use script_core::answer_line;
 use std::alloc::Global;
 
@@ -48,16 +47,20 @@ pub struct Run {
     alloc: Global,
     window: Window,
     desk: Desk,
-    book: Book,
     history: History,
 }
 
 impl Run {
     /// Runs the lines of a script up to the window's last, and records those in the window, one column for each that
-    /// has an answer. Refused lines are recorded too.
+    /// has an answer. Refused lines are recorded too, with an explanation by `reasons`.
     ///
     /// Fails only with `Memory`.
-    pub fn of(alloc: Global, script: &[u8], window: &Window) -> Result<Run, Refusal>
+    pub fn of<X: Explain>(
+        alloc: Global,
+        script: &[u8],
+        window: &Window,
+        reasons: &mut X,
+    ) -> Result<Run, Refusal>
         ensures columns { IfOk result (λ run.
             lines_drawn run.history.columns.items ≡ drawn_lines window.now (script_of script.now)) }
         ensures shown { IfOk result (λ run. ShowsRun window.now (script_of script.now)
@@ -66,7 +69,7 @@ impl Run {
     {
         let lines = read_script(alloc, script)?;
         let mut run = Run::new(alloc, window)?;
-        run.take_all(lines.as_slice(), script)?;
+        run.take_all(lines.as_slice(), script, reasons)?;
         run.finish()?;
         Ok(run)
     }
@@ -116,12 +119,16 @@ impl Run {
             alloc,
             window: *window,
             desk: Desk::new(alloc)?,
-            book: Book::new(alloc),
             history: History::new(alloc),
         })
     }
 
-    fn take_all(&mut self, lines: &[Line], script: &[u8]) -> Result<(), Refusal>
+    fn take_all<X: Explain>(
+        &mut self,
+        lines: &[Line],
+        script: &[u8],
+        reasons: &mut X,
+    ) -> Result<(), Refusal>
         requires rising { AreRising 1 lines.now }
         requires none { HasDrawn self.old.window [] self.old.desk self.old.history.columns.items self.old.history.bars.items }
         ensures drawn { OnOk result (HasDrawn self.old.window lines.now
@@ -131,7 +138,7 @@ impl Run {
         let mut texts = Texts::of(script);
         for line in lines {
             let text = texts.line(line.number);
-            self.take(&raw_line(line.number, text), &line.body)?;
+            self.take(&raw_line(line.number, text), &line.body, reasons)?;
         }
         Ok(())
     }
@@ -139,7 +146,12 @@ impl Run {
     /// Answers a line up to the window's last, with a column of its own if it is in the window.
     ///
     /// Fails only with `Memory`.
-    fn take(&mut self, line: &RawLine<'_>, body: &Body) -> Result<(), Refusal>
+    fn take<X: Explain>(
+        &mut self,
+        line: &RawLine<'_>,
+        body: &Body,
+        reasons: &mut X,
+    ) -> Result<(), Refusal>
         ensures drawn { OnOk result ((done : List LineModel) → All (λ (l : LineModel). l.number < line.now.number) done →
             HasDrawn self.old.window done self.old.desk self.old.history.columns.items self.old.history.bars.items →
             HasDrawn self.old.window (done ++ record { number = line.now.number; body = body.now } ∷ [])
@@ -148,15 +160,20 @@ impl Run {
         ensures waits { self.new.history.waits ≡ self.old.history.waits }
     {
         if self.window.has(line.number) {
-            self.take_drawn(line, body)
+            self.take_drawn(line, body, reasons)
         } else if line.number <= self.window.last {
-            self.take_undrawn(line.number, body)
+            self.take_undrawn(line.number, body, reasons)
         } else {
             Ok(())
         }
     }
 
-    fn take_undrawn(&mut self, line: u32, body: &Body) -> Result<(), Refusal>
+    fn take_undrawn<X: Explain>(
+        &mut self,
+        line: u32,
+        body: &Body,
+        reasons: &mut X,
+    ) -> Result<(), Refusal>
         requires before { line < self.old.window.first }
         requires within { line ≤ self.old.window.last }
         ensures drawn { OnOk result ((done : List LineModel) → All (λ (l : LineModel). l.number < line) done →
@@ -167,10 +184,15 @@ impl Run {
         ensures waits { self.new.history.waits ≡ self.old.history.waits }
     {
         let answer = answer_line(&mut self.desk, *body);
-        self.enter(0, line, body, &answer)
+        self.enter(0, line, body, &answer, reasons)
     }
 
-    fn take_drawn(&mut self, line: &RawLine<'_>, body: &Body) -> Result<(), Refusal>
+    fn take_drawn<X: Explain>(
+        &mut self,
+        line: &RawLine<'_>,
+        body: &Body,
+        reasons: &mut X,
+    ) -> Result<(), Refusal>
         requires within { is_in_window self.old.window line.now.number ≡ true }
         ensures drawn { OnOk result ((done : List LineModel) → All (λ (l : LineModel). l.number < line.now.number) done →
             HasDrawn self.old.window done self.old.desk self.old.history.columns.items self.old.history.bars.items →
@@ -181,7 +203,7 @@ impl Run {
     {
         self.ask_first();
         let answer = answer_line(&mut self.desk, *body);
-        self.record(line, body, &answer)
+        self.record(line, body, &answer, reasons)
     }
 
     /// Before the first column, settles the bars of open files that are signalled.
@@ -199,7 +221,13 @@ impl Run {
     }
 
     /// Adds a column for a line with its answer.
-    fn record(&mut self, line: &RawLine<'_>, body: &Body, answer: &Answer) -> Result<(), Refusal>
+    fn record<X: Explain>(
+        &mut self,
+        line: &RawLine<'_>,
+        body: &Body,
+        answer: &Answer,
+        reasons: &mut X,
+    ) -> Result<(), Refusal>
         ensures columns { OnOk result (lines_drawn self.new.history.columns.items
             ≡ lines_drawn self.old.history.columns.items ++ line.now.number ∷ []) }
         ensures bars { OnOk result (AreAsked self.old.desk (length self.old.history.columns.items + 1)
@@ -210,8 +238,8 @@ impl Run {
         ensures waits { self.new.history.waits ≡ self.old.history.waits }
     {
         let column = self.history.columns.len() + 1;
-        self.enter(column, line.number, body, answer)?;
-        let note = self.note_of(line, body, answer)?;
+        self.enter(column, line.number, body, answer, reasons)?;
+        let note = self.note_of(line, body, answer, reasons)?;
         self.history.add_column(Column {
             line: line.number,
             word: word_of_line(body),
@@ -223,12 +251,13 @@ impl Run {
     }
 
     /// Enters a line with its answer in its column.
-    fn enter(
+    fn enter<X: Explain>(
         &mut self,
         column: usize,
         line: u32,
         body: &Body,
         answer: &Answer,
+        reasons: &mut X,
     ) -> Result<(), Refusal>
         ensures columns { self.new.history.columns ≡ self.old.history.columns }
         ensures bars { OnOk result (self.new.history.bars.items
@@ -242,17 +271,18 @@ impl Run {
             return Ok(());
         }
         match body {
-            Body::Cmd(command) => self.enter_command(column, line, command, answer),
+            Body::Cmd(command) => self.enter_command(column, line, command, answer, reasons),
             Body::Bad(_) => Ok(()),
         }
     }
 
-    fn enter_command(
+    fn enter_command<X: Explain>(
         &mut self,
         column: usize,
         line: u32,
         command: &Command,
         answer: &Answer,
+        reasons: &mut X,
     ) -> Result<(), Refusal>
         ensures columns { self.new.history.columns ≡ self.old.history.columns }
         ensures bars { OnOk result (self.new.history.bars.items
@@ -261,45 +291,26 @@ impl Run {
         ensures window { self.new.window ≡ self.old.window }
         ensures waits { self.new.history.waits ≡ self.old.history.waits }
     {
-        self.book.enter(line, command, &self.desk)?;
+        reasons.accept(line, command, &self.desk)?;
         let points = points_of(&self.desk, command);
         self.history
             .enter(self.alloc, column, command, answer, points)
     }
 
     /// The line, its answer, and the reason if it was refused.
-    fn note_of(
+    fn note_of<X: Explain>(
         &self,
         line: &RawLine<'_>,
         body: &Body,
         answer: &Answer,
+        reasons: &X,
     ) -> Result<Vec<u8>, Refusal> {
         let mut note = Vec::new(self.alloc);
         push_answer(line, answer, &mut note)?;
         if let Answer::Refused(refusal) = answer {
-            self.push_reason(line, body, *refusal, &mut note)?;
+            reasons.explain(&self.desk, line, body, *refusal, &mut note)?;
         }
         Ok(note)
-    }
-
-    fn push_reason(
-        &self,
-        line: &RawLine<'_>,
-        body: &Body,
-        refusal: Refusal,
-        note: &mut Vec<u8>,
-    ) -> Result<(), Refusal> {
-        match body {
-            Body::Cmd(command) => push_reason(
-                &self.desk,
-                &self.book,
-                line.number,
-                command,
-                refusal,
-                note,
-            ),
-            Body::Bad(_) => push_fault(self.alloc, line, refusal, note),
-        }
     }
 
     /// Enters the points for which the pending files wait.

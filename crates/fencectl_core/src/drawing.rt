@@ -3,6 +3,7 @@ ghost use Rattle.std.specs.Prelude.{◌≡◌, IfOk, if◌then◌else◌};
 
 use crate::action::Draw;
 use crate::fault::FAULT;
+use crate::reasons::Reasons;
 use crate::status::{ACCEPTED, REFUSED};
 use draw_core::{COLUMNS, Drawing, Run, Window, count_lines};
 use line_core::SCRIPT_BYTES;
@@ -50,8 +51,14 @@ fn draw_graph(
     window: &Window,
     script: &[u8],
 ) -> Result<u8, Refusal> {
-    let mut run = Run::of(rt.alloc(), script, window)?;
+    let mut run = run_of(rt, window, script)?;
     write_graph(rt, output, &mut run)
+}
+
+/// A script's run, recorded and explained.
+fn run_of(rt: &HostRuntime, window: &Window, script: &[u8]) -> Result<Run, Refusal> {
+    let mut reasons = Reasons::new(rt.alloc());
+    Run::of(rt.alloc(), script, window, &mut reasons)
 }
 
 fn write_graph(rt: &HostRuntime, output: Option<&str>, run: &mut Run) -> Result<u8, Refusal> {
@@ -70,8 +77,14 @@ fn draw_picture(
     window: &Window,
     script: &[u8],
 ) -> Result<u8, Refusal> {
-    let drawing = Drawing::of(rt.alloc(), script, window)?;
+    let drawing = drawing_of(rt, window, script)?;
     write_picture(rt, output, &drawing, status_of(drawing.history()))
+}
+
+/// The picture of a script's run, with its explanations.
+fn drawing_of(rt: &HostRuntime, window: &Window, script: &[u8]) -> Result<Drawing, Refusal> {
+    let mut reasons = Reasons::new(rt.alloc());
+    Drawing::of(rt.alloc(), script, window, &mut reasons)
 }
 
 fn write_picture(
@@ -90,12 +103,12 @@ fn status_of(history: &History) -> u8
     if history.refused { REFUSED } else { ACCEPTED }
 }
 
-/// Draws a script that what happened in a trace was written as, to standard output.
+/// Draws the script of a trace's events, to standard output.
 pub(crate) fn draw_trace(rt: &HostRuntime, script: &[u8]) -> Result<u8, Refusal> {
     if count_lines(rt.alloc(), script)? > COLUMNS {
         return report_mistake(rt, TOO_LONG_A_WINDOW);
     }
-    let drawing = Drawing::of(rt.alloc(), script, &Window::whole())?;
+    let drawing = drawing_of(rt, &Window::whole(), script)?;
     write_picture(rt, None, &drawing, ACCEPTED)
 }
 

@@ -12,6 +12,7 @@ mod color;
 mod drawing;
 mod fault;
 mod paint;
+mod reasons;
 mod run;
 mod scripts;
 mod start;

@@ -5,7 +5,7 @@ use Rattle.draw_core.proofs.Picturing.{ShowsScript-drawn}
 use Rattle.draw_core.proofs.drawing.Drawing.of.Goals as goal
 
 pub returns : goal.returns
-returns c =
+returns g c =
     let run = c.in_ok-run.run' in
     let picture = c.in_ok-picture.picture in
     ShowsScript-drawn c.args.window.now (script_of c.args.script.now) run.history picture c.in_ok-run.ensures.columns c.in_ok-run.ensures.shown

@@ -4,16 +4,16 @@ use Rattle.line_core.specs.Script.{script_of}
 use Rattle.draw_core.proofs.run.Run.of.Goals as goal
 
 pub take_all-requires-clause-rising : goal.take_all-requires-clause-rising
-take_all-requires-clause-rising c = rw (c.as_slice.ensures.value, c.in_ok-lines.ensures.ok) (AreRising-script c.args.script.now)
+take_all-requires-clause-rising g c = rw (c.as_slice.ensures.value, c.in_ok-lines.ensures.ok) (AreRising-script c.args.script.now)
 
 pub returns-clause-shown : goal.returns-clause-shown
-returns-clause-shown c =
+returns-clause-shown g c =
     rw c.finish.ensures.columns
     (ShowsRun-finished c.args.window.now (script_of c.args.script.now) c.take_all.new.self.desk c.take_all.new.self.history.columns.items c.take_all.new.self.history.bars.items c.finish.new.self.history.bars.items c.finish.new.self.history.waits.items
     (rw (c.in_ok-run.ensures.window, c.as_slice.ensures.value, c.in_ok-lines.ensures.ok) at c.in_ok-take_all.ensures.drawn)
     c.in_ok-finish.ensures.asked c.in_ok-finish.ensures.waits)
 
 pub returns-clause-stands : goal.returns-clause-stands
-returns-clause-stands c =
+returns-clause-stands g c =
     let drawn = rw (c.in_ok-run.ensures.window, c.as_slice.ensures.value, c.in_ok-lines.ensures.ok) at c.in_ok-take_all.ensures.drawn in
     rw c.finish.ensures.desk (record { given = drawn.given; answers = drawn.answers; stands = drawn.stands })

@@ -3,7 +3,7 @@ use Rattle.draw_core.proofs.Lines.{below_line, take_line}
 use Rattle.draw_core.proofs.run.Run.take_all.Goals as goal
 
 pub loop-line-preserved : goal.loop-line-preserved
-loop-line-preserved c =
+loop-line-preserved g c =
     let lines = c.args.lines.now in
     let i = c.loop-line.line-index in
     let line = c.line-item.result in

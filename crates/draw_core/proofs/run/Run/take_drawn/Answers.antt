@@ -3,7 +3,7 @@ use Rattle.draw_core.proofs.Waits.{on_both}
 use Rattle.draw_core.proofs.run.Run.take_drawn.Goals as goal
 
 pub returns-clause-drawn : goal.returns-clause-drawn
-returns-clause-drawn c = on_both c.record.result _ _ _ c.record.ensures.columns c.record.ensures.bars (λ lines by done below drawn.
+returns-clause-drawn g c = on_both c.record.result _ _ _ c.record.ensures.columns c.record.ensures.bars (λ lines by done below drawn.
     rw c.record.ensures.desk
     (HasDrawn-drawn c.args.self.now.window done c.args.self.now.desk c.answer_line-answer.new.desk c.args.self.now.history.columns.items c.record.new.self.history.columns.items c.ask_first.new.self.history.bars.items c.record.new.self.history.bars.items
     (record { number = c.args.line.now.number; body = c.args.body.now }) c.answer_line-answer.result c.requires.within below
