@@ -27,4 +27,3 @@ pub mod Pending
 pub mod Tracker
 pub mod Window
 pub mod Reading
-pub mod Text

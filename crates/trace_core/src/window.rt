@@ -11,7 +11,7 @@ pub struct Span {
 }
 
 /// Microseconds of a second.
-pub(crate) const SECOND: u64 = 1_000_000;
+const SECOND: u64 = 1_000_000;
 
 /// The decimals of a second.
 const DECIMALS: usize = 6;
