@@ -20,7 +20,7 @@ use std::alloc::Global;
 pub const KEPT_CONTEXTS: usize = 4096;
 
 /// What the fences of a context did.
-#[derive(Clone, Copy, Debug)]
+#[derive(Clone, Copy)]
 pub struct Context {
     pub order: Order,
     pub points: Points,

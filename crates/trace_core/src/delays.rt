@@ -32,7 +32,7 @@ struct Span {
 }
 
 /// The middle, the 95th percentile and the longest of a timeline's times, in microseconds.
-#[derive(Clone, Copy, Debug)]
+#[derive(Clone, Copy)]
 pub struct Delay {
     pub count: u64,
     /// To within a sixteenth.

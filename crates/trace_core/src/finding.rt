@@ -8,7 +8,7 @@ use crate::order::Order;
 use crate::points::Points;
 
 /// What an event is, by what was known of its key and of its context before it. [`Tally`](crate::Tally) explains each.
-#[derive(Clone, Copy, Debug)]
+#[derive(Clone, Copy)]
 pub struct Finding {
     pub event: Event,
     pub new_context: bool,

@@ -13,7 +13,7 @@ use crate::steps::after;
 pub const PIECE_BYTES: usize = 8192;
 
 /// What a piece of the text is: a line, or a record of a `dma_fence` event, which is several lines if a name holds line feeds.
-#[derive(Clone, Copy, Debug)]
+#[derive(Clone, Copy)]
 pub enum Item<'a> {
     /// A record of a `dma_fence` event.
     Event(Record<'a>),

@@ -21,7 +21,7 @@ use point_core::Refusal;
 use std::alloc::Global;
 
 /// What was known before an event, and what the event is by that.
-#[derive(Clone, Copy, Debug)]
+#[derive(Clone, Copy)]
 pub struct Sight {
     /// What was known of its key.
     pub life: Life,

@@ -6,7 +6,7 @@ ghost use Rattle.trace_core.specs.Life.{made, emitted, signalled, destroyed, wit
 use crate::event::Event;
 
 /// What the events so far say of the fences of one key that are alive.
-#[derive(Clone, Copy, Debug)]
+#[derive(Clone, Copy)]
 pub struct Life {
     /// How many were made and neither signalled nor destroyed.
     pub pending: u32,

@@ -10,7 +10,7 @@ use crate::event::Event;
 const HALF: u32 = 0x8000_0000;
 
 /// How far the fences of a context were signalled.
-#[derive(Clone, Copy, Debug)]
+#[derive(Clone, Copy)]
 pub struct Order {
     /// Whether one was.
     pub some: bool,

@@ -14,7 +14,7 @@ use point_core::Refusal;
 use std::alloc::Global;
 
 /// What is known of a fence that is pending.
-#[derive(Clone, Copy, Debug, PartialEq, Eq, PartialOrd, Ord)]
+#[derive(Clone, Copy, PartialEq, Eq, PartialOrd, Ord)]
 pub enum PendingKind {
     /// It hangs: no events were lost since it was made or emitted.
     Hang,
@@ -25,7 +25,7 @@ pub enum PendingKind {
 }
 
 /// A fence that is pending: it was made or emitted, and not signalled. Its order is the order of making.
-#[derive(Clone, Copy, Debug, PartialEq, Eq, PartialOrd, Ord)]
+#[derive(Clone, Copy, PartialEq, Eq, PartialOrd, Ord)]
 pub struct Pending {
     /// How many events came before it was made or emitted.
     pub born: u64,

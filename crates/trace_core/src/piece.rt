@@ -17,7 +17,7 @@ pub const RECORD_LINES: usize = 4;
 const _: () = prove!(RECORD_LINES == 4);
 
 /// A piece of the text.
-#[derive(Clone, Copy, Debug)]
+#[derive(Clone, Copy)]
 pub struct Piece<'a> {
     /// What it is.
     pub item: Item<'a>,

@@ -3,7 +3,7 @@ ghost use Rattle.std.specs.Prelude.{◌≡◌};
 ghost use Rattle.trace_core.specs.Points.{are_none, is_only, points_after};
 
 /// Which seqnos were seen in a context.
-#[derive(Clone, Copy, Debug)]
+#[derive(Clone, Copy)]
 pub enum Points {
     None,
     /// Only this seqno.

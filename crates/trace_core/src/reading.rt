@@ -18,7 +18,7 @@ use point_core::Refusal;
 use std::io::Read;
 
 /// One step of a reading.
-#[derive(Clone, Copy, Debug)]
+#[derive(Clone, Copy)]
 pub enum Next {
     /// The window begins: what comes next is its first event, or its end.
     Begin,

@@ -8,7 +8,7 @@ use crate::fields::fields_of;
 use crate::header::{Header, header_of};
 
 /// One `dma_fence` event, as the kernel printed it. Names are raw bytes without NUL; a line feed may be among them.
-#[derive(Clone, Copy, Debug)]
+#[derive(Clone, Copy)]
 pub struct Record<'a> {
     /// The task's name, without the blanks around it. The kernel prints `<...>` for a name that it forgot.
     pub task: &'a [u8],

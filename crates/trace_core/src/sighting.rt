@@ -6,14 +6,14 @@ ghost use Rattle.trace_core.specs.Keys.{timeline_of, context_of, unnumbered};
 use crate::event::Event;
 
 /// A timeline, by the numbers of its driver's name and its own.
-#[derive(Clone, Copy, Debug, PartialEq, Eq, Hash)]
+#[derive(Clone, Copy, PartialEq, Eq, Hash)]
 pub struct TimelineKey {
     pub driver: u32,
     pub timeline: u32,
 }
 
 /// A context of a timeline: the lower 32 bits, which are all that the kernel prints.
-#[derive(Clone, Copy, Debug, PartialEq, Eq, Hash)]
+#[derive(Clone, Copy, PartialEq, Eq, Hash)]
 pub struct ContextKey {
     pub driver: u32,
     pub timeline: u32,
@@ -21,7 +21,7 @@ pub struct ContextKey {
 }
 
 /// What names a fence in a trace: its context and the lower 32 bits of its seqno. A trace may use a key again.
-#[derive(Clone, Copy, Debug, PartialEq, Eq, Hash, PartialOrd, Ord)]
+#[derive(Clone, Copy, PartialEq, Eq, Hash, PartialOrd, Ord)]
 pub struct FenceKey {
     pub driver: u32,
     pub timeline: u32,
@@ -70,7 +70,7 @@ impl FenceKey {
 }
 
 /// One event of a fence.
-#[derive(Clone, Copy, Debug)]
+#[derive(Clone, Copy)]
 pub struct Sighting {
     pub event: Event,
     pub key: FenceKey,

@@ -11,7 +11,7 @@ use std::alloc::Global;
 const LATE_BUFFERS: usize = 4096;
 
 /// How many events the buffer had, how many were written to it, and how many processors there were, as a header says.
-#[derive(Clone, Copy, Debug)]
+#[derive(Clone, Copy)]
 pub struct Counts {
     pub in_buffer: u64,
     pub written: u64,
@@ -19,7 +19,7 @@ pub struct Counts {
 }
 
 /// The times of a text's records, in microseconds.
-#[derive(Clone, Copy, Debug)]
+#[derive(Clone, Copy)]
 pub struct Clock {
     pub first: u64,
     /// The greatest timestamp (not the last one: timestamps may go backwards).

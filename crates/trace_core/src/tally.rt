@@ -6,7 +6,7 @@ use crate::event::Event;
 use crate::finding::Finding;
 
 /// How many events there were of each kind. A count stops at the greatest u64.
-#[derive(Clone, Copy, Debug)]
+#[derive(Clone, Copy)]
 pub struct EventCounts {
     pub init: u64,
     pub emit: u64,
@@ -47,7 +47,7 @@ impl EventCounts {
 }
 
 /// Counts of the events of some fences, and of what they did. A count stops at the greatest u64.
-#[derive(Clone, Copy, Debug)]
+#[derive(Clone, Copy)]
 pub struct Tally {
     pub events: EventCounts,
     /// Contexts that were seen, each once but for those that were forgotten and seen again.

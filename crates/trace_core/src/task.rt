@@ -4,7 +4,7 @@
 pub const TASK_BYTES: usize = 16;
 
 /// The name of a task.
-#[derive(Clone, Copy, Debug)]
+#[derive(Clone, Copy)]
 pub struct TaskName {
     bytes: [u8; TASK_BYTES],
 }

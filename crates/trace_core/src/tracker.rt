@@ -25,7 +25,7 @@ use point_core::Refusal;
 use std::alloc::Global;
 
 /// An event of a fence, as it was taken in.
-#[derive(Clone, Copy, Debug)]
+#[derive(Clone, Copy)]
 pub struct Seen {
     pub sighting: Sighting,
     /// What was known of its key before it.

@@ -14,7 +14,7 @@ use std::alloc::Global;
 pub const LONGEST_WAITS: usize = 10;
 
 /// A wait for a fence.
-#[derive(Clone, Copy, Debug)]
+#[derive(Clone, Copy)]
 pub struct Wait {
     pub pid: u32,
     pub task: TaskName,
@@ -26,7 +26,7 @@ pub struct Wait {
 }
 
 /// Waits that ended: how many, how long together, and the longest. Times are microseconds.
-#[derive(Clone, Copy, Debug)]
+#[derive(Clone, Copy)]
 pub struct WaitSum {
     pub count: u64,
     pub total: u64,
@@ -50,7 +50,7 @@ impl WaitSum {
 }
 
 /// One of the waits of a thread for a key. If a thread began several waits for it, the wait that began last ends first.
-#[derive(Clone, Copy, Debug, PartialEq, Eq, Hash)]
+#[derive(Clone, Copy, PartialEq, Eq, Hash)]
 pub struct WaitKey {
     pub pid: u32,
     pub key: FenceKey,

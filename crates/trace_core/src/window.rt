@@ -4,7 +4,7 @@ ghost use Rattle.std.specs.Prelude.{◌≡◌, ◌≤◌, IfSome};
 ghost use Rattle.trace_core.specs.Window.{is_over, stage_after, within};
 
 /// A window of a trace's time, in microseconds, both ends within.
-#[derive(Clone, Copy, Debug)]
+#[derive(Clone, Copy)]
 pub struct Span {
     pub from: u64,
     pub to: u64,
@@ -81,7 +81,7 @@ fn digit(byte: u8) -> Option<u64> {
 }
 
 /// Where a reading of a trace is: before its window, within it or after it.
-#[derive(Clone, Copy, Debug, PartialEq, Eq)]
+#[derive(Clone, Copy, PartialEq, Eq)]
 pub enum Stage {
     Before,
     Within,
