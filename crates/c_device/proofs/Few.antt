@@ -5,7 +5,7 @@ use Rattle.std.proofs.lemmas.Bool.{cases_lt, eqb-true, false≢true}
 use Rattle.std.proofs.lemmas.List.Elements.{All-contains, All-contains_itself, All-filter, All-get_or, filter_passes}
 use Rattle.std.proofs.lemmas.List.Filters.{length-filter_both}
 use Rattle.std.proofs.lemmas.List.Kept.{AllPairs-from_increasing, IsStrictlyIncreasing-filter}
-use Rattle.device_core.specs.State.{at}
+use Rattle.device_core.specs.theorem.State.{at}
 
 -- a number occurs once
 once : (k : ℕ) (ns : List ℕ) → IsStrictlyIncreasing ns → length (filter (λ n. nat_eq n k) ns) ≤ 1

@@ -8,13 +8,13 @@ use Rattle.device_core.specs.declared.request.Request.{Request}
 use Rattle.device_core.specs.declared.request.Request.TheVariants as request
 use Rattle.device_core.specs.declared.request.Answer.{Answer}
 use Rattle.device_core.specs.declared.request.Answer.TheVariants as answer
-use Rattle.device_core.specs.Buffers.{none_waits}
-use Rattle.device_core.specs.Fences.{are_signalled, status_of}
-use Rattle.device_core.specs.State.{FileState, DeviceState, Objects, file_at, timeline_at, objects_of, file_signalled}
-use Rattle.device_core.specs.Request.{with_at, closed, closed_timeline, dropped, risen, wakes_some, after, is_waiting, AreWoken, IsAnswer, Reports}
-use Rattle.device_core.specs.History.{World, world_of, HasHistory}
+use Rattle.device_core.specs.theorem.Buffers.{none_waits}
+use Rattle.device_core.specs.theorem.Fences.{are_signalled, status_of}
+use Rattle.device_core.specs.theorem.State.{FileState, DeviceState, Objects, file_at, timeline_at, objects_of, file_signalled}
+use Rattle.device_core.specs.theorem.Request.{with_at, closed, closed_timeline, dropped, risen, wakes_some, after, is_waiting, AreWoken, IsAnswer, Reports}
+use Rattle.device_core.specs.theorem.History.{World, world_of, HasHistory}
 use Rattle.device_core.specs.Sound.{IsSound}
-use Rattle.device_core.specs.Times.{woken_in}
+use Rattle.device_core.specs.theorem.Times.{woken_in}
 use Rattle.device_core.proofs.Counting.{info-told, object-told, wakes-after, woken-told}
 use Rattle.device_core.proofs.Needing.{wakes-none}
 use Rattle.device_core.proofs.Sound.{with_at-same, with_at-other}

@@ -6,9 +6,9 @@ use Rattle.std.proofs.lemmas.List.Elements.{All-filter, All-head, All-tail, All-
 use Rattle.device_core.specs.declared.refusal.Refusal.{Refusal}
 use Rattle.device_core.specs.declared.request.Request.{Request}
 use Rattle.device_core.specs.declared.request.Answer.{Answer}
-use Rattle.device_core.specs.State.{DeviceState, Objects, file_at, objects_of}
-use Rattle.device_core.specs.Request.{after, IsAnswer}
-use Rattle.device_core.specs.History.{HasHistory, history_after}
+use Rattle.device_core.specs.theorem.State.{DeviceState, Objects, file_at, objects_of}
+use Rattle.device_core.specs.theorem.Request.{after, IsAnswer}
+use Rattle.device_core.specs.theorem.History.{HasHistory, history_after}
 use Rattle.c_device.specs.Service.{ServiceState, IsStep, AreGiven, open_among, woken_of}
 use Rattle.c_device.proofs.Queued.{files-stay}
 

@@ -4,7 +4,7 @@ use Rattle.device_core.specs.declared.refusal.Refusal.{Refusal}
 use Rattle.device_core.specs.declared.refusal.Refusal.TheVariants.{NoEntry, NoMemory, Invalid, WrongKind, NoNumber, Overflow}
 use Rattle.device_core.specs.declared.request.Request.{Request}
 use Rattle.device_core.specs.declared.request.Answer.{Answer}
-use Rattle.device_core.specs.State.{nothing}
+use Rattle.device_core.specs.theorem.State.{nothing}
 use Rattle.c_device.specs.declared.handle.DeviceHandle.{DeviceHandle}
 use Rattle.c_device.specs.Handle.{is_open}
 use Rattle.c_handle.specs.Rows.{over}

@@ -4,7 +4,7 @@ use Rattle.device_core.specs.declared.fence.Fence.{Fence}
 use Rattle.device_core.specs.declared.refusal.Refusal.{Refusal}
 use Rattle.device_core.specs.declared.refusal.Refusal.TheVariants.{Invalid}
 use Rattle.device_core.specs.Due.{IsDueAnswer}
-use Rattle.device_core.specs.State.{DeviceState, file_at, missing_file, missing_timeline, objects_of, timeline_at}
+use Rattle.device_core.specs.theorem.State.{DeviceState, file_at, missing_file, missing_timeline, objects_of, timeline_at}
 use Rattle.c_device.specs.declared.handle.DeviceHandle.{DeviceHandle}
 use Rattle.c_device.specs.declared.rows.PointRow.{PointRow}
 use Rattle.c_device.specs.Call.{number_of}

@@ -6,7 +6,7 @@ use Rattle.device_core.specs.declared.request.Answer.TheVariants as answer
 use Rattle.device_core.specs.declared.info.Driver.{Driver}
 use Rattle.device_core.specs.declared.info.FenceInfo.{FenceInfo}
 use Rattle.device_core.specs.declared.info.FileInfo.{FileInfo}
-use Rattle.device_core.specs.Info.{driver_name}
+use Rattle.device_core.specs.theorem.Info.{driver_name}
 use Rattle.c_device.specs.declared.rows.TheConstants.{DRIVER_TEXT_BYTES}
 use Rattle.c_device.specs.declared.rows.FenceRow.{FenceRow}
 use Rattle.c_device.specs.declared.rows.FileRow.{FileRow}

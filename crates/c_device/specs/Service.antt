@@ -4,10 +4,10 @@ use Rattle.device_core.specs.declared.refusal.Refusal.{Refusal}
 use Rattle.device_core.specs.declared.request.Request.{Request}
 use Rattle.device_core.specs.declared.request.Request.TheVariants as request
 use Rattle.device_core.specs.declared.request.Answer.{Answer}
-use Rattle.device_core.specs.State.{DeviceState, file_at, objects_of}
-use Rattle.device_core.specs.Request.{IsAnswer, takes_memory}
-use Rattle.device_core.specs.History.{HasHistory, history_after}
-use Rattle.device_core.specs.Times.{in_accepted, woken_in}
+use Rattle.device_core.specs.theorem.State.{DeviceState, file_at, objects_of}
+use Rattle.device_core.specs.theorem.Request.{IsAnswer, takes_memory}
+use Rattle.device_core.specs.theorem.History.{HasHistory, history_after}
+use Rattle.device_core.specs.theorem.Times.{in_accepted, woken_in}
 
 -- the files that were woken, in order, without those that were taken or closed since
 pub record ServiceState : Type 0 where

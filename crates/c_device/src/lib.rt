@@ -7,7 +7,7 @@
 ghost use Rattle.std.specs.Prelude.{◌≡◌, false, IfErr, OnOk, OnErr, Ok, ⊤};
 ghost use Rattle.device_core.specs.declared.refusal.Refusal.TheVariants.{NoMemory};
 ghost use Rattle.device_core.specs.declared.request.Request.TheVariants as request;
-ghost use Rattle.device_core.specs.Names.{as_text};
+ghost use Rattle.device_core.specs.theorem.Names.{as_text};
 ghost use Rattle.c_device.specs.Asked.{asked_test};
 ghost use Rattle.c_device.specs.Call.{IsCall, IsNew, IsOpening, IsTaking};
 ghost use Rattle.c_device.specs.Handle.{is_open};

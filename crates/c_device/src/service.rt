@@ -3,8 +3,8 @@
 ghost use Rattle.std.specs.Prelude.{◌≡◌, ◌≤◌, ◌-◌, ℕ, [], ◌++◌, true, length, drop, min, option_to_list, IfErr, IfNone, OnOk, Err};
 ghost use Rattle.std.specs.VecDeque.{deque_len, deque_capacity};
 ghost use Rattle.device_core.specs.declared.request.Request.TheVariants as request;
-ghost use Rattle.device_core.specs.Request.{IsAnswer, takes_memory};
-ghost use Rattle.device_core.specs.State.{nothing, objects_of};
+ghost use Rattle.device_core.specs.theorem.Request.{IsAnswer, takes_memory};
+ghost use Rattle.device_core.specs.theorem.State.{nothing, objects_of};
 ghost use Rattle.c_handle.specs.Rows.{over};
 ghost use Rattle.c_device.specs.Looks.{AnswersDue, AnswersFence, AnswersValue};
 ghost use Rattle.c_device.specs.Service.{IsStep, AreGiven, may_wake, open_among, woken_of};

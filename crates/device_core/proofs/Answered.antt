@@ -20,19 +20,19 @@ use Rattle.device_core.specs.declared.request.Request.{Request}
 use Rattle.device_core.specs.declared.request.Request.TheVariants as request
 use Rattle.device_core.specs.declared.request.Answer.{Answer}
 use Rattle.device_core.specs.declared.request.Answer.TheVariants as answer
-use Rattle.device_core.specs.Fences.{are_signalled, point_in, status_before, status_of, time_of}
-use Rattle.device_core.specs.Names.{as_text, fences_name as fences_name_in, file_name, kernel_name, text_of}
-use Rattle.device_core.specs.Info.{fence_info, fence_infos, stub_info}
-use Rattle.device_core.specs.Buffers.{BufferState, none_waits}
-use Rattle.device_core.specs.State.{DeviceState, FileState, empty_text, objects_of}
-use Rattle.device_core.specs.Request.{AreWoken, IsAnswer, IsCause, OnInfo, OnObject, OnWoken, Reports, after, cause_of, closed, has_signalled as has_signalled_in, is_waiting, risen, takes_memory, wakes_some}
-use Rattle.device_core.specs.History.{AreAccepted, AreAnswers, HasHistory, World, empty_world, reach_of, reached_by, sum_of, world_of}
+use Rattle.device_core.specs.theorem.Fences.{are_signalled, point_in, status_before, status_of, time_of}
+use Rattle.device_core.specs.theorem.Names.{as_text, fences_name as fences_name_in, file_name, kernel_name, text_of}
+use Rattle.device_core.specs.theorem.Info.{fence_info, fence_infos, stub_info}
+use Rattle.device_core.specs.theorem.Buffers.{BufferState, none_waits}
+use Rattle.device_core.specs.theorem.State.{DeviceState, FileState, empty_text, objects_of}
+use Rattle.device_core.specs.theorem.Request.{AreWoken, IsAnswer, IsCause, OnInfo, OnObject, OnWoken, Reports, after, cause_of, closed, has_signalled as has_signalled_in, is_waiting, risen, takes_memory, wakes_some}
+use Rattle.device_core.specs.theorem.History.{AreAccepted, AreAnswers, HasHistory, World, empty_world, reach_of, reached_by, sum_of, world_of}
 use Rattle.device_core.specs.Sound.{IsSound}
-use Rattle.device_core.specs.Signals.{first_status, opened_as, point_status}
-use Rattle.device_core.specs.Headline.{reach_after}
-use Rattle.device_core.specs.Requests.{Has32Bits, Have32Bits, causes, first_cause, is_file, is_timeline, kinds, open_kind}
-use Rattle.device_core.specs.Making.{Making, made_in, time_reached}
-use Rattle.device_core.specs.Answered.{Answers, AreAnswered, AreWokenBy, IsAnswered, IsInfoOf, MayLackMemory, OnInfoOf, Refuses, WakesOne, fences_name, file_status, has_signalled, is_reached_at, name_of, timeline_reach, row_of, rows_of, status_after, timeline_name, waits}
+use Rattle.device_core.specs.theorem.Signals.{first_status, opened_as, point_status}
+use Rattle.device_core.specs.theorem.Headline.{reach_after}
+use Rattle.device_core.specs.theorem.Requests.{Has32Bits, Have32Bits, causes, first_cause, is_file, is_timeline, kinds, open_kind}
+use Rattle.device_core.specs.theorem.Making.{Making, made_in, time_reached}
+use Rattle.device_core.specs.theorem.Answered.{Answers, AreAnswered, AreWokenBy, IsAnswered, IsInfoOf, MayLackMemory, OnInfoOf, Refuses, WakesOne, fences_name, file_status, has_signalled, is_reached_at, name_of, timeline_reach, row_of, rows_of, status_after, timeline_name, waits}
 use Rattle.device_core.proofs.Histories.{AreAccepted-push, world_from-push}
 use Rattle.device_core.proofs.Reporting.{HasSums-history, signalled-world}
 use Rattle.device_core.proofs.Stepping.{given_timelines, IsSound-history}

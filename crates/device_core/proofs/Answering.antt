@@ -9,10 +9,10 @@ use Rattle.device_core.specs.declared.fence.Fence.{Fence}
 use Rattle.device_core.specs.declared.fence.Timeline.{Timeline}
 use Rattle.device_core.specs.declared.refusal.Refusal.{Refusal}
 use Rattle.device_core.specs.declared.refusal.Refusal.TheVariants.{Overflow}
-use Rattle.device_core.specs.Fences.{is_pending, is_due, signal_at, are_signalled, signalled_by, all_signalled_by}
-use Rattle.device_core.specs.State.{FileState, DeviceState, at, timeline_at, file_at, objects_of, raised, file_signalled, AreSignalled}
+use Rattle.device_core.specs.theorem.Fences.{is_pending, is_due, signal_at, are_signalled, signalled_by, all_signalled_by}
+use Rattle.device_core.specs.theorem.State.{FileState, DeviceState, at, timeline_at, file_at, objects_of, raised, file_signalled, AreSignalled}
 use Rattle.device_core.specs.Woken.{is_settled_by, file_wakes}
-use Rattle.device_core.specs.Request.{value_in, with_signals, closed_timeline, dropped, closed, risen, overflow, is_waiting, has_signalled, AreWoken}
+use Rattle.device_core.specs.theorem.Request.{value_in, with_signals, closed_timeline, dropped, closed, risen, overflow, is_waiting, has_signalled, AreWoken}
 
 -- the objects of a device after a timeline is closed
 objects-with_signals : (d e : DeviceState) (t : ℕ) (new : Option Timeline) (v : ℕ) (s : Signal) → e.next ≡ d.next → e.buffers ≡ d.buffers → ((q : ℕ) → timeline_at e q ≡ cond (nat_eq t q) new (timeline_at d q)) → AreSignalled t v s d.files e.files → objects_of e ≡ with_signals (objects_of d) t new v s

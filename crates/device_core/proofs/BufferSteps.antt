@@ -16,12 +16,12 @@ use Rattle.point_core.proofs.Reached.{IsReached-AgreesAbove}
 use Rattle.device_core.specs.declared.buffer_fence.BufferFence.{BufferFence}
 use Rattle.device_core.specs.declared.fence.Fence.{Fence}
 use Rattle.device_core.specs.declared.fence.Timeline.{Timeline}
-use Rattle.device_core.specs.Fences.{are_signalled, entries_in, is_pending, pending_of}
-use Rattle.device_core.specs.State.{Objects}
-use Rattle.device_core.specs.History.{reach_of, reached_by}
+use Rattle.device_core.specs.theorem.Fences.{are_signalled, entries_in, is_pending, pending_of}
+use Rattle.device_core.specs.theorem.State.{Objects}
+use Rattle.device_core.specs.theorem.History.{reach_of, reached_by}
 use Rattle.device_core.specs.Sound.{AreFences, IsFence, is_above}
-use Rattle.device_core.specs.Buffers.{BufferState, IsReachOf, at_usage, entries_of, entry_of, exported, fence_waiting, has_grown, import_into, imported, is_waiting, is_within, none_waits, put_as, waiting_fence, with_buffer_fence}
-use Rattle.device_core.specs.BufferWorld.{AreBufferFences, HasGivenTimelines, IsBufferFence, put_with}
+use Rattle.device_core.specs.theorem.Buffers.{BufferState, IsReachOf, at_usage, entries_of, entry_of, exported, fence_waiting, has_grown, import_into, imported, is_waiting, is_within, none_waits, put_as, waiting_fence, with_buffer_fence}
+use Rattle.device_core.specs.theorem.BufferWorld.{AreBufferFences, HasGivenTimelines, IsBufferFence, put_with}
 use Rattle.device_core.proofs.Placed.{fold-All, pending-agrees}
 use Rattle.device_core.proofs.Sound.{fences-reached, value_at-reach_of}
 use Rattle.device_core.proofs.Putting.{import-agrees}

@@ -15,15 +15,15 @@ use Rattle.device_core.specs.declared.request.Request.TheVariants as request
 use Rattle.device_core.specs.declared.request.Answer.{Answer}
 use Rattle.device_core.specs.declared.info.FileInfo.{FileInfo}
 use Rattle.device_core.specs.declared.request.Answer.TheVariants as answer
-use Rattle.device_core.specs.Fences.{is_pending, is_due, signal_at, are_signalled, status_of}
-use Rattle.device_core.specs.State.{FileState, DeviceState, Objects, file_at, file_signalled, merged_files, one_fence_file, export_of}
+use Rattle.device_core.specs.theorem.Fences.{is_pending, is_due, signal_at, are_signalled, status_of}
+use Rattle.device_core.specs.theorem.State.{FileState, DeviceState, Objects, file_at, file_signalled, merged_files, one_fence_file, export_of}
 use Rattle.device_core.specs.Woken.{is_settled_by}
-use Rattle.device_core.specs.Buffers.{export_usage, none_waits as none_waits_in}
-use Rattle.device_core.specs.Request.{with_at, value_in, with_file, risen, closed, closed_timeline, dropped, after, is_waiting, has_signalled, AreWoken, OnWoken, OnObject, OnInfo, Reports}
-use Rattle.device_core.specs.History.{World, world_after, world_from, world_of, empty_world, AreAccepted, HasHistory, history_of, AreAnswers}
-use Rattle.device_core.specs.Times.{number_in, woken_in, in_accepted, numbers_given, times_woken, one_if, begins, is_dropped, times_from, times_begun, times_dropped}
+use Rattle.device_core.specs.theorem.Buffers.{export_usage, none_waits as none_waits_in}
+use Rattle.device_core.specs.theorem.Request.{with_at, value_in, with_file, risen, closed, closed_timeline, dropped, after, is_waiting, has_signalled, AreWoken, OnWoken, OnObject, OnInfo, Reports}
+use Rattle.device_core.specs.theorem.History.{World, world_after, world_from, world_of, empty_world, AreAccepted, HasHistory, history_of, AreAnswers}
+use Rattle.device_core.specs.theorem.Times.{number_in, woken_in, in_accepted, numbers_given, times_woken, one_if, begins, is_dropped, times_from, times_begun, times_dropped}
 use Rattle.device_core.specs.Sound.{IsSound}
-use Rattle.device_core.specs.Headline.{ReportsNumbers, ReportsEachWaking}
+use Rattle.device_core.specs.theorem.Headline.{ReportsNumbers, ReportsEachWaking}
 use Rattle.device_core.proofs.Sound.{with_at-same, with_at-other}
 use Rattle.device_core.proofs.Answering.{all_settled}
 use Rattle.device_core.proofs.Stepping.{IsSound-history}

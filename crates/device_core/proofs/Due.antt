@@ -5,7 +5,7 @@ use Rattle.std.proofs.lemmas.Bool.{and_from, and_parts, cases_Bool, eq-eqb, eqb-
 use Rattle.device_core.specs.declared.fence.Signal.{Signal}
 use Rattle.device_core.specs.declared.waiting.Waiting.{Waiting}
 use Rattle.device_core.specs.Due.{IsFirstDue, IsFirstHeld, WaitsAt, waiting_at}
-use Rattle.device_core.specs.State.{FileState, IsIndexed, at, file_signalled, holds, is_due_at}
+use Rattle.device_core.specs.theorem.State.{FileState, IsIndexed, at, file_signalled, holds, is_due_at}
 use Rattle.device_core.proofs.Signalled.{on_their_way-done, on_their_way-none}
 
 pub a-first : (index : List Waiting) (timeline bound : ℕ) (first : Waiting) → is_due_at timeline bound first ≡ true → holds index first ≡ true → ((k : Waiting) → is_due_at timeline bound k ≡ true → holds index k ≡ true → first.value ≤ k.value) → IsFirstHeld index timeline bound (Some first.value)

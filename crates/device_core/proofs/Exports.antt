@@ -14,8 +14,8 @@ use Rattle.point_core.proofs.Reached.{all_reached-IsReached}
 use Rattle.device_core.specs.declared.buffer_fence.BufferFence.{BufferFence}
 use Rattle.device_core.specs.declared.fence.Fence.{Fence}
 use Rattle.device_core.specs.declared.fence.Timeline.{Timeline}
-use Rattle.device_core.specs.Fences.{HasRisingTimelines, entries_in, with_fence}
-use Rattle.device_core.specs.Buffers.{AreWaiting, IsReachOf, IsWaitingAt, at_usage, entries_of, entry_of, fence_waiting, is_within, none_waits, waiting_fence, waits_in}
+use Rattle.device_core.specs.theorem.Fences.{HasRisingTimelines, entries_in, with_fence}
+use Rattle.device_core.specs.theorem.Buffers.{AreWaiting, IsReachOf, IsWaitingAt, at_usage, entries_of, entry_of, fence_waiting, is_within, none_waits, waiting_fence, waits_in}
 use Rattle.device_core.proofs.Placed.{Rising-is, fold-All, fold-Rising, fold-agrees}
 use Rattle.device_core.proofs.Putting.{Contains-first, IsReachOf-tail, not_waiting-reached}
 

@@ -12,9 +12,9 @@ use Rattle.device_core.specs.declared.fence.Fence.{Fence}
 use Rattle.device_core.specs.declared.fence.Timeline.{Timeline}
 use Rattle.device_core.specs.declared.timelines.OpenTimeline.{OpenTimeline}
 use Rattle.device_core.specs.declared.waiting.Waiting.{Waiting}
-use Rattle.device_core.specs.Fences.{is_pending, waits_at}
+use Rattle.device_core.specs.theorem.Fences.{is_pending, waits_at}
 use Rattle.device_core.specs.Floors.{HasFloors, HasRisenQuietly, TimelinesState, lowered, lowered_by, settled, timelines_in, timelines_state}
-use Rattle.device_core.specs.State.{AreInOrder, at, holds, is_due_at, raised, waits_of}
+use Rattle.device_core.specs.theorem.State.{AreInOrder, at, holds, is_due_at, raised, waits_of}
 
 -- a timeline that is found by its number
 pub at-timelines : (es : List (ℕ × OpenTimeline)) (number : ℕ) → at (timelines_in es) number ≡ option_map (λ (o : OpenTimeline). o.timeline) (at es number)

@@ -4,10 +4,10 @@ use Rattle.std.proofs.lemmas.List.Elements.{All-push}
 use Rattle.device_core.specs.declared.refusal.Refusal.{Refusal}
 use Rattle.device_core.specs.declared.request.Request.{Request}
 use Rattle.device_core.specs.declared.request.Answer.{Answer}
-use Rattle.device_core.specs.State.{DeviceState, objects_of}
-use Rattle.device_core.specs.Request.{after, cause_of, IsAnswer}
-use Rattle.device_core.specs.Requests.{Has32Bits, Have32Bits}
-use Rattle.device_core.specs.History.{World, world_after, world_from, world_of, empty_world, AreAccepted, HasHistory, history_after, history_of, AreAnswers}
+use Rattle.device_core.specs.theorem.State.{DeviceState, objects_of}
+use Rattle.device_core.specs.theorem.Request.{after, cause_of, IsAnswer}
+use Rattle.device_core.specs.theorem.Requests.{Has32Bits, Have32Bits}
+use Rattle.device_core.specs.theorem.History.{World, world_after, world_from, world_of, empty_world, AreAccepted, HasHistory, history_after, history_of, AreAnswers}
 
 pub world_from-push : (history : List Request) (w : World) (r : Request) → world_from w (history ++ r ∷ []) ≡ world_after (world_from w history) r
 world_from-push [] w r = refl

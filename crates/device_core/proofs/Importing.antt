@@ -5,8 +5,8 @@ use Rattle.std.proofs.lemmas.Map.Steps.{set_value_same}
 use Rattle.point_core.specs.declared.entry.Usage.{Usage}
 use Rattle.device_core.specs.declared.fence.Fence.{Fence}
 use Rattle.device_core.specs.declared.refusal.Refusal.{Refusal}
-use Rattle.device_core.specs.State.{FileState, DeviceState, timeline_at, file_at, buffer_at, import_of}
-use Rattle.device_core.specs.Buffers.{BufferState, import_into}
+use Rattle.device_core.specs.theorem.State.{FileState, DeviceState, timeline_at, file_at, buffer_at, import_of}
+use Rattle.device_core.specs.theorem.Buffers.{BufferState, import_into}
 
 -- a refused import leaves the table as it was
 pub refused-unchanged : {X Y : Type 0} (r : Result Y Refusal) (number : ℕ) (old new : List (ℕ × X)) (was now : X) → Some was ≡ lookup (nat_eq number) old → new ≡ set_value (nat_eq number) old now → OnErr r (now ≡ was) → OnErr r (new ≡ old)

@@ -10,8 +10,8 @@ use Rattle.std.proofs.lemmas.Bool.{cases_Bool, false≢true}
 use Rattle.std.proofs.lemmas.Cmp.{nat_cmp_total, on_total, then_total, tied_itself}
 use Rattle.device_core.specs.declared.waiting.Waiting.{Waiting}
 use Rattle.device_core.specs.declared.fence.Timeline.{Timeline}
-use Rattle.device_core.specs.Buffers.{BufferState}
-use Rattle.device_core.specs.State.{AreInOrder, DeviceState, FileState, holds, is_same, order}
+use Rattle.device_core.specs.theorem.Buffers.{BufferState}
+use Rattle.device_core.specs.theorem.State.{AreInOrder, DeviceState, FileState, holds, is_same, order}
 use Rattle.device_core.proofs.Held.{is_eq-order, is_same-is}
 
 pub order_total : IsTotalOrder order

@@ -15,12 +15,12 @@ use Rattle.device_core.specs.declared.fence.Timeline.{Timeline}
 use Rattle.device_core.specs.declared.refusal.Refusal.{Refusal}
 use Rattle.device_core.specs.declared.request.Request.{Request}
 use Rattle.device_core.specs.declared.request.Request.TheVariants as request
-use Rattle.device_core.specs.Fences.{all_signalled_by, is_pending, merged, signal_at, signalled_by}
-use Rattle.device_core.specs.Buffers.{BufferState, at_usage, empty_buffer, entry_of, export_usage, exported, fence_waiting, import_into, import_usage, imported, is_within, put_as, waiting_fence}
-use Rattle.device_core.specs.BufferWorld.{put_with}
-use Rattle.device_core.specs.State.{FileState, export_of, fence_at, file_signalled, import_of, merged_files, one_fence_file, raised}
-use Rattle.device_core.specs.Request.{closed, dropped, value_in, with_at}
-use Rattle.device_core.specs.History.{AreAccepted, World, asked, empty_world, put_by_export, put_by_import, world_after, world_from, world_of}
+use Rattle.device_core.specs.theorem.Fences.{all_signalled_by, is_pending, merged, signal_at, signalled_by}
+use Rattle.device_core.specs.theorem.Buffers.{BufferState, at_usage, empty_buffer, entry_of, export_usage, exported, fence_waiting, import_into, import_usage, imported, is_within, put_as, waiting_fence}
+use Rattle.device_core.specs.theorem.BufferWorld.{put_with}
+use Rattle.device_core.specs.theorem.State.{FileState, export_of, fence_at, file_signalled, import_of, merged_files, one_fence_file, raised}
+use Rattle.device_core.specs.theorem.Request.{closed, dropped, value_in, with_at}
+use Rattle.device_core.specs.theorem.History.{AreAccepted, World, asked, empty_world, put_by_export, put_by_import, world_after, world_from, world_of}
 use Rattle.device_core.specs.Sound.{IsSound}
 use Rattle.device_core.proofs.Placed.{entry_in, fold-All, merged-All}
 use Rattle.device_core.proofs.Signalled.{point-signalled}

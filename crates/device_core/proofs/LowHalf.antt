@@ -1,7 +1,7 @@
 -- The low half of a point of 64 bits.
 use Rattle.std.proofs.Common.{◌≡◌, ℕ, ◌+◌, ◌-◌, ◌%◌, ◌^◌, ◌<◌, nat_lt, inl, inr, arith}
 use Rattle.std.proofs.lemmas.Bool.{cases_Bool}
-use Rattle.device_core.specs.Wrapping.{ahead_of, unwrapped}
+use Rattle.device_core.specs.theorem.Wrapping.{ahead_of, unwrapped}
 
 ahead : (value point : ℕ) → point < 2 ^ 32 → (value + ahead_of value point) % 2 ^ 32 ≡ point
 ahead value point small = omega arith

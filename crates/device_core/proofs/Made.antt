@@ -17,17 +17,17 @@ use Rattle.device_core.specs.declared.fence.Timeline.{Timeline}
 use Rattle.device_core.specs.declared.refusal.Refusal.{Refusal}
 use Rattle.device_core.specs.declared.request.Request.{Request}
 use Rattle.device_core.specs.declared.request.Request.TheVariants as request
-use Rattle.device_core.specs.Wrapping.{unwrapped}
-use Rattle.device_core.specs.Fences.{all_signalled_by, are_signalled, entries_in, is_due, is_pending, latest_time, merged, point_in, signal_at, signalled_by, time_of}
-use Rattle.device_core.specs.Buffers.{BufferState, IsWaitingAt, empty_buffer, export_usage, exported, has_grown, import_into, import_usage}
-use Rattle.device_core.specs.State.{FileState, Objects, empty_text, export_of, exported_file, fence_at, file_signalled, import_of, merged_file, merged_files, merged_time, missing_timeline, one_fence_file}
-use Rattle.device_core.specs.Request.{after, cause_of, closed_timeline, dropped, overflow, value_in, with_at, with_file, with_signals}
-use Rattle.device_core.specs.History.{AreAccepted, World, empty_world, put_by_export, reach_of, sum_of, world_of}
-use Rattle.device_core.specs.Listing.{pending_points}
-use Rattle.device_core.specs.Signals.{reached_from}
+use Rattle.device_core.specs.theorem.Wrapping.{unwrapped}
+use Rattle.device_core.specs.theorem.Fences.{all_signalled_by, are_signalled, entries_in, is_due, is_pending, latest_time, merged, point_in, signal_at, signalled_by, time_of}
+use Rattle.device_core.specs.theorem.Buffers.{BufferState, IsWaitingAt, empty_buffer, export_usage, exported, has_grown, import_into, import_usage}
+use Rattle.device_core.specs.theorem.State.{FileState, Objects, empty_text, export_of, exported_file, fence_at, file_signalled, import_of, merged_file, merged_files, merged_time, missing_timeline, one_fence_file}
+use Rattle.device_core.specs.theorem.Request.{after, cause_of, closed_timeline, dropped, overflow, value_in, with_at, with_file, with_signals}
+use Rattle.device_core.specs.theorem.History.{AreAccepted, World, empty_world, put_by_export, reach_of, sum_of, world_of}
+use Rattle.device_core.specs.theorem.Listing.{pending_points}
+use Rattle.device_core.specs.theorem.Signals.{reached_from}
 use Rattle.device_core.specs.Sound.{AreFences, IsSound}
-use Rattle.device_core.specs.Requests.{Has32Bits, Have32Bits, kinds}
-use Rattle.device_core.specs.Making.{Listed, Making, last_signal, listing_file, low_half, made_as, made_in, making, makings_after, makings_from, time_reached}
+use Rattle.device_core.specs.theorem.Requests.{Has32Bits, Have32Bits, kinds}
+use Rattle.device_core.specs.theorem.Making.{Listed, Making, last_signal, listing_file, low_half, made_as, made_in, making, makings_after, makings_from, time_reached}
 use Rattle.device_core.proofs.LowHalf.{low_half as low_half-is}
 use Rattle.device_core.proofs.Placed.{Rising-from, merged-All}
 use Rattle.device_core.proofs.Sound.{with_at-same, with_at-other}

@@ -14,9 +14,9 @@ use Rattle.std.proofs.lemmas.Map.Keys.{IsDistinct-from_sorted}
 use Rattle.std.proofs.lemmas.Map.Made.{is_member-filter, is_some-lookup, length-le_from_is_member}
 use Rattle.device_core.specs.declared.fence.Fence.{Fence}
 use Rattle.device_core.specs.declared.waiting.Waiting.{Waiting}
-use Rattle.device_core.specs.Fences.{is_pending, pending_of, waiting, waits_at}
-use Rattle.device_core.specs.Memory.{alive, pending_in}
-use Rattle.device_core.specs.State.{AreInOrder, FileState, IsIndexed, at, file_waits, holds, is_same, order}
+use Rattle.device_core.specs.theorem.Fences.{is_pending, pending_of, waiting, waits_at}
+use Rattle.device_core.specs.theorem.Memory.{alive, pending_in}
+use Rattle.device_core.specs.theorem.State.{AreInOrder, FileState, IsIndexed, at, file_waits, holds, is_same, order}
 use Rattle.device_core.proofs.Held.{found-holds}
 use Rattle.device_core.proofs.InOrder.{order_total}
 

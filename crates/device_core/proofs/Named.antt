@@ -13,12 +13,12 @@ use Rattle.device_core.specs.declared.fence.Timeline.{Timeline}
 use Rattle.device_core.specs.declared.refusal.Refusal.{Refusal}
 use Rattle.device_core.specs.declared.request.Request.{Request}
 use Rattle.device_core.specs.declared.request.Request.TheVariants as request
-use Rattle.device_core.specs.Fences.{is_due, signal_at, signalled_by}
-use Rattle.device_core.specs.Buffers.{BufferState, export_usage, fence_waiting, is_within, entry_of, waiting_fence}
-use Rattle.device_core.specs.State.{FileState, Objects, export_of, fence_at, file_signalled, merged_files, new_timeline, one_fence_file, raised}
-use Rattle.device_core.specs.Request.{closed_timeline, dropped, value_in, with_at}
-use Rattle.device_core.specs.History.{World, empty_world, world_after, world_from, world_of}
-use Rattle.device_core.specs.Signals.{first_name, name_in, opened_as}
+use Rattle.device_core.specs.theorem.Fences.{is_due, signal_at, signalled_by}
+use Rattle.device_core.specs.theorem.Buffers.{BufferState, export_usage, fence_waiting, is_within, entry_of, waiting_fence}
+use Rattle.device_core.specs.theorem.State.{FileState, Objects, export_of, fence_at, file_signalled, merged_files, new_timeline, one_fence_file, raised}
+use Rattle.device_core.specs.theorem.Request.{closed_timeline, dropped, value_in, with_at}
+use Rattle.device_core.specs.theorem.History.{World, empty_world, world_after, world_from, world_of}
+use Rattle.device_core.specs.theorem.Signals.{first_name, name_in, opened_as}
 use Rattle.device_core.proofs.Placed.{fold-All, merged-All}
 use Rattle.device_core.proofs.Histories.{world_from-push}
 use Rattle.device_core.proofs.Sound.{with_at-same, with_at-other}

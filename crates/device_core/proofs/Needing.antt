@@ -6,13 +6,13 @@ use Rattle.point_core.specs.Reach.{GREATEST}
 use Rattle.device_core.specs.declared.fence.Signal.{Signal}
 use Rattle.device_core.specs.declared.fence.Timeline.{Timeline}
 use Rattle.device_core.specs.declared.request.Request.TheVariants as request
-use Rattle.device_core.specs.Fences.{signal_at}
+use Rattle.device_core.specs.theorem.Fences.{signal_at}
 use Rattle.device_core.specs.declared.refusal.Refusal.{Refusal}
-use Rattle.device_core.specs.Buffers.{BufferState}
+use Rattle.device_core.specs.theorem.Buffers.{BufferState}
 use Rattle.device_core.specs.declared.refusal.Refusal.TheVariants.{NoEntry, NoMemory, Overflow}
-use Rattle.device_core.specs.State.{FileState, Objects, file_signalled, missing_timeline, raised}
+use Rattle.device_core.specs.theorem.State.{FileState, Objects, file_signalled, missing_timeline, raised}
 use Rattle.device_core.specs.Woken.{WakesSome, file_wakes}
-use Rattle.device_core.specs.Request.{IsCause, cause_of, closed_timeline, dropped, has_signalled, is_waiting, overflow, takes_memory, value_in, wakes_some, with_at, with_signals}
+use Rattle.device_core.specs.theorem.Request.{IsCause, cause_of, closed_timeline, dropped, has_signalled, is_waiting, overflow, takes_memory, value_in, wakes_some, with_at, with_signals}
 use Rattle.device_core.proofs.Answering.{wakes-is}
 use Rattle.device_core.proofs.Memory.{at_or_past, or_left, or_right}
 use Rattle.device_core.proofs.Sound.{with_at-same, with_at-other}

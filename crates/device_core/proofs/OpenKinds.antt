@@ -13,14 +13,14 @@ use Rattle.device_core.specs.declared.refusal.Refusal.{Refusal}
 use Rattle.device_core.specs.declared.refusal.Refusal.TheVariants.{NoEntry}
 use Rattle.device_core.specs.declared.request.Request.{Request}
 use Rattle.device_core.specs.declared.request.Request.TheVariants as request
-use Rattle.device_core.specs.Wrapping.{unwrapped}
-use Rattle.device_core.specs.Fences.{signal_at}
-use Rattle.device_core.specs.Buffers.{BufferState, empty_buffer, export_usage, import_usage}
-use Rattle.device_core.specs.State.{FileState, Objects, no_objects, export_of, file_signalled, import_of, merged_files, missing_buffer, missing_file, missing_timeline, new_timeline, one_fence_file, raised}
-use Rattle.device_core.specs.Request.{after, cause_after, cause_of, closed, closed_timeline, dropped, overflow, value_in, with_at, with_file}
-use Rattle.device_core.specs.History.{AreAccepted, World, empty_world, world_after, world_from, world_of}
+use Rattle.device_core.specs.theorem.Wrapping.{unwrapped}
+use Rattle.device_core.specs.theorem.Fences.{signal_at}
+use Rattle.device_core.specs.theorem.Buffers.{BufferState, empty_buffer, export_usage, import_usage}
+use Rattle.device_core.specs.theorem.State.{FileState, Objects, no_objects, export_of, file_signalled, import_of, merged_files, missing_buffer, missing_file, missing_timeline, new_timeline, one_fence_file, raised}
+use Rattle.device_core.specs.theorem.Request.{after, cause_after, cause_of, closed, closed_timeline, dropped, overflow, value_in, with_at, with_file}
+use Rattle.device_core.specs.theorem.History.{AreAccepted, World, empty_world, world_after, world_from, world_of}
 use Rattle.device_core.specs.Sound.{IsSound}
-use Rattle.device_core.specs.Requests.{Kind, TimelineKind, FileKind, BufferKind, closes, is_buffer, is_closed, is_file, is_timeline, kind_given, kind_made, kinds, open_kind}
+use Rattle.device_core.specs.theorem.Requests.{Kind, TimelineKind, FileKind, BufferKind, closes, is_buffer, is_closed, is_file, is_timeline, kind_given, kind_made, kinds, open_kind}
 use Rattle.device_core.proofs.Sound.{with_at-same, with_at-other}
 use Rattle.device_core.proofs.Stepping.{None≢Some, no_cause, numbered, IsSound-empty, IsSound-after}
 

@@ -16,13 +16,13 @@ use Rattle.point_core.proofs.Listings.{filter_map-range_same}
 use Rattle.device_core.specs.declared.buffer_fence.BufferFence.{BufferFence}
 use Rattle.device_core.specs.declared.fence.Fence.{Fence}
 use Rattle.device_core.specs.declared.fence.Timeline.{Timeline}
-use Rattle.device_core.specs.Buffers.{IsWaitingAt, at_usage, exported}
-use Rattle.device_core.specs.BufferWorld.{AreBufferFences, HasGivenTimelines}
-use Rattle.device_core.specs.Fences.{entries_in, is_pending, pending_of, point_in}
-use Rattle.device_core.specs.History.{reach_of, reached_by}
-use Rattle.device_core.specs.Listing.{pending_points}
+use Rattle.device_core.specs.theorem.Buffers.{IsWaitingAt, at_usage, exported}
+use Rattle.device_core.specs.theorem.BufferWorld.{AreBufferFences, HasGivenTimelines}
+use Rattle.device_core.specs.theorem.Fences.{entries_in, is_pending, pending_of, point_in}
+use Rattle.device_core.specs.theorem.History.{reach_of, reached_by}
+use Rattle.device_core.specs.theorem.Listing.{pending_points}
 use Rattle.device_core.specs.Sound.{AreFences, IsFence, is_above}
-use Rattle.device_core.specs.State.{Objects}
+use Rattle.device_core.specs.theorem.State.{Objects}
 use Rattle.device_core.proofs.Placed.{Rising, Rising-from, entry_in, pending-Rising, pending-agrees}
 use Rattle.device_core.proofs.Exports.{exported-waits, top-at_usage}
 use Rattle.device_core.proofs.BufferSteps.{export-keeps}

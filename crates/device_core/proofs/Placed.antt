@@ -8,7 +8,7 @@ use Rattle.point_core.specs.declared.entry.Entry.{Entry}
 use Rattle.point_core.specs.Agreement.{AgreesAbove, as_entry}
 use Rattle.point_core.proofs.Agreement.{AgreesAbove-refl, AgreesAbove-sym, AgreesAbove-trans, AgreesAbove-append, AgreesAbove-comm, AgreesAbove-signalled, AgreesAbove-covered, IsStrictlyIncreasing-cons}
 use Rattle.device_core.specs.declared.fence.Fence.{Fence}
-use Rattle.device_core.specs.Fences.{is_pending, pending_of, place_of, with_fence_at, with_fence, merged, point_in, entries_in, HasRisingTimelines, IsReachedUnlessPending}
+use Rattle.device_core.specs.theorem.Fences.{is_pending, pending_of, place_of, with_fence_at, with_fence, merged, point_in, entries_in, HasRisingTimelines, IsReachedUnlessPending}
 
 -- the first fence is of a lower timeline: the new one is inserted among the others
 at_later : (f : Fence) (fs : List Fence) (g : Fence) (p : ℕ) (o : Option Fence) → with_fence_at (f ∷ fs) (suc p) o g ≡ f ∷ with_fence_at fs p o g

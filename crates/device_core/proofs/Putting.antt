@@ -17,8 +17,8 @@ use Rattle.device_core.specs.declared.buffer.TheConstants.{GROWTH, UNTRIMMED}
 use Rattle.device_core.specs.declared.buffer_fence.BufferFence.{BufferFence}
 use Rattle.device_core.specs.declared.fence.Fence.{Fence}
 use Rattle.device_core.specs.declared.fence.Timeline.{Timeline}
-use Rattle.device_core.specs.Fences.{are_signalled, is_pending, pending_of}
-use Rattle.device_core.specs.Buffers.{BufferState, IsReachOf, entries_of, entry_of, has_grown, import_into, imported, is_waiting, put_as, state_of, trimmed_with, waits_in, with_buffer_fence, with_fences}
+use Rattle.device_core.specs.theorem.Fences.{are_signalled, is_pending, pending_of}
+use Rattle.device_core.specs.theorem.Buffers.{BufferState, IsReachOf, entries_of, entry_of, has_grown, import_into, imported, is_waiting, put_as, state_of, trimmed_with, waits_in, with_buffer_fence, with_fences}
 
 -- a covered entry adds nothing
 put_if-covered : (new old : Bool) (p q value : ℕ) → (old ≡ true → (new ≡ true) × (q ≤ p)) → put_if new p value ≡ put_if new p (put_if old q value)

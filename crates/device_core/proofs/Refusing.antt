@@ -8,12 +8,12 @@ use Rattle.device_core.specs.declared.refusal.Refusal.{Refusal}
 use Rattle.device_core.specs.declared.refusal.Refusal.TheVariants.{NoEntry, WrongKind, NoNumber, Invalid}
 use Rattle.device_core.specs.declared.request.Request.{Request}
 use Rattle.device_core.specs.declared.request.Request.TheVariants as request
-use Rattle.device_core.specs.Wrapping.{unwrapped}
-use Rattle.device_core.specs.Buffers.{export_usage, import_usage}
-use Rattle.device_core.specs.State.{Objects}
-use Rattle.device_core.specs.Request.{cause_after, cause_at_buffer, cause_at_file, cause_at_timeline, cause_if_numbered, cause_of, is_there, overflow, value_in}
-use Rattle.device_core.specs.History.{World, sum_of}
-use Rattle.device_core.specs.Requests.{Kind, TimelineKind, FileKind, BufferKind, causes, cause, first_cause, is_buffer, is_file, is_timeline, kinds, open_kind, unless_fitting, unless_flags, unless_numbered, unless_open}
+use Rattle.device_core.specs.theorem.Wrapping.{unwrapped}
+use Rattle.device_core.specs.theorem.Buffers.{export_usage, import_usage}
+use Rattle.device_core.specs.theorem.State.{Objects}
+use Rattle.device_core.specs.theorem.Request.{cause_after, cause_at_buffer, cause_at_file, cause_at_timeline, cause_if_numbered, cause_of, is_there, overflow, value_in}
+use Rattle.device_core.specs.theorem.History.{World, sum_of}
+use Rattle.device_core.specs.theorem.Requests.{Kind, TimelineKind, FileKind, BufferKind, causes, cause, first_cause, is_buffer, is_file, is_timeline, kinds, open_kind, unless_fitting, unless_flags, unless_numbered, unless_open}
 use Rattle.device_core.proofs.Reporting.{HasSums}
 use Rattle.device_core.proofs.OpenKinds.{HasKinds, IsOfAt}
 

@@ -12,15 +12,15 @@ use Rattle.device_core.specs.declared.fence.Fence.{Fence}
 use Rattle.device_core.specs.declared.fence.Timeline.{Timeline}
 use Rattle.device_core.specs.declared.request.Request.{Request}
 use Rattle.device_core.specs.declared.request.Request.TheVariants as request
-use Rattle.device_core.specs.Fences.{is_pending, are_signalled, entries_in, point_in}
-use Rattle.device_core.specs.State.{FileState, DeviceState, Objects, file_at, timeline_at, buffer_at, new_timeline, raised, missing_timeline}
-use Rattle.device_core.specs.Request.{with_at, value_in, overflow, closed_timeline, dropped, cause_of}
-use Rattle.device_core.specs.History.{World, world_after, world_from, world_of, empty_world, AreAccepted, HasHistory, reach_of, reached_by, added_by, sum_of}
-use Rattle.device_core.specs.Buffers.{BufferState, at_usage, entries_of, exported, none_waits}
-use Rattle.device_core.specs.BufferWorld.{AreBufferFences}
-use Rattle.device_core.specs.Listing.{pending_points}
+use Rattle.device_core.specs.theorem.Fences.{is_pending, are_signalled, entries_in, point_in}
+use Rattle.device_core.specs.theorem.State.{FileState, DeviceState, Objects, file_at, timeline_at, buffer_at, new_timeline, raised, missing_timeline}
+use Rattle.device_core.specs.theorem.Request.{with_at, value_in, overflow, closed_timeline, dropped, cause_of}
+use Rattle.device_core.specs.theorem.History.{World, world_after, world_from, world_of, empty_world, AreAccepted, HasHistory, reach_of, reached_by, added_by, sum_of}
+use Rattle.device_core.specs.theorem.Buffers.{BufferState, at_usage, entries_of, exported, none_waits}
+use Rattle.device_core.specs.theorem.BufferWorld.{AreBufferFences}
+use Rattle.device_core.specs.theorem.Listing.{pending_points}
 use Rattle.device_core.specs.Sound.{is_above, IsFence, IsSound}
-use Rattle.device_core.specs.Headline.{ReportsWhatWasPut, ReportsBuffers, ReportsSums}
+use Rattle.device_core.specs.theorem.Headline.{ReportsWhatWasPut, ReportsBuffers, ReportsSums}
 use Rattle.device_core.proofs.Placed.{entry_in}
 use Rattle.device_core.proofs.Sound.{with_at-same, with_at-other, value_at-reach_of, fence-reached}
 use Rattle.device_core.proofs.Exports.{AgreesAbove-at_usage}

@@ -14,15 +14,15 @@ use Rattle.device_core.specs.declared.fence.Timeline.{Timeline}
 use Rattle.device_core.specs.declared.refusal.Refusal.{Refusal}
 use Rattle.device_core.specs.declared.request.Request.{Request}
 use Rattle.device_core.specs.declared.request.Request.TheVariants as request
-use Rattle.device_core.specs.Wrapping.{unwrapped}
-use Rattle.device_core.specs.Fences.{all_signalled_by, is_due, is_pending, merged, pending_of, point_in, signal_at, signalled_by, status_before, status_of}
-use Rattle.device_core.specs.Buffers.{BufferState, export_usage}
-use Rattle.device_core.specs.State.{DeviceState, FileState, Objects, export_of, fence_at, file_at, file_signalled, merged_files, missing_timeline, one_fence_file, timeline_at}
-use Rattle.device_core.specs.Request.{cause_of, closed_timeline, dropped, overflow, value_in, with_at}
-use Rattle.device_core.specs.History.{AreAccepted, HasHistory, World, added_by, empty_world, reach_of, sum_of, world_after, world_from, world_of}
+use Rattle.device_core.specs.theorem.Wrapping.{unwrapped}
+use Rattle.device_core.specs.theorem.Fences.{all_signalled_by, is_due, is_pending, merged, pending_of, point_in, signal_at, signalled_by, status_before, status_of}
+use Rattle.device_core.specs.theorem.Buffers.{BufferState, export_usage}
+use Rattle.device_core.specs.theorem.State.{DeviceState, FileState, Objects, export_of, fence_at, file_at, file_signalled, merged_files, missing_timeline, one_fence_file, timeline_at}
+use Rattle.device_core.specs.theorem.Request.{cause_of, closed_timeline, dropped, overflow, value_in, with_at}
+use Rattle.device_core.specs.theorem.History.{AreAccepted, HasHistory, World, added_by, empty_world, reach_of, sum_of, world_after, world_from, world_of}
 use Rattle.device_core.specs.Sound.{IsFence, IsSound, is_above}
-use Rattle.device_core.specs.Signals.{first_status, has_reached, point_status, reached_from, time_in}
-use Rattle.device_core.specs.Headline.{ReportsFences}
+use Rattle.device_core.specs.theorem.Signals.{first_status, has_reached, point_status, reached_from, time_in}
+use Rattle.device_core.specs.theorem.Headline.{ReportsFences}
 use Rattle.device_core.proofs.Placed.{fold-All}
 use Rattle.device_core.proofs.Histories.{world_from-push}
 use Rattle.device_core.proofs.Sound.{with_at-same, with_at-other, fence-reached}

@@ -10,10 +10,10 @@ use Rattle.point_core.proofs.Values.{IsAtLeast-below}
 use Rattle.device_core.specs.declared.fence.Signal.{Signal}
 use Rattle.device_core.specs.declared.fence.Fence.{Fence}
 use Rattle.device_core.specs.declared.fence.Timeline.{Timeline}
-use Rattle.device_core.specs.Fences.{is_pending, is_due, signalled_by, all_signalled_by, IsReachedUnlessPending}
-use Rattle.device_core.specs.State.{Objects}
-use Rattle.device_core.specs.Request.{with_at}
-use Rattle.device_core.specs.History.{reach_of, reached_by}
+use Rattle.device_core.specs.theorem.Fences.{is_pending, is_due, signalled_by, all_signalled_by, IsReachedUnlessPending}
+use Rattle.device_core.specs.theorem.State.{Objects}
+use Rattle.device_core.specs.theorem.Request.{with_at}
+use Rattle.device_core.specs.theorem.History.{reach_of, reached_by}
 use Rattle.device_core.specs.Sound.{is_above, IsFence, AreFences}
 
 -- a table by number

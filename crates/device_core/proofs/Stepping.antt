@@ -15,13 +15,13 @@ use Rattle.device_core.specs.declared.refusal.Refusal.{Refusal}
 use Rattle.device_core.specs.declared.refusal.Refusal.TheVariants.{Invalid, NoNumber, Overflow}
 use Rattle.device_core.specs.declared.request.Request.{Request}
 use Rattle.device_core.specs.declared.request.Request.TheVariants as request
-use Rattle.device_core.specs.Wrapping.{unwrapped}
-use Rattle.device_core.specs.Fences.{signal_at, all_signalled_by, merged, entries_in}
-use Rattle.device_core.specs.State.{FileState, Objects, new_timeline, raised, fence_at, one_fence_file, merged_files, file_signalled, missing_timeline, missing_buffer, export_of, import_of}
-use Rattle.device_core.specs.Request.{with_at, value_in, opened, with_file, with_signals, closed_timeline, dropped, closed, with_new_buffer, with_buffer, overflow, cause_after, cause_if_numbered, cause_of}
-use Rattle.device_core.specs.History.{World, asked, put_by_export, put_by_import, world_after, world_from, world_of, empty_world, AreAccepted, reach_of, reached_by}
-use Rattle.device_core.specs.Buffers.{BufferState, at_usage, empty_buffer, entries_of, export_usage, exported, import_into, import_usage}
-use Rattle.device_core.specs.BufferWorld.{AreBufferFences, HasGivenTimelines, IsBufferFence, put_with}
+use Rattle.device_core.specs.theorem.Wrapping.{unwrapped}
+use Rattle.device_core.specs.theorem.Fences.{signal_at, all_signalled_by, merged, entries_in}
+use Rattle.device_core.specs.theorem.State.{FileState, Objects, new_timeline, raised, fence_at, one_fence_file, merged_files, file_signalled, missing_timeline, missing_buffer, export_of, import_of}
+use Rattle.device_core.specs.theorem.Request.{with_at, value_in, opened, with_file, with_signals, closed_timeline, dropped, closed, with_new_buffer, with_buffer, overflow, cause_after, cause_if_numbered, cause_of}
+use Rattle.device_core.specs.theorem.History.{World, asked, put_by_export, put_by_import, world_after, world_from, world_of, empty_world, AreAccepted, reach_of, reached_by}
+use Rattle.device_core.specs.theorem.Buffers.{BufferState, at_usage, empty_buffer, entries_of, export_usage, exported, import_into, import_usage}
+use Rattle.device_core.specs.theorem.BufferWorld.{AreBufferFences, HasGivenTimelines, IsBufferFence, put_with}
 use Rattle.device_core.specs.declared.buffer_fence.BufferFence.{BufferFence}
 use Rattle.device_core.specs.Sound.{is_above, IsFence, AreFences, IsSound}
 use Rattle.device_core.proofs.Signalled.{entries-signalled}

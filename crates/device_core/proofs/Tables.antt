@@ -21,14 +21,14 @@ use Rattle.device_core.specs.declared.fence.Timeline.{Timeline}
 use Rattle.device_core.specs.declared.refusal.Refusal.{Refusal}
 use Rattle.device_core.specs.declared.request.Request.{Request}
 use Rattle.device_core.specs.declared.request.Request.TheVariants as request
-use Rattle.device_core.specs.Buffers.{BufferState, empty_buffer, entry_of, has_grown, import_into, import_usage, imported, is_waiting, put_as, waits_in, with_buffer_fence}
-use Rattle.device_core.specs.BufferWorld.{HasGivenTimelines}
-use Rattle.device_core.specs.Fences.{are_signalled, is_pending}
-use Rattle.device_core.specs.History.{AreAccepted, HasHistory, World, empty_world, reach_of, world_after, world_from}
-use Rattle.device_core.specs.Memory.{AreTrimmed, is_same_entry, most_pending, pending_put}
-use Rattle.device_core.specs.Request.{with_at}
+use Rattle.device_core.specs.theorem.Buffers.{BufferState, empty_buffer, entry_of, has_grown, import_into, import_usage, imported, is_waiting, put_as, waits_in, with_buffer_fence}
+use Rattle.device_core.specs.theorem.BufferWorld.{HasGivenTimelines}
+use Rattle.device_core.specs.theorem.Fences.{are_signalled, is_pending}
+use Rattle.device_core.specs.theorem.History.{AreAccepted, HasHistory, World, empty_world, reach_of, world_after, world_from}
+use Rattle.device_core.specs.theorem.Memory.{AreTrimmed, is_same_entry, most_pending, pending_put}
+use Rattle.device_core.specs.theorem.Request.{with_at}
 use Rattle.device_core.specs.Sound.{IsFence, IsSound, is_above}
-use Rattle.device_core.specs.State.{DeviceState, FileState, Objects, import_of}
+use Rattle.device_core.specs.theorem.State.{DeviceState, FileState, Objects, import_of}
 use Rattle.device_core.proofs.BufferSteps.{value_of, with-All}
 use Rattle.device_core.proofs.Listed.{AreAmong, HasListed, HasListed-after, HasListed-empty, kept}
 use Rattle.device_core.proofs.Memory.{or_cases, or_left, or_right}

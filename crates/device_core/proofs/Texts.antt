@@ -3,7 +3,7 @@ use Rattle.std.proofs.Common.{ℕ, ◌≡◌, ◌-◌, ◌<◌, ◌≤◌, ◌^�
 use Rattle.std.proofs.lemmas.Bool.{eq-eqb, ne_eqb}
 use Rattle.std.proofs.lemmas.Fmt.{length-decimal-le}
 use Rattle.std.proofs.lemmas.List.{length-take, length-drop, take_min, drop-replicate}
-use Rattle.device_core.specs.Names.{up_to_zero, cut, padded}
+use Rattle.device_core.specs.theorem.Names.{up_to_zero, cut, padded}
 
 -- bytes that were copied before zeros
 pub padded-cut : (bytes part : List ℕ) (count end : ℕ) → part ≡ take count bytes → count ≡ end → end ≡ min 31 (length bytes) → part ++ drop end (replicate 32 0) ≡ padded (cut bytes)

@@ -5,7 +5,7 @@ use Rattle.device_core.specs.declared.fence.Signal.{Signal}
 use Rattle.device_core.specs.declared.fence.Timeline.{Timeline}
 use Rattle.device_core.specs.declared.refusal.Refusal.{Refusal}
 use Rattle.device_core.specs.declared.waiting.Waiting.{Waiting}
-use Rattle.device_core.specs.State.{FileState, Objects, file_signalled, file_waits, holds, is_due_at, missing_timeline}
+use Rattle.device_core.specs.theorem.State.{FileState, Objects, file_signalled, file_waits, holds, is_due_at, missing_timeline}
 
 abbrev pub waiting_at : ℕ → ℕ → ℕ → Waiting
 waiting_at timeline value file = record { timeline = timeline; value = value; file = file }

@@ -4,8 +4,8 @@ use Rattle.device_core.specs.declared.fence.Fence.{Fence}
 use Rattle.device_core.specs.declared.fence.Timeline.{Timeline}
 use Rattle.device_core.specs.declared.timelines.OpenTimeline.{OpenTimeline}
 use Rattle.device_core.specs.declared.waiting.Waiting.{Waiting}
-use Rattle.device_core.specs.Fences.{is_pending}
-use Rattle.device_core.specs.State.{AreInOrder, at, holds, is_due_at, raised}
+use Rattle.device_core.specs.theorem.Fences.{is_pending}
+use Rattle.device_core.specs.theorem.State.{AreInOrder, at, holds, is_due_at, raised}
 
 -- the open timelines by number, and the points at which files wait, in order
 pub record TimelinesState : Type 0 where

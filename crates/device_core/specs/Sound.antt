@@ -4,11 +4,11 @@ use Rattle.point_core.specs.Reach.{GREATEST}
 use Rattle.point_core.specs.Agreement.{AgreesAbove}
 use Rattle.device_core.specs.declared.fence.Fence.{Fence}
 use Rattle.device_core.specs.declared.fence.Timeline.{Timeline}
-use Rattle.device_core.specs.Fences.{is_pending, entries_in, HasRisingTimelines}
-use Rattle.device_core.specs.Buffers.{BufferState, entries_of}
-use Rattle.device_core.specs.BufferWorld.{AreBufferFences}
-use Rattle.device_core.specs.State.{FileState, Objects}
-use Rattle.device_core.specs.History.{World, reach_of}
+use Rattle.device_core.specs.theorem.Fences.{is_pending, entries_in, HasRisingTimelines}
+use Rattle.device_core.specs.theorem.Buffers.{BufferState, entries_of}
+use Rattle.device_core.specs.theorem.BufferWorld.{AreBufferFences}
+use Rattle.device_core.specs.theorem.State.{FileState, Objects}
+use Rattle.device_core.specs.theorem.History.{World, reach_of}
 
 -- the timeline is open, and the value is above its own
 abbrev pub is_above : Option Timeline → ℕ → Bool

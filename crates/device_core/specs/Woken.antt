@@ -2,8 +2,8 @@
 use Rattle.std.specs.Prelude.{◌≡◌, nat_eq, ℕ, Bool, true, false, not, ◌&&◌, ◌||◌, List, Option, None, Some}
 use Rattle.std.specs.List.{list_any, list_all}
 use Rattle.device_core.specs.declared.fence.Fence.{Fence}
-use Rattle.device_core.specs.Fences.{is_pending, is_due, are_signalled}
-use Rattle.device_core.specs.State.{FileState}
+use Rattle.device_core.specs.theorem.Fences.{is_pending, is_due, are_signalled}
+use Rattle.device_core.specs.theorem.State.{FileState}
 
 -- it has signalled, or it is due
 abbrev pub is_settled_by : ℕ → ℕ → Fence → Bool

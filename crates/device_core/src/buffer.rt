@@ -4,9 +4,9 @@ ghost use Rattle.std.specs.Prelude.{◌≡◌, ◌+◌, ◌≤◌, ◌<◌, ◌�
 ghost use Rattle.std.specs.List.{filter_map};
 ghost use Rattle.std.specs.Vec.{vec_capacity};
 ghost use Rattle.device_core.specs.declared.refusal.Refusal.TheVariants.{NoMemory};
-ghost use Rattle.device_core.specs.Fences.{with_fence};
-ghost use Rattle.device_core.specs.Buffers.{empty_buffer, exported, has_grown, import_into, imported, is_waiting, none_waits as none_waits_of, waiting_fence, with_buffer_fence};
-ghost use Rattle.device_core.specs.State.{at};
+ghost use Rattle.device_core.specs.theorem.Fences.{with_fence};
+ghost use Rattle.device_core.specs.theorem.Buffers.{empty_buffer, exported, has_grown, import_into, imported, is_waiting, none_waits as none_waits_of, waiting_fence, with_buffer_fence};
+ghost use Rattle.device_core.specs.theorem.State.{at};
 
 use crate::buffer_fence::BufferFence;
 use crate::fence::Fence;
@@ -39,7 +39,7 @@ pub struct Buffer {
 }
 
 impl Model for Buffer {
-    ghost use Rattle.device_core.specs.Buffers.{BufferState, state_of};
+    ghost use Rattle.device_core.specs.theorem.Buffers.{BufferState, state_of};
 
     ghost Value = { BufferState };
 

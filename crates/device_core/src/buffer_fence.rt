@@ -1,8 +1,8 @@
 //! `BufferFence`: a fence in a buffer, by timeline and point. Whether it has signalled is read off its timeline.
 ghost use Rattle.std.specs.Prelude.{◌≡◌, Some};
 ghost use Rattle.point_core.specs.Agreement.{covers};
-ghost use Rattle.device_core.specs.Buffers.{entry_of, fence_waiting, is_waiting, put_as, waiting_fence};
-ghost use Rattle.device_core.specs.State.{at};
+ghost use Rattle.device_core.specs.theorem.Buffers.{entry_of, fence_waiting, is_waiting, put_as, waiting_fence};
+ghost use Rattle.device_core.specs.theorem.State.{at};
 
 use crate::fence::{Fence, Timeline};
 use crate::timelines::Timelines;

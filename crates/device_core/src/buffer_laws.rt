@@ -7,13 +7,13 @@ ghost use Rattle.point_core.specs.Usage.{usage_number};
 ghost use Rattle.device_core.specs.declared.buffer_fence.BufferFence.{BufferFence};
 ghost use Rattle.device_core.specs.declared.fence.Fence.{Fence};
 ghost use Rattle.device_core.specs.declared.fence.Timeline.{Timeline};
-ghost use Rattle.device_core.specs.Buffers.{AreWaiting, BufferState, IsReachOf, at_usage, entries_of, exported, import_into, imported, none_waits};
-ghost use Rattle.device_core.specs.BufferWorld.{AreBufferFences, HasGivenTimelines, put_with};
-ghost use Rattle.device_core.specs.Fences.{HasRisingTimelines, entries_in};
-ghost use Rattle.device_core.specs.History.{reach_of};
+ghost use Rattle.device_core.specs.theorem.Buffers.{AreWaiting, BufferState, IsReachOf, at_usage, entries_of, exported, import_into, imported, none_waits};
+ghost use Rattle.device_core.specs.theorem.BufferWorld.{AreBufferFences, HasGivenTimelines, put_with};
+ghost use Rattle.device_core.specs.theorem.Fences.{HasRisingTimelines, entries_in};
+ghost use Rattle.device_core.specs.theorem.History.{reach_of};
 ghost use Rattle.device_core.specs.Sound.{AreFences};
-ghost use Rattle.device_core.specs.State.{Objects};
-ghost use Rattle.device_core.specs.Wrapping.{unwrapped};
+ghost use Rattle.device_core.specs.theorem.State.{Objects};
+ghost use Rattle.device_core.specs.theorem.Wrapping.{unwrapped};
 
 /// At each usage a buffer agrees, above what its timelines have reached, with its old fences and the pending fences of
 /// the imported file.

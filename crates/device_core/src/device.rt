@@ -6,14 +6,14 @@ ghost use Rattle.device_core.specs.declared.refusal.Refusal.TheVariants.{Invalid
 ghost use Rattle.device_core.specs.declared.fence.Text.{Text as Name};
 ghost use Rattle.point_core.specs.Reach.{GREATEST};
 ghost use Rattle.device_core.specs.Due.{IsDueAnswer};
-ghost use Rattle.device_core.specs.Fences.{are_signalled, signal_at, status_of};
-ghost use Rattle.device_core.specs.Info.{IsInfo};
-ghost use Rattle.device_core.specs.Memory.{KeepsWhatIsAlive, kept_of};
+ghost use Rattle.device_core.specs.theorem.Fences.{are_signalled, signal_at, status_of};
+ghost use Rattle.device_core.specs.theorem.Info.{IsInfo};
+ghost use Rattle.device_core.specs.theorem.Memory.{KeepsWhatIsAlive, kept_of};
 ghost use Rattle.device_core.specs.Woken.{file_wakes};
-ghost use Rattle.device_core.specs.Wrapping.{unwrapped as unwrapped_of};
-ghost use Rattle.device_core.specs.State.{nothing, at, timeline_at, file_at, file_of, new_timeline, raised, merged_files, one_fence_file, missing_timeline, missing_file, buffer_at, objects_of, AreSignalled};
+ghost use Rattle.device_core.specs.theorem.Wrapping.{unwrapped as unwrapped_of};
+ghost use Rattle.device_core.specs.theorem.State.{nothing, at, timeline_at, file_at, file_of, new_timeline, raised, merged_files, one_fence_file, missing_timeline, missing_file, buffer_at, objects_of, AreSignalled};
 ghost use Rattle.device_core.specs.declared.request.Request.TheVariants as request;
-ghost use Rattle.device_core.specs.Request.{AreWoken, IsCause, cause_of, closed, takes_memory};
+ghost use Rattle.device_core.specs.theorem.Request.{AreWoken, IsCause, cause_of, closed, takes_memory};
 
 mod buffers;
 
@@ -42,7 +42,7 @@ pub struct Device {
 }
 
 impl Model for Device {
-    ghost use Rattle.device_core.specs.State.{DeviceState, IsKept};
+    ghost use Rattle.device_core.specs.theorem.State.{DeviceState, IsKept};
 
     ghost Value = { DeviceState };
 

@@ -1,9 +1,9 @@
 //! Information on a file and its fences, as `SYNC_IOC_FILE_INFO` reports it.
 ghost use Rattle.std.specs.Prelude.{◌≡◌, ◌∷◌, [], map, IfErr, IfOk};
 ghost use Rattle.device_core.specs.declared.refusal.Refusal.TheVariants.{NoMemory};
-ghost use Rattle.device_core.specs.Fences.{status_of};
-ghost use Rattle.device_core.specs.Info.{driver_name, fence_info as fence_info_of, fence_infos as fence_infos_of, stub_info as stub_info_of};
-ghost use Rattle.device_core.specs.Names.{as_text, file_name};
+ghost use Rattle.device_core.specs.theorem.Fences.{status_of};
+ghost use Rattle.device_core.specs.theorem.Info.{driver_name, fence_info as fence_info_of, fence_infos as fence_infos_of, stub_info as stub_info_of};
+ghost use Rattle.device_core.specs.theorem.Names.{as_text, file_name};
 
 use crate::fence::{Fence, Text};
 use crate::file::File;

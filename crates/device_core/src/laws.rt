@@ -6,15 +6,15 @@ ghost use Rattle.point_core.specs.Reach.{IsAtLeast};
 ghost use Rattle.point_core.specs.Agreement.{AgreesAbove, IsReached};
 ghost use Rattle.device_core.specs.declared.fence.Fence.{Fence};
 ghost use Rattle.device_core.specs.declared.fence.Signal.{Signal};
-ghost use Rattle.device_core.specs.Fences.{all_signalled_by, are_signalled, entries_in, merged, HasRisingTimelines, IsReachedUnlessPending};
+ghost use Rattle.device_core.specs.theorem.Fences.{all_signalled_by, are_signalled, entries_in, merged, HasRisingTimelines, IsReachedUnlessPending};
 ghost use Rattle.device_core.specs.declared.request.Request.{Request};
-ghost use Rattle.device_core.specs.History.{AreAccepted, empty_world, world_of, reach_of};
+ghost use Rattle.device_core.specs.theorem.History.{AreAccepted, empty_world, world_of, reach_of};
 ghost use Rattle.device_core.specs.Sound.{IsSound};
-ghost use Rattle.device_core.specs.State.{FileState};
-ghost use Rattle.device_core.specs.Headline.{reach_after};
-ghost use Rattle.device_core.specs.Requests.{kinds};
-ghost use Rattle.device_core.specs.Answered.{timeline_reach};
-ghost use Rattle.device_core.specs.Wrapping.{is_later, unwrapped};
+ghost use Rattle.device_core.specs.theorem.State.{FileState};
+ghost use Rattle.device_core.specs.theorem.Headline.{reach_after};
+ghost use Rattle.device_core.specs.theorem.Requests.{kinds};
+ghost use Rattle.device_core.specs.theorem.Answered.{timeline_reach};
+ghost use Rattle.device_core.specs.theorem.Wrapping.{is_later, unwrapped};
 
 /// The kernel's comparison of 32 bits finds a point later than the value exactly if the 64-bit point that it represents
 /// is later.

@@ -2,7 +2,7 @@
 ghost use Rattle.std.specs.Prelude.{◌≡◌, ◌++◌, ◌+◌, ◌≤◌, [], decimal, length};
 ghost use Rattle.device_core.specs.declared.naming.TheConstants.{NUMBER_BYTES, KERNEL_NAME_BYTES};
 ghost use Rattle.device_core.specs.declared.text.TheConstants.{TEXT_BYTES};
-ghost use Rattle.device_core.specs.Names.{as_text, file_name, kernel_name as kernel_name_of};
+ghost use Rattle.device_core.specs.theorem.Names.{as_text, file_name, kernel_name as kernel_name_of};
 
 use crate::fence::Text;
 use crate::file::File;

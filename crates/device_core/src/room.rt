@@ -1,6 +1,6 @@
 //! Shrinks a map that has become much too large for its entries, so that a device's memory follows what is alive.
 ghost use Rattle.std.specs.Prelude.{◌≡◌, ℕ};
-ghost use Rattle.device_core.specs.State.{at};
+ghost use Rattle.device_core.specs.theorem.State.{at};
 
 use std::collections::HashMap;
 

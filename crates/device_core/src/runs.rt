@@ -1,10 +1,10 @@
 //! `run`: a list of requests on a new device. Its contract is this crate's main theorem.
 ghost use Rattle.std.specs.Prelude.{◌≡◌, [], IfOk, IfErr};
 ghost use Rattle.device_core.specs.declared.refusal.Refusal.TheVariants.{NoMemory};
-ghost use Rattle.device_core.specs.History.{AreAnswers, HasHistory, history_of};
-ghost use Rattle.device_core.specs.Memory.{AreTrimmed, KeepsWhatIsAlive};
-ghost use Rattle.device_core.specs.Answered.{AreAnswered};
-ghost use Rattle.device_core.specs.Headline.{ReportsSums, ReportsWhatWasPut, ReportsBuffers, ReportsFences, ReportsNumbers, ReportsEachWaking};
+ghost use Rattle.device_core.specs.theorem.History.{AreAnswers, HasHistory, history_of};
+ghost use Rattle.device_core.specs.theorem.Memory.{AreTrimmed, KeepsWhatIsAlive};
+ghost use Rattle.device_core.specs.theorem.Answered.{AreAnswered};
+ghost use Rattle.device_core.specs.theorem.Headline.{ReportsSums, ReportsWhatWasPut, ReportsBuffers, ReportsFences, ReportsNumbers, ReportsEachWaking};
 
 use crate::device::Device;
 use crate::refusal::Refusal;

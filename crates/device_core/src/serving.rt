@@ -2,12 +2,12 @@
 ghost use Rattle.std.specs.Prelude.{◌≡◌, ◌<◌, ◌^◌, List, None, Ok, Err, OnOk, OnErr, IfOk, IfErr};
 ghost use Rattle.device_core.specs.declared.request.Request.{Request as Asked};
 ghost use Rattle.device_core.specs.declared.request.Request.TheVariants as request;
-ghost use Rattle.device_core.specs.State.{objects_of};
-ghost use Rattle.device_core.specs.Request.{IsAnswer, after};
-ghost use Rattle.device_core.specs.History.{HasHistory, history_after};
-ghost use Rattle.device_core.specs.Memory.{AreTrimmed};
-ghost use Rattle.device_core.specs.Requests.{Has32Bits, Have32Bits};
-ghost use Rattle.device_core.specs.Answered.{IsAnswered};
+ghost use Rattle.device_core.specs.theorem.State.{objects_of};
+ghost use Rattle.device_core.specs.theorem.Request.{IsAnswer, after};
+ghost use Rattle.device_core.specs.theorem.History.{HasHistory, history_after};
+ghost use Rattle.device_core.specs.theorem.Memory.{AreTrimmed};
+ghost use Rattle.device_core.specs.theorem.Requests.{Has32Bits, Have32Bits};
+ghost use Rattle.device_core.specs.theorem.Answered.{IsAnswered};
 
 use crate::device::Device;
 use crate::fence::Text;

@@ -2,7 +2,7 @@
 //! other file is looked at.
 ghost use Rattle.std.specs.Prelude.{◌≡◌, ℕ, nat_eq, if◌then◌else◌, option_map, true};
 ghost use Rattle.device_core.specs.declared.waiting.Waiting.{Waiting as Key};
-ghost use Rattle.device_core.specs.State.{AreInOrder, AreSignalled, IsIndexed, at, file_signalled, holds};
+ghost use Rattle.device_core.specs.theorem.State.{AreInOrder, AreSignalled, IsIndexed, at, file_signalled, holds};
 
 use crate::fence::Signal;
 use crate::file::File;

@@ -1,6 +1,6 @@
 //! The usages of an export and an import, by Linux's sync flags.
 ghost use Rattle.std.specs.Prelude.{◌≡◌};
-ghost use Rattle.device_core.specs.Buffers.{export_usage as export_usage_of, import_usage as import_usage_of};
+ghost use Rattle.device_core.specs.theorem.Buffers.{export_usage as export_usage_of, import_usage as import_usage_of};
 
 use crate::refusal::Refusal;
 use point_core::Usage;

@@ -1,6 +1,6 @@
 //! `Text`: a NUL-terminated name of at most 31 bytes, cut as the kernel cuts it.
 ghost use Rattle.std.specs.Prelude.{◌≡◌, ◌≤◌, length};
-ghost use Rattle.device_core.specs.Names.{as_text as text_as, text_of};
+ghost use Rattle.device_core.specs.theorem.Names.{as_text as text_as, text_of};
 
 use crate::fence::Text;
 

@@ -10,7 +10,7 @@ ghost use Rattle.device_core.specs.declared.refusal.Refusal.TheVariants.{NoMemor
 ghost use Rattle.device_core.specs.declared.waiting.Waiting.{Waiting as Key};
 ghost use Rattle.device_core.specs.Due.{IsFirstHeld};
 ghost use Rattle.device_core.specs.Floors.{HasRisenQuietly, lowered, lowered_by, settled, timelines_in, timelines_state};
-ghost use Rattle.device_core.specs.State.{AreInOrder, AreSignalled, IsIndexed, at, holds, is_due_at, raised, waits_of};
+ghost use Rattle.device_core.specs.theorem.State.{AreInOrder, AreSignalled, IsIndexed, at, holds, is_due_at, raised, waits_of};
 ghost use Rattle.device_core.specs.Woken.{WakesSome, file_wakes};
 
 use crate::fence::{Fence, Signal, Timeline};

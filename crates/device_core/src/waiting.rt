@@ -4,9 +4,9 @@ ghost use Rattle.std.specs.Prelude.{◌≡◌, ℕ, ◌≤◌, None, IfOk, ◌+�
 ghost use Rattle.std.specs.List.Sorted.{IsStrictlyIncreasing};
 ghost use Rattle.device_core.specs.declared.waiting.Waiting.{Waiting as Key};
 ghost use Rattle.device_core.specs.declared.refusal.Refusal.TheVariants.{NoMemory};
-ghost use Rattle.device_core.specs.State.{AreInOrder, is_same, holds, is_due_at, waits_of, IsIndexed, at};
+ghost use Rattle.device_core.specs.theorem.State.{AreInOrder, is_same, holds, is_due_at, waits_of, IsIndexed, at};
 ghost use Rattle.device_core.specs.Woken.{WakesSome, file_wakes};
-ghost use Rattle.device_core.specs.Fences.{waiting};
+ghost use Rattle.device_core.specs.theorem.Fences.{waiting};
 
 use crate::fence::Fence;
 use crate::file::File;

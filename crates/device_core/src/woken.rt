@@ -1,7 +1,7 @@
 //! Collects the files that a request signals, by rising number.
 ghost use Rattle.std.specs.Prelude.{◌≡◌, ℕ, ◌^◌, ◌≤◌, nat_eq, ◌&&◌, ◌||◌, ◌↔◌, true, false, None, OnOk, IfOk, IfErr, Contains};
 ghost use Rattle.device_core.specs.declared.refusal.Refusal.TheVariants.{NoMemory};
-ghost use Rattle.device_core.specs.State.{IsIndexed, at};
+ghost use Rattle.device_core.specs.theorem.State.{IsIndexed, at};
 ghost use Rattle.device_core.specs.Woken.{WakesSome, file_wakes, has, is_settled_by, wakes as wakes_of};
 ghost use Rattle.std.specs.List.{list_all};
 ghost use Rattle.std.specs.List.Sorted.{IsStrictlyIncreasing};

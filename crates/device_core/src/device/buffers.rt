@@ -1,10 +1,10 @@
 //! The requests about buffers. As in `device.rt`, each finds its causes of refusal first.
 ghost use Rattle.std.specs.Prelude.{◌≡◌, ℕ, ◌+◌, nat_eq, if◌then◌else◌, Some, None, option_map, OnOk, OnErr, IfOk, IfErr, MatchOption, Ok, Err, true};
 ghost use Rattle.device_core.specs.declared.refusal.Refusal.TheVariants.{NoMemory};
-ghost use Rattle.device_core.specs.Buffers.{empty_buffer, export_usage as export_usage_of, import_usage as import_usage_of, import_into as imported_into, none_waits};
-ghost use Rattle.device_core.specs.State.{at, timeline_at, file_at, buffer_at, file_of, empty_text, missing_buffer, export_of, import_of, objects_of};
+ghost use Rattle.device_core.specs.theorem.Buffers.{empty_buffer, export_usage as export_usage_of, import_usage as import_usage_of, import_into as imported_into, none_waits};
+ghost use Rattle.device_core.specs.theorem.State.{at, timeline_at, file_at, buffer_at, file_of, empty_text, missing_buffer, export_of, import_of, objects_of};
 ghost use Rattle.device_core.specs.declared.request.Request.TheVariants as request;
-ghost use Rattle.device_core.specs.Request.{IsCause, cause_after, cause_at_buffer, cause_of};
+ghost use Rattle.device_core.specs.theorem.Request.{IsCause, cause_after, cause_at_buffer, cause_of};
 
 use super::Device;
 use crate::buffer::Buffer;

@@ -1,6 +1,6 @@
 use Rattle.std.proofs.Common.{is_some, rules}
 use Rattle.std.proofs.lemmas.Fn.{filter_same}
-use Rattle.device_core.specs.State.{file_at}
+use Rattle.device_core.specs.theorem.State.{file_at}
 use Rattle.c_device.proofs.service.drop_released.Goals as goal
 
 pub returns : goal.returns

@@ -3,8 +3,8 @@ use Rattle.std.specs.VecDeque.{deque_len, deque_capacity}
 use Rattle.std.proofs.lemmas.Result.{IfErr-weaker}
 use Rattle.device_core.specs.declared.request.Request.{Request}
 use Rattle.device_core.specs.declared.request.Request.TheVariants as request
-use Rattle.device_core.specs.Request.{IsAnswer, takes_memory}
-use Rattle.device_core.specs.State.{objects_of}
+use Rattle.device_core.specs.theorem.Request.{IsAnswer, takes_memory}
+use Rattle.device_core.specs.theorem.State.{objects_of}
 use Rattle.c_device.specs.Service.{may_wake}
 use Rattle.c_device.proofs.Queued.{on-ok}
 use Rattle.c_device.proofs.service.make_room.Goals as goal

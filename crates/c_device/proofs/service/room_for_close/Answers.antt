@@ -2,8 +2,8 @@ use Rattle.std.proofs.Common.{◌≡◌, ◌≤◌, ◌-◌, ◌∙◌, ℕ, tru
 use Rattle.std.specs.VecDeque.{deque_len, deque_capacity}
 use Rattle.std.proofs.lemmas.Bool.{false≢true}
 use Rattle.device_core.specs.declared.request.Request.TheVariants as request
-use Rattle.device_core.specs.Request.{takes_memory}
-use Rattle.device_core.specs.State.{objects_of}
+use Rattle.device_core.specs.theorem.Request.{takes_memory}
+use Rattle.device_core.specs.theorem.State.{objects_of}
 use Rattle.device_core.proofs.Needing.{drop-spares}
 use Rattle.c_device.proofs.Queued.{on-ok}
 use Rattle.c_device.proofs.service.room_for_close.Goals as goal

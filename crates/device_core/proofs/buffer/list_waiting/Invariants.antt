@@ -1,9 +1,9 @@
 use Rattle.std.proofs.Common.{◌≡◌, drop}
 use Rattle.std.specs.Prelude.{fold}
 use Rattle.std.specs.List.{filter_map}
-use Rattle.device_core.specs.Fences.{with_fence}
-use Rattle.device_core.specs.State.{at}
-use Rattle.device_core.specs.Buffers.{waiting_fence}
+use Rattle.device_core.specs.theorem.Fences.{with_fence}
+use Rattle.device_core.specs.theorem.State.{at}
+use Rattle.device_core.specs.theorem.Buffers.{waiting_fence}
 use Rattle.device_core.proofs.buffer.list_waiting.Given as goal
 
 abbrev pub invariant-loop-fence : goal.invariant-loop-fence

@@ -1,6 +1,6 @@
 use Rattle.std.proofs.Common.{◌≡◌, drop}
-use Rattle.device_core.specs.State.{at}
-use Rattle.device_core.specs.Buffers.{none_waits}
+use Rattle.device_core.specs.theorem.State.{at}
+use Rattle.device_core.specs.theorem.Buffers.{none_waits}
 use Rattle.device_core.proofs.buffer.none_waits.Given as goal
 
 abbrev pub invariant-loop-fence : goal.invariant-loop-fence

@@ -1,7 +1,7 @@
 use Rattle.std.proofs.Common.{◌≡◌, ◌∙◌, true, false, rules, tests}
 use Rattle.std.proofs.lemmas.Iterator.{IsFirst-from_position, YieldsList-from_slice}
 use Rattle.point_core.specs.Agreement.{covers}
-use Rattle.device_core.specs.Buffers.{entry_of}
+use Rattle.device_core.specs.theorem.Buffers.{entry_of}
 use Rattle.device_core.proofs.Putting.{placed-first, placed-last}
 use Rattle.device_core.proofs.buffer.put.Goals as goal
 

@@ -1,7 +1,7 @@
 use Rattle.std.proofs.Common.{◌≡◌, ◌+◌, ◌≤◌, drop, length, vec_len}
 use Rattle.std.specs.Prelude.{fold}
 use Rattle.std.specs.Vec.{vec_capacity}
-use Rattle.device_core.specs.Buffers.{imported, with_buffer_fence}
+use Rattle.device_core.specs.theorem.Buffers.{imported, with_buffer_fence}
 use Rattle.device_core.proofs.buffer.put_pending.Given as goal
 
 abbrev pub invariant-loop-fence : goal.invariant-loop-fence

@@ -1,7 +1,7 @@
 use Rattle.std.proofs.Common.{rules}
 use Rattle.std.proofs.lemmas.Fn.{filter_same}
-use Rattle.device_core.specs.Buffers.{is_waiting}
-use Rattle.device_core.specs.State.{at}
+use Rattle.device_core.specs.theorem.Buffers.{is_waiting}
+use Rattle.device_core.specs.theorem.State.{at}
 use Rattle.device_core.proofs.buffer.trim_grown.Goals as goal
 
 pub returns-clause-kept : goal.returns-clause-kept

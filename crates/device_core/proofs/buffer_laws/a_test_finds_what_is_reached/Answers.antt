@@ -1,5 +1,5 @@
 use Rattle.std.proofs.Common.{refl}
-use Rattle.device_core.specs.Buffers.{none_waits}
+use Rattle.device_core.specs.theorem.Buffers.{none_waits}
 use Rattle.device_core.proofs.Exports.{tested}
 use Rattle.device_core.proofs.buffer_laws.a_test_finds_what_is_reached.Goals as goal
 

@@ -1,4 +1,4 @@
-use Rattle.device_core.specs.History.{world_of}
+use Rattle.device_core.specs.theorem.History.{world_of}
 use Rattle.device_core.proofs.Stepping.{IsSound-history}
 use Rattle.device_core.proofs.Reporting.{signalled-world}
 use Rattle.device_core.proofs.laws.a_file_has_signalled_once_all_is_reached.Goals as goal

@@ -1,5 +1,5 @@
 use Rattle.std.proofs.Common.{◌∙◌}
-use Rattle.device_core.specs.State.{at}
+use Rattle.device_core.specs.theorem.State.{at}
 use Rattle.device_core.proofs.Floors.{lowered-all, lowered-step}
 use Rattle.device_core.proofs.timelines.lower_floors.Goals as goal
 

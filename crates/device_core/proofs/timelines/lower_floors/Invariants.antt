@@ -1,7 +1,7 @@
 use Rattle.std.proofs.Common.{◌≡◌, ℕ, drop}
 use Rattle.std.specs.Prelude.{option_map}
 use Rattle.device_core.specs.Floors.{lowered, timelines_in}
-use Rattle.device_core.specs.State.{at}
+use Rattle.device_core.specs.theorem.State.{at}
 use Rattle.device_core.proofs.timelines.lower_floors.Given as goal
 
 abbrev pub invariant-loop-fence : goal.invariant-loop-fence

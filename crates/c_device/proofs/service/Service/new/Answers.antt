@@ -1,5 +1,5 @@
 use Rattle.std.proofs.Common.{ℕ, List, [], sym, subst, refl, arith}
-use Rattle.device_core.specs.State.{DeviceState, nothing as nothing_open}
+use Rattle.device_core.specs.theorem.State.{DeviceState, nothing as nothing_open}
 use Rattle.c_device.specs.Service.{IsKept}
 use Rattle.c_device.proofs.service.Service.new.Goals as goal
 

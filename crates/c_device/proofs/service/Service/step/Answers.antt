@@ -1,6 +1,6 @@
 use Rattle.std.proofs.Common.{◌-◌, ℕ, List, Err, sym, subst}
 use Rattle.std.specs.VecDeque.{deque_len, deque_capacity}
-use Rattle.device_core.specs.History.{history_after}
+use Rattle.device_core.specs.theorem.History.{history_after}
 use Rattle.c_device.specs.Service.{ServiceState, IsStep, AreGiven, open_among}
 use Rattle.c_device.proofs.Queued.{given-after, woken-fits}
 use Rattle.c_device.proofs.Stepped.{answered-step, refused-step, state}

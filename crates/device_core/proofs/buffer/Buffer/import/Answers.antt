@@ -1,7 +1,7 @@
 use Rattle.std.proofs.Common.{◌≡◌, ◌∙◌, ap, sym, if◌then◌else◌, length, List, arith}
 use Rattle.device_core.specs.declared.buffer_fence.BufferFence.{BufferFence}
-use Rattle.device_core.specs.Buffers.{import_into, state_of}
-use Rattle.device_core.specs.State.{at}
+use Rattle.device_core.specs.theorem.Buffers.{import_into, state_of}
+use Rattle.device_core.specs.theorem.State.{at}
 use Rattle.device_core.proofs.Putting.{import-none, import-is}
 use Rattle.device_core.proofs.buffer.Buffer.import.Goals as goal
 

@@ -1,8 +1,8 @@
 use Rattle.std.proofs.Common.{sym, subst, rules, IfErr, Result, Vec, Global, ℕ}
 use Rattle.device_core.specs.declared.refusal.Refusal.{Refusal}
 use Rattle.device_core.specs.declared.request.Request.TheVariants as request
-use Rattle.device_core.specs.Request.{IsCause, cause_of, takes_memory}
-use Rattle.device_core.specs.State.{objects_of}
+use Rattle.device_core.specs.theorem.Request.{IsCause, cause_of, takes_memory}
+use Rattle.device_core.specs.theorem.State.{objects_of}
 use Rattle.device_core.proofs.Needing.{close-missing}
 use Rattle.device_core.proofs.Answering.{closing-woken, closing-closed}
 use Rattle.device_core.proofs.device.Device.close.Goals as goal

@@ -2,8 +2,8 @@ use Rattle.std.proofs.Common.{◌≡◌, ◌∙◌, true, refl, sym, ap, subst, 
 use Rattle.std.specs.Prelude.{IfSome}
 use Rattle.device_core.specs.declared.refusal.Refusal.TheVariants.{NoMemory}
 use Rattle.device_core.specs.declared.request.Request.TheVariants as request
-use Rattle.device_core.specs.Request.{takes_memory}
-use Rattle.device_core.specs.State.{DeviceState, at, objects_of, timeline_at}
+use Rattle.device_core.specs.theorem.Request.{takes_memory}
+use Rattle.device_core.specs.theorem.State.{DeviceState, at, objects_of, timeline_at}
 use Rattle.device_core.proofs.Needing.{close-takes}
 use Rattle.device_core.proofs.device.Device.close_timeline.Goals as goal
 

@@ -1,8 +1,8 @@
 use Rattle.std.proofs.Common.{◌≡◌, ◌∙◌, true, false, is_some, refl, sym, subst}
 use Rattle.device_core.specs.declared.refusal.Refusal.TheVariants.{NoMemory}
 use Rattle.device_core.specs.declared.request.Request.TheVariants as request
-use Rattle.device_core.specs.Request.{IsCause, cause_of, takes_memory}
-use Rattle.device_core.specs.State.{DeviceState, at, objects_of}
+use Rattle.device_core.specs.theorem.Request.{IsCause, cause_of, takes_memory}
+use Rattle.device_core.specs.theorem.State.{DeviceState, at, objects_of}
 use Rattle.device_core.proofs.Needing.{close-refused, close-spares, drop-spares}
 use Rattle.device_core.proofs.device.Device.close_without_memory.Goals as goal
 

@@ -3,7 +3,7 @@ use Rattle.std.specs.Prelude.{IsSomeAnd}
 use Rattle.point_core.specs.Reach.{GREATEST}
 use Rattle.device_core.specs.declared.fence.Timeline.{Timeline}
 use Rattle.device_core.specs.Due.{IsFirstDue, risen_value}
-use Rattle.device_core.specs.State.{DeviceState, at, file_at}
+use Rattle.device_core.specs.theorem.State.{DeviceState, at, file_at}
 use Rattle.device_core.proofs.Due.{first-due}
 use Rattle.device_core.proofs.device.Device.first_due.Goals as goal
 

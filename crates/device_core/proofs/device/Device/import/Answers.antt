@@ -1,7 +1,7 @@
 use Rattle.std.proofs.Common.{◌∙◌, ap, rules}
-use Rattle.device_core.specs.Buffers.{import_usage as import_usage_of}
-use Rattle.device_core.specs.State.{at}
-use Rattle.device_core.specs.State.{FileState}
+use Rattle.device_core.specs.theorem.Buffers.{import_usage as import_usage_of}
+use Rattle.device_core.specs.theorem.State.{at}
+use Rattle.device_core.specs.theorem.State.{FileState}
 use Rattle.device_core.proofs.Importing.{imported-in}
 use Rattle.device_core.proofs.device.Device.import.Goals as goal
 

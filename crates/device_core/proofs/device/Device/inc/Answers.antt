@@ -3,10 +3,10 @@ use Rattle.std.specs.Prelude.{IfSome}
 use Rattle.device_core.specs.declared.fence.Timeline.{Timeline}
 use Rattle.device_core.specs.declared.refusal.Refusal.TheVariants.{NoMemory, Overflow}
 use Rattle.device_core.specs.declared.request.Request.TheVariants as request
-use Rattle.device_core.specs.Request.{takes_memory}
-use Rattle.device_core.specs.Fences.{signal_at}
+use Rattle.device_core.specs.theorem.Request.{takes_memory}
+use Rattle.device_core.specs.theorem.Fences.{signal_at}
 use Rattle.device_core.specs.Floors.{HasRisenQuietly}
-use Rattle.device_core.specs.State.{AreSignalled, DeviceState, at, file_at, objects_of, timeline_at}
+use Rattle.device_core.specs.theorem.State.{AreSignalled, DeviceState, at, file_at, objects_of, timeline_at}
 use Rattle.device_core.specs.Woken.{WakesSome, file_wakes}
 use Rattle.device_core.proofs.Needing.{inc-takes}
 use Rattle.device_core.proofs.Signalled.{quiet-signalled}

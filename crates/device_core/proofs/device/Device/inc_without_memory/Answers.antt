@@ -1,8 +1,8 @@
 use Rattle.std.proofs.Common.{◌≡◌, ◌+◌, ◌∙◌, ℕ, false, refl, ap, subst, Some, arith}
 use Rattle.device_core.specs.declared.refusal.Refusal.TheVariants.{NoMemory}
 use Rattle.device_core.specs.declared.request.Request.TheVariants as request
-use Rattle.device_core.specs.Request.{IsCause, cause_of, takes_memory}
-use Rattle.device_core.specs.State.{DeviceState, at, objects_of, timeline_at}
+use Rattle.device_core.specs.theorem.Request.{IsCause, cause_of, takes_memory}
+use Rattle.device_core.specs.theorem.State.{DeviceState, at, objects_of, timeline_at}
 use Rattle.device_core.specs.Woken.{WakesSome, file_wakes}
 use Rattle.device_core.proofs.Needing.{inc-refused, inc-spares}
 use Rattle.device_core.proofs.device.Device.inc_without_memory.Goals as goal

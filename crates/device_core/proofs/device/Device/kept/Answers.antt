@@ -1,5 +1,5 @@
 use Rattle.std.proofs.Common.{subst}
-use Rattle.device_core.specs.Memory.{KeepsWhatIsAlive}
+use Rattle.device_core.specs.theorem.Memory.{KeepsWhatIsAlive}
 use Rattle.device_core.proofs.Memory.{kept-alive, waiting-alive}
 use Rattle.device_core.proofs.device.Device.kept.Goals as goal
 

@@ -1,4 +1,4 @@
-use Rattle.device_core.specs.History.{history_after}
+use Rattle.device_core.specs.theorem.History.{history_after}
 use Rattle.device_core.proofs.Histories.{HasHistory-after}
 use Rattle.device_core.proofs.Answered.{IsAnswered-stands}
 use Rattle.device_core.proofs.Tables.{AreTrimmed-stands}

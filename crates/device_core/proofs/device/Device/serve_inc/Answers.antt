@@ -1,6 +1,6 @@
 use Rattle.std.proofs.Common.{refl, ◌+◌, subst}
-use Rattle.device_core.specs.State.{timeline_at, missing_timeline, objects_of}
-use Rattle.device_core.specs.Request.{AreWoken}
+use Rattle.device_core.specs.theorem.State.{timeline_at, missing_timeline, objects_of}
+use Rattle.device_core.specs.theorem.Request.{AreWoken}
 use Rattle.device_core.proofs.Answering.{objects-risen, woken-risen, no_cause-timeline}
 use Rattle.device_core.proofs.device.Device.serve_inc.Goals as goal
 

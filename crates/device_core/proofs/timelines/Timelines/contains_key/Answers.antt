@@ -1,7 +1,7 @@
 use Rattle.std.proofs.Common.{◌∙◌, sym, ap}
 use Rattle.std.specs.Prelude.{is_some}
 use Rattle.device_core.specs.declared.timelines.OpenTimeline.{OpenTimeline}
-use Rattle.device_core.specs.State.{at}
+use Rattle.device_core.specs.theorem.State.{at}
 use Rattle.device_core.proofs.Floors.{at-view, is_some-map}
 use Rattle.device_core.proofs.timelines.Timelines.contains_key.Goals as goal
 

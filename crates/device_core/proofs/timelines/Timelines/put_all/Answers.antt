@@ -1,6 +1,6 @@
 use Rattle.std.proofs.Common.{◌≡◌, ◌∙◌, ap, subst, sym}
 use Rattle.device_core.specs.Floors.{HasFloors, TimelinesState}
-use Rattle.device_core.specs.State.{holds}
+use Rattle.device_core.specs.theorem.State.{holds}
 use Rattle.device_core.proofs.Floors.{HasFloors-lowered, HasFloors-lowered_only}
 use Rattle.device_core.proofs.timelines.Timelines.put_all.Goals as goal
 

@@ -1,6 +1,6 @@
 use Rattle.std.proofs.Common.{nat_eq, subst}
 use Rattle.std.specs.Prelude.{Some, IfSome, if◌then◌else◌, ◌≡◌, ℕ}
-use Rattle.device_core.specs.State.{at}
+use Rattle.device_core.specs.theorem.State.{at}
 use Rattle.device_core.specs.Floors.{TimelinesState, timelines_in}
 use Rattle.device_core.proofs.Floors.{settled-timelines}
 use Rattle.device_core.proofs.timelines.Timelines.raise_to.Goals as goal

@@ -13,9 +13,9 @@ use Rattle.device_core.specs.declared.fence.Timeline.{Timeline}
 use Rattle.device_core.specs.declared.waiting.Waiting.{Waiting}
 use Rattle.device_core.specs.declared.refusal.Refusal.{Refusal}
 use Rattle.device_core.specs.declared.refusal.Refusal.TheVariants.{NoEntry, WrongKind}
-use Rattle.device_core.specs.Wrapping.{unwrapped}
-use Rattle.device_core.specs.Fences.{latest_time, merged, waits_at, all_signalled_by, fence_of, signal_at}
-use Rattle.device_core.specs.Buffers.{BufferState, exported, import_into}
+use Rattle.device_core.specs.theorem.Wrapping.{unwrapped}
+use Rattle.device_core.specs.theorem.Fences.{latest_time, merged, waits_at, all_signalled_by, fence_of, signal_at}
+use Rattle.device_core.specs.theorem.Buffers.{BufferState, exported, import_into}
 
 -- a file: the name that it was given, its fences by rising timeline, and the time of its stub if it has none
 pub record FileState : Type 0 where

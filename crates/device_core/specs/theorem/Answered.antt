@@ -17,15 +17,15 @@ use Rattle.device_core.specs.declared.request.Request.{Request}
 use Rattle.device_core.specs.declared.request.Request.TheVariants as request
 use Rattle.device_core.specs.declared.request.Answer.{Answer}
 use Rattle.device_core.specs.declared.request.Answer.TheVariants as answer
-use Rattle.device_core.specs.Names.{array_name, as_text, kernel_name, stub_name, text_of}
-use Rattle.device_core.specs.Info.{stub_info}
-use Rattle.device_core.specs.State.{empty_text}
-use Rattle.device_core.specs.Request.{OnWoken}
-use Rattle.device_core.specs.History.{empty_world, history_after, sum_of}
-use Rattle.device_core.specs.Signals.{first_status, opened_as}
-use Rattle.device_core.specs.Headline.{put_into, reach_after}
-use Rattle.device_core.specs.Requests.{causes, first_cause, is_file, is_timeline, kinds, open_kind}
-use Rattle.device_core.specs.Making.{Listed, Making, made_in, time_reached}
+use Rattle.device_core.specs.theorem.Names.{array_name, as_text, kernel_name, stub_name, text_of}
+use Rattle.device_core.specs.theorem.Info.{stub_info}
+use Rattle.device_core.specs.theorem.State.{empty_text}
+use Rattle.device_core.specs.theorem.Request.{OnWoken}
+use Rattle.device_core.specs.theorem.History.{empty_world, history_after, sum_of}
+use Rattle.device_core.specs.theorem.Signals.{first_status, opened_as}
+use Rattle.device_core.specs.theorem.Headline.{put_into, reach_after}
+use Rattle.device_core.specs.theorem.Requests.{causes, first_cause, is_file, is_timeline, kinds, open_kind}
+use Rattle.device_core.specs.theorem.Making.{Listed, Making, made_in, time_reached}
 
 -- what a timeline has reached: the sum of its increments, or everything once it is closed
 abbrev pub timeline_reach : List Request → ℕ → ℕ

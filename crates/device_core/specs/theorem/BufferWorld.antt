@@ -4,7 +4,7 @@ use Rattle.point_core.specs.declared.entry.Entry.{Entry}
 use Rattle.point_core.specs.declared.entry.Usage.{Usage}
 use Rattle.point_core.specs.Reach.{GREATEST}
 use Rattle.device_core.specs.declared.buffer_fence.BufferFence.{BufferFence}
-use Rattle.device_core.specs.State.{Objects}
+use Rattle.device_core.specs.theorem.State.{Objects}
 
 -- a fence of a buffer belongs to a timeline that was opened
 pub record IsBufferFence (next : ℕ) (h : BufferFence) : Type 0 where

@@ -13,11 +13,11 @@ use Rattle.device_core.specs.declared.request.Request.{Request}
 use Rattle.device_core.specs.declared.request.Request.TheVariants as request
 use Rattle.device_core.specs.declared.request.Answer.{Answer}
 use Rattle.device_core.specs.declared.request.Answer.TheVariants as answer
-use Rattle.device_core.specs.Wrapping.{unwrapped}
-use Rattle.device_core.specs.Fences.{signal_at, are_signalled, status_of}
-use Rattle.device_core.specs.Buffers.{BufferState, empty_buffer, export_usage, import_usage, none_waits}
-use Rattle.device_core.specs.Info.{IsInfo}
-use Rattle.device_core.specs.State.{FileState, Objects, new_timeline, raised, one_fence_file, merged_files, file_signalled, export_of, import_of, missing_timeline, missing_file, missing_buffer}
+use Rattle.device_core.specs.theorem.Wrapping.{unwrapped}
+use Rattle.device_core.specs.theorem.Fences.{signal_at, are_signalled, status_of}
+use Rattle.device_core.specs.theorem.Buffers.{BufferState, empty_buffer, export_usage, import_usage, none_waits}
+use Rattle.device_core.specs.theorem.Info.{IsInfo}
+use Rattle.device_core.specs.theorem.State.{FileState, Objects, new_timeline, raised, one_fence_file, merged_files, file_signalled, export_of, import_of, missing_timeline, missing_file, missing_buffer}
 
 -- a table by number, with one number changed
 abbrev pub with_at : {X : Type 0} → (ℕ → X) → ℕ → X → ℕ → X

@@ -13,7 +13,7 @@ use Rattle.device_core.specs.declared.buffer.TheConstants.{GROWTH, UNTRIMMED}
 use Rattle.device_core.specs.declared.buffer_fence.BufferFence.{BufferFence}
 use Rattle.device_core.specs.declared.refusal.Refusal.{Refusal}
 use Rattle.device_core.specs.declared.refusal.Refusal.TheVariants.{Invalid}
-use Rattle.device_core.specs.Fences.{are_signalled, fence_of, pending_of, with_fence}
+use Rattle.device_core.specs.theorem.Fences.{are_signalled, fence_of, pending_of, with_fence}
 
 -- a buffer: its fences, how many it had after the import that trimmed it last, and the time of the stub of an idle buffer
 pub record BufferState : Type 0 where

@@ -5,9 +5,9 @@ use Rattle.device_core.specs.declared.refusal.Refusal.{Refusal}
 use Rattle.device_core.specs.declared.request.Request.{Request}
 use Rattle.device_core.specs.declared.request.Answer.{Answer}
 use Rattle.device_core.specs.declared.request.Answer.TheVariants as answer
-use Rattle.device_core.specs.State.{Objects}
-use Rattle.device_core.specs.Request.{is_waiting}
-use Rattle.device_core.specs.History.{World, world_after, empty_world}
+use Rattle.device_core.specs.theorem.State.{Objects}
+use Rattle.device_core.specs.theorem.Request.{is_waiting}
+use Rattle.device_core.specs.theorem.History.{World, world_after, empty_world}
 
 -- the number of the new object
 abbrev pub number_in : Answer → List ℕ

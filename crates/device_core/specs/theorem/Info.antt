@@ -6,9 +6,9 @@ use Rattle.device_core.specs.declared.info.Driver.{Driver}
 use Rattle.device_core.specs.declared.info.Driver.TheVariants.{SwSync, Stub}
 use Rattle.device_core.specs.declared.info.FenceInfo.{FenceInfo}
 use Rattle.device_core.specs.declared.info.FileInfo.{FileInfo}
-use Rattle.device_core.specs.Fences.{status_before, status_of, time_of}
-use Rattle.device_core.specs.Names.{as_text, file_name}
-use Rattle.device_core.specs.State.{FileState}
+use Rattle.device_core.specs.theorem.Fences.{status_before, status_of, time_of}
+use Rattle.device_core.specs.theorem.Names.{as_text, file_name}
+use Rattle.device_core.specs.theorem.State.{FileState}
 
 -- the kernel's name of a driver
 abbrev pub driver_name : Driver → List ℕ

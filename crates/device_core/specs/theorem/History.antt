@@ -11,11 +11,11 @@ use Rattle.device_core.specs.declared.refusal.Refusal.{Refusal}
 use Rattle.device_core.specs.declared.request.Request.{Request}
 use Rattle.device_core.specs.declared.request.Request.TheVariants as request
 use Rattle.device_core.specs.declared.request.Answer.{Answer}
-use Rattle.device_core.specs.Wrapping.{unwrapped}
-use Rattle.device_core.specs.Buffers.{at_usage, export_usage, import_usage}
-use Rattle.device_core.specs.BufferWorld.{put_with}
-use Rattle.device_core.specs.State.{DeviceState, Objects, no_objects, objects_of}
-use Rattle.device_core.specs.Request.{with_at, value_in, after, cause_of, IsAnswer}
+use Rattle.device_core.specs.theorem.Wrapping.{unwrapped}
+use Rattle.device_core.specs.theorem.Buffers.{at_usage, export_usage, import_usage}
+use Rattle.device_core.specs.theorem.BufferWorld.{put_with}
+use Rattle.device_core.specs.theorem.State.{DeviceState, Objects, no_objects, objects_of}
+use Rattle.device_core.specs.theorem.Request.{with_at, value_in, after, cause_of, IsAnswer}
 
 -- the objects of a device, and all that was ever put into each file and buffer, by number. Nothing of that is dropped,
 -- not by a close either

@@ -8,10 +8,10 @@ use Rattle.point_core.specs.Reach.{is_reached}
 use Rattle.device_core.specs.declared.buffer.TheConstants.{GROWTH, UNTRIMMED}
 use Rattle.device_core.specs.declared.kept.Kept.{Kept}
 use Rattle.device_core.specs.declared.request.Request.{Request}
-use Rattle.device_core.specs.Fences.{pending_of}
-use Rattle.device_core.specs.History.{World, empty_world, reach_of, world_after}
-use Rattle.device_core.specs.Buffers.{BufferState}
-use Rattle.device_core.specs.State.{DeviceState, FileState, Objects, objects_of, timeline_at, file_at, buffer_at}
+use Rattle.device_core.specs.theorem.Fences.{pending_of}
+use Rattle.device_core.specs.theorem.History.{World, empty_world, reach_of, world_after}
+use Rattle.device_core.specs.theorem.Buffers.{BufferState}
+use Rattle.device_core.specs.theorem.State.{DeviceState, FileState, Objects, objects_of, timeline_at, file_at, buffer_at}
 
 -- the number of entries of its tables, and the length of the index
 abbrev pub kept_of : DeviceState → Kept

@@ -8,7 +8,7 @@ use Rattle.device_core.specs.declared.fence.Text.{Text}
 use Rattle.device_core.specs.declared.fence.Timeline.{Timeline}
 use Rattle.device_core.specs.declared.request.Request.{Request}
 use Rattle.device_core.specs.declared.request.Request.TheVariants as request
-use Rattle.device_core.specs.History.{World, reach_of, sum_of, world_after}
+use Rattle.device_core.specs.theorem.History.{World, reach_of, sum_of, world_after}
 
 -- the time at which a request is made, or 0 if it has none
 abbrev pub time_in : Request → ℕ

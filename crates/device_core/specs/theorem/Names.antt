@@ -3,7 +3,7 @@ use Rattle.std.specs.Prelude.{ℕ, ◌==◌, ◌-◌, if◌then◌else◌, List,
 use Rattle.device_core.specs.declared.fence.Text.{Text}
 use Rattle.device_core.specs.declared.fence.Fence.{Fence}
 use Rattle.device_core.specs.declared.text.TheConstants.{TEXT_BYTES}
-use Rattle.device_core.specs.State.{FileState}
+use Rattle.device_core.specs.theorem.State.{FileState}
 
 -- the bytes up to the first 0
 abbrev pub up_to_zero : List ℕ → List ℕ

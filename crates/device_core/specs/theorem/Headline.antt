@@ -12,14 +12,14 @@ use Rattle.device_core.specs.declared.fence.Timeline.{Timeline}
 use Rattle.device_core.specs.declared.refusal.Refusal.{Refusal}
 use Rattle.device_core.specs.declared.request.Request.{Request}
 use Rattle.device_core.specs.declared.request.Answer.{Answer}
-use Rattle.device_core.specs.Fences.{are_signalled, entries_in, pending_of, point_in, status_before, status_of, HasRisingTimelines}
-use Rattle.device_core.specs.State.{FileState, DeviceState, file_at, timeline_at, buffer_at}
-use Rattle.device_core.specs.Buffers.{BufferState, at_usage, entries_of, exported, none_waits}
-use Rattle.device_core.specs.Listing.{pending_points}
-use Rattle.device_core.specs.Request.{is_waiting}
-use Rattle.device_core.specs.Times.{numbers_given, times_woken, times_begun, times_dropped, one_if}
-use Rattle.device_core.specs.History.{empty_world, world_of, reach_of, sum_of}
-use Rattle.device_core.specs.Signals.{first_status, opened_as, point_status, reached_from}
+use Rattle.device_core.specs.theorem.Fences.{are_signalled, entries_in, pending_of, point_in, status_before, status_of, HasRisingTimelines}
+use Rattle.device_core.specs.theorem.State.{FileState, DeviceState, file_at, timeline_at, buffer_at}
+use Rattle.device_core.specs.theorem.Buffers.{BufferState, at_usage, entries_of, exported, none_waits}
+use Rattle.device_core.specs.theorem.Listing.{pending_points}
+use Rattle.device_core.specs.theorem.Request.{is_waiting}
+use Rattle.device_core.specs.theorem.Times.{numbers_given, times_woken, times_begun, times_dropped, one_if}
+use Rattle.device_core.specs.theorem.History.{empty_world, world_of, reach_of, sum_of}
+use Rattle.device_core.specs.theorem.Signals.{first_status, opened_as, point_status, reached_from}
 
 -- both have the same entries, in whatever order and however often
 pub record HasSameEntries (es fs : List Entry) : Type 0 where

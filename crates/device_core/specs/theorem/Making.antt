@@ -6,15 +6,15 @@ use Rattle.point_core.specs.Agreement.{point_of}
 use Rattle.device_core.specs.declared.fence.Text.{Text}
 use Rattle.device_core.specs.declared.request.Request.{Request}
 use Rattle.device_core.specs.declared.request.Request.TheVariants as request
-use Rattle.device_core.specs.Wrapping.{unwrapped}
-use Rattle.device_core.specs.Buffers.{export_usage}
-use Rattle.device_core.specs.State.{empty_text}
-use Rattle.device_core.specs.Request.{with_at}
-use Rattle.device_core.specs.History.{empty_world, put_by_export, sum_of}
-use Rattle.device_core.specs.Listing.{pending_points}
-use Rattle.device_core.specs.Signals.{reached_from}
-use Rattle.device_core.specs.Headline.{put_into, reach_after}
-use Rattle.device_core.specs.Requests.{kind_made, kinds}
+use Rattle.device_core.specs.theorem.Wrapping.{unwrapped}
+use Rattle.device_core.specs.theorem.Buffers.{export_usage}
+use Rattle.device_core.specs.theorem.State.{empty_text}
+use Rattle.device_core.specs.theorem.Request.{with_at}
+use Rattle.device_core.specs.theorem.History.{empty_world, put_by_export, sum_of}
+use Rattle.device_core.specs.theorem.Listing.{pending_points}
+use Rattle.device_core.specs.theorem.Signals.{reached_from}
+use Rattle.device_core.specs.theorem.Headline.{put_into, reach_after}
+use Rattle.device_core.specs.theorem.Requests.{kind_made, kinds}
 
 -- a point that a file lists, and the point of 32 bits in its name
 pub record Listed : Type 0 where
