@@ -99,7 +99,7 @@ abbrev pub rows_of : List Request → ℕ → Making → List FenceInfo
 rows_of history number m =
     if length m.points == 0 then stub_info m.stub_at ∷ [] else map (row_of history number) m.points
 
--- the name of a file without one of its own: that of its stub, of its one fence, or of an array
+-- the name of a file that was given none: the name of its stub, of its one fence, or of an array
 abbrev pub fences_name : List Request → ℕ → List Listed → List ℕ
 fences_name history number [] = stub_name
 fences_name history number (l ∷ []) =
