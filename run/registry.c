@@ -18,7 +18,7 @@ uint64_t registry_now(void)
     return now.tv_sec * 1000000000ull + now.tv_nsec;
 }
 
-bool registry_signals(struct registry *registry, uint64_t timeline, uint64_t n)
+bool registry_would_signal(struct registry *registry, uint64_t timeline, uint64_t n)
 {
     uint64_t point = 0;
 
@@ -216,7 +216,7 @@ void registry_wake(struct registry *registry)
 
     if (count == 0)
         return;
-    registry->host->begin_signals();
+    registry->host->begin_writes();
     while (count > 0) {
         for (size_t i = 0; i < count; i++) {
             struct object *object = map_find(&registry->by_number, woken[i]);
@@ -226,5 +226,5 @@ void registry_wake(struct registry *registry)
         }
         count = bim_device_take_woken(&registry->device, woken, WOKEN_ROOM);
     }
-    registry->host->end_signals();
+    registry->host->end_writes();
 }

@@ -59,7 +59,7 @@ struct host {
     int (*place)(int file);                            /* moves a descriptor of the registry; returns its new number */
     bool (*make_room)(struct registry *registry);      /* called when no number is free; returns whether one is now */
     bool (*may_give)(int file);                        /* whether the program may get a descriptor of this number */
-    void (*begin_signals)(void), (*end_signals)(void); /* called around writes whose reader may be gone */
+    void (*begin_writes)(void), (*end_writes)(void);   /* called around writes whose reader may be gone */
     bool (*owes_answer)(struct registry *registry);    /* whether the last increment's answer wasn't taken yet */
 };
 
@@ -95,8 +95,8 @@ void registry_look(struct registry *registry, struct object *object, bool is_tol
 void registry_settle(struct registry *registry);
 /* Moves all descriptors that the registry holds to other numbers. */
 void registry_place_all(struct registry *registry);
-/* For a registry without `endpoints`: registry_sweep looks at all objects, and registry_sweep_timelines only at
- * timelines whose closing a process may wait for; this returns whether any was closed. */
+/* For a registry without `endpoints`: registry_sweep looks at all objects, and registry_sweep_timelines first at the
+ * timelines only, and at all objects if any of these was closed, which it returns. */
 void registry_sweep(struct registry *registry);
 bool registry_sweep_timelines(struct registry *registry);
 
@@ -104,7 +104,7 @@ struct object *registry_find(const struct registry *registry, uint64_t inode);
 uint64_t registry_now(void);
 /* Returns whether the device says that an increment by `n` signals a fence. Closing a timeline signals what the
  * greatest increment would signal. */
-bool registry_signals(struct registry *registry, uint64_t timeline, uint64_t n);
+bool registry_would_signal(struct registry *registry, uint64_t timeline, uint64_t n);
 
 /* Internal to the registry: its parts are in files of their own. */
 int registry_begin(struct registry *registry, enum kind kind, const struct bim_request *request, struct object **made,

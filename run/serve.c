@@ -80,7 +80,7 @@ static void record_signalled(struct registry *registry, struct object *object)
 
 static int serve_inc(struct registry *registry, const struct bim_request *request, struct object *object)
 {
-    bool signals = registry_signals(registry, object->number, request->value);
+    bool signals = registry_would_signal(registry, object->number, request->value);
     int error;
 
     if (signals)

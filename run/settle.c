@@ -127,7 +127,7 @@ static void await_ends(struct registry *registry)
 static bool cancels(struct registry *registry)
 {
     for (const struct object *object = registry->closing; object; object = object->next_closing)
-        if (registry_signals(registry, object->number, UINT64_MAX))
+        if (registry_would_signal(registry, object->number, UINT64_MAX))
             return true;
     return false;
 }
