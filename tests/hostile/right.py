@@ -3,6 +3,7 @@
 The run may end with the fault of memory, after a prefix of the right result. Otherwise, commands may answer Memory. Such a
 command must leave nothing behind: all other answers are those of the script in which it is a note.
 """
+import os
 import re
 from dataclasses import replace
 
@@ -11,12 +12,13 @@ from scripts import answers_of
 
 MEMORY = b"err 16 Memory"
 FAULT = b"fencectl: 16 Memory\n"
-# tools/tables: memory
+with open(os.path.join(os.path.dirname(os.path.realpath(__file__)), "..", "..", "docs", "SCRIPT.md"), "rb") as document:
+    COMMANDS = re.findall(rb"^\| `(\w+)[^|]*\|[^|]*\|[^|]*\|([^|]*)\|$", document.read(), re.M)
 # Memory is refused to none of these.
-NEVER = {b"value", b"close", b"wait", b"test", b"trim", b"unwatch"}
+NEVER = {word for word, refusals in COMMANDS if b"Memory" not in refusals}
 # Memory is refused to these only if they fire a watch.
-RISING = {b"inc", b"shut"}
-# end
+RISING = {word for word, refusals in COMMANDS if b"Memory if a watch fires" in refusals}
+assert NEVER and RISING
 # These commands build a file before they look up its name, so they ask for memory even if they are refused.
 DRAWING = {b"fence", b"merge", b"export"}
 
