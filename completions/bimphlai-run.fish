@@ -1,11 +1,11 @@
 # Completion of bimphlai-run for fish.
 
 complete -c bimphlai-run -l local -d 'No service: for programs of one process'
-complete -c bimphlai-run -l direct -d 'Serve calls past the C library too'
+complete -c bimphlai-run -l direct -d 'Also serve calls that bypass the C library'
 complete -c bimphlai-run -r -l trace -d 'Write what happens to fences'
 complete -c bimphlai-run -l report -d 'Report at the end what hangs and who waits'
 complete -c bimphlai-run -l require -d 'End with 1 if a fence hangs or a rule was broken'
-complete -c bimphlai-run -x -l shuffle -d 'Hold threads up at moments that a number decides'
+complete -c bimphlai-run -x -l shuffle -d 'Delay threads at moments that a number decides'
 complete -c bimphlai-run -l verbose -d 'Say where the service is, and what was left'
 complete -c bimphlai-run -l help -d 'Print help'
 complete -c bimphlai-run -l version -d 'Print the version'

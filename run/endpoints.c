@@ -19,7 +19,7 @@ enum { QUEUE_BYTES = 2048 };
 #define NUMBER_SIGN  ((uint64_t)1 << 63)
 #define NUMBER_SPARE ((uint64_t)3 << 62)
 
-/* Headers older than Linux 5.7, and those of C libraries, lack these. */
+/* Headers older than Linux 5.7 lack these, and so do headers of C libraries. */
 #ifndef PIPEFS_MAGIC
 #define PIPEFS_MAGIC 0x50495045
 #endif

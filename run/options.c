@@ -13,16 +13,16 @@ static const char HELP[] =
     "dma-bufs. It needs no root, no kernel that has them, and no change of the program.\n"
     "\n"
     "  --local       no service: the fences of each process are its own; for programs of one process\n"
-    "  --direct      serves what a program asks of the kernel past the C library, too\n"
+    "  --direct      also serves system calls that bypass the C library\n"
     "  --trace FILE  writes what happens to fences to FILE, for `fencectl trace`\n"
     "  --report      reports at the end what hangs and who waits, on standard error\n"
     "  --require     ends with 1 if a fence hangs or a rule was broken\n"
     "  --shuffle SEED\n"
-    "                holds threads up at moments that the number SEED decides, to find what relies on luck\n"
+    "                delays threads at moments that the number SEED decides, to find what relies on luck\n"
     "  --verbose     says where the service is, and what was left at the end\n"
     "  --help, --version\n"
     "\n"
-    "The status is that of the program; 2 for options that don't fit, 123 if the service was lost, 125 if it can't\n"
+    "The status is the program's; 2 for options that don't fit, 123 if the service was lost, 125 if it can't\n"
     "start, 126 if the program can't be run with it, and 127 if there is no such program.\n";
 
 enum word { LOCAL = 256, DIRECT, TRACE, REPORT, REQUIRE, SHUFFLE, VERBOSE, HELP_, VERSION };

@@ -112,7 +112,7 @@ pid_t service_share(void)
 #endif
 }
 
-/* The service of which the server restarts the guard once bimphlai-run has ended. */
+/* The service whose guard the server restarts once bimphlai-run has ended. */
 static struct service *guarded;
 
 static int start_guard(void)

@@ -42,7 +42,7 @@ OF_THREAD bool is_inside;
 OF_THREAD bool forks; /* has the lock until it has forked, but handlers of other libraries may ask meanwhile */
 OF_THREAD bool begins;
 
-/* Blocks all signals except those of faults, which can't be deferred. */
+/* Blocks all signals but faults', which can't be deferred. */
 static void block_signals(sigset_t *before)
 {
     static const int FAULTS[] = { SIGSEGV, SIGBUS, SIGFPE, SIGILL, SIGTRAP, SIGSYS, SIGABRT };

@@ -31,7 +31,7 @@ struct run {
     bool users_are_killed; /* by the guard, since the server is lost */
 };
 
-/* All signals except those of faults, and those by which a terminal stops and continues a job. */
+/* All signals but faults' and the ones by which a terminal stops and continues a job. */
 static void handled_signals(sigset_t *signals)
 {
     static const int OTHERS[] = { SIGSEGV, SIGBUS,  SIGFPE,  SIGILL,  SIGTRAP, SIGSYS,

@@ -49,7 +49,7 @@ static int read_text(char *to, const char *from, size_t room)
     return EINVAL;
 }
 
-/* Reads by copies of the kernel, none of which crosses a page. */
+/* Has the kernel copy the text, page by page. */
 static int copy_text(char *to, const char *from, size_t room)
 {
     for (size_t length = 0, part; length < room; length += part) {

@@ -1,7 +1,7 @@
 """Checks runs in which growths were refused against runs of the same program without refusals.
 
 The run may end with the fault of memory, after a prefix of the right result. Otherwise, commands may answer Memory. Such a
-command must leave nothing behind: all other answers are those of the script in which it is a note.
+command must leave nothing behind: all other answers are as if it were a note.
 """
 import os
 import re

@@ -1,5 +1,5 @@
 #!/usr/bin/env python3
-"""Random histories of a device of libbimphlai, each answer compared with that of a plain model.
+"""Random histories of a device of libbimphlai, each answer compared with a plain model's.
 
 The model keeps all points that were ever put into each file and each buffer, and drops, merges and trims none of them.
 Its answers follow from these points and from the values and times of increments (docs/MODEL.md, docs/LIBRARY.md). When an
