@@ -1,6 +1,6 @@
 //! `Board`: the lock-free `SharedTable`, one max-register per (buffer, context, usage). The words keep each register's
 //! rule, so a board has only their identity. `run_clients` runs clients on it.
-ghost use Rattle.std.specs.Prelude.{◌≡◌, ◌<◌, ◌≤◌, ◌⊎◌, ◌↔◌, true, All, Ok, Err, IfErr, IfOk, IsOk, List, OnErr, OnOk};
+ghost use Rattle.std.specs.Prelude.{◌≡◌, ◌<◌, ◌≤◌, ◌⊎◌, ◌↔◌, [], true, All, Ok, Err, IfErr, IfOk, IsOk, List, OnErr, OnOk};
 ghost use Rattle.point_core.specs.declared.context.TheConstants.{CONTEXTS};
 ghost use Rattle.point_core.specs.declared.entry.Entry.{Entry};
 ghost use Rattle.point_core.specs.Agreement.{HasContexts};
@@ -12,13 +12,13 @@ ghost use Rattle.resv_core.specs.Shared.{HasClosedNone, HasStepped};
 ghost use Rattle.clients_core.specs.Board.{AreAsPlanned, HasListed, HasLooked, HasRaised, HasShown, IsRaisedBy, place_to, places_at};
 ghost use Rattle.clients_core.specs.Looks.{shows_all};
 
-use crate::gathered::{gathered_open, listed};
-use crate::listings::taken;
-use crate::raised::{are_as_planned, raised_tables};
+use crate::gathered_values::{gathered_open, listed};
+use crate::raised_tops::{are_as_planned, raised_tables};
 use point_core::{Context, Items, Listing, Point, Reach, Refusal, Usage};
 use resv_core::{Plan, Settled, SharedTable};
 use std::alloc::Global;
 use std::marker::Model;
+use std::mem;
 use std::sync::Wait;
 use words_core::{Seat, Whole, Words, WordsId};
 
@@ -103,7 +103,7 @@ impl Board {
     {
         listing.floor.clear();
         words.load_all_into(seat, &mut listing.floor);
-        let mut points = taken(alloc, &mut listing.points);
+        let mut points = take_points(alloc, &mut listing.points);
         latest_shown(words, seat, buffer, usage, &listing.floor, &mut points)?;
         listing.points = Items::of(points);
         Ok(())
@@ -279,4 +279,13 @@ fn later_at(
     } else {
         value
     }
+}
+
+/// Takes the memory of a listing's points, to fill it anew: a client fills one listing for all of its looks, on a board
+/// or a `LockedTable`.
+pub(crate) fn take_points(alloc: Global, points: &mut Items<Point>) -> Vec<Point>
+    ensures left { points.new ≡ [] }
+{
+    let none = Items::of(Vec::new(alloc));
+    mem::replace(points, none).into_vec()
 }

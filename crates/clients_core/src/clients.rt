@@ -12,7 +12,7 @@ ghost use Rattle.clients_core.specs.Plans.{cause_to_refuse_plans, settled_of};
 ghost use Rattle.clients_core.specs.Working.{AreWorkedOff, HasFailed};
 
 use crate::gate::Gate;
-use crate::gathered::gathered;
+use crate::gathered_values::gathered;
 use crate::plans::{check_plans, total_increment};
 use crate::workers::work_all;
 use point_core::{Context, Reach, Refusal};

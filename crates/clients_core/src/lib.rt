@@ -7,16 +7,15 @@
 mod board;
 mod client;
 mod clients;
-mod expected;
 mod gate;
-mod gathered;
-mod listings;
+mod gathered_values;
 mod locked_buffer;
 mod locked_table;
 mod own_puts;
-mod planned;
+mod planned_entries;
+mod planned_tops;
 mod plans;
-mod raised;
+mod raised_tops;
 mod rounds;
 mod workers;
 

@@ -7,10 +7,10 @@ ghost use Rattle.point_core.specs.Usage.{usage_number};
 ghost use Rattle.resv_core.specs.Resv.{entry_of};
 ghost use Rattle.words_core.specs.theorem.Loads.{reach_seen, HasLoadedAll};
 
-use crate::expected::expected_in;
-use crate::gathered::{gathered_open, listed};
-use crate::listings::taken;
+use crate::board::take_points;
+use crate::gathered_values::{gathered_open, listed};
 use crate::locked_buffer::LockedBuffer;
+use crate::planned_entries::planned_entries;
 use point_core::{Items, LatestPoints, Listing, Point, Reach, Refusal, Usage};
 use resv_core::{Plan, Settled, SharedTable};
 use std::alloc::Global;
@@ -111,7 +111,7 @@ impl SharedTable for LockedTable {
         let values = listed(alloc, &reach, words.contexts())?;
         let mut tables = Vec::with_capacity(alloc, self.buffers.len())?;
         for index in 0..self.buffers.len() {
-            let expected = expected_in(alloc, index, plans)?;
+            let expected = planned_entries(alloc, index, plans)?;
             let rows = self.buffers[index]
                 .lock(rt)
                 .buffer
@@ -186,7 +186,7 @@ impl Locked {
     {
         listing.floor.clear();
         words.load_all_into(seat, &mut listing.floor);
-        let mut points = taken(alloc, &mut listing.points);
+        let mut points = take_points(alloc, &mut listing.points);
         self.buffer
             .export_into(usage, &listing.floor, &mut self.latest, &mut points)?;
         listing.points = Items::of(points);
