@@ -15,7 +15,7 @@ use Rattle.c_desk.specs.declared.handle.DeskHandle.{DeskHandle}
 use Rattle.c_desk.specs.declared.line.TheConstants.{ANSWER_ROOM}
 use Rattle.c_desk.specs.Call.{number_of_answer, IsRefusal, IsStepOf, IsAskedOpen, IsAskedIf, IsAsked}
 use Rattle.c_desk.specs.Handle.{is_open}
-use Rattle.c_desk.specs.Line.{asked_by, has_rows, answer_text, StoresText, IsReporting, IsLineCall}
+use Rattle.c_desk.specs.Line.{command_of, has_rows, answer_text, StoresText, IsReporting, IsLineCall}
 use Rattle.c_desk.proofs.Looking.{rows-no_cookies, memory-answer, same-history}
 
 on-refused : {A B : Type 0} (given : Answer) → (A → B) → OnRefused given A → OnRefused given B
@@ -95,11 +95,11 @@ module _ (old new : DeskHandle) (room out : List ℕ) (count : ℕ) (returned : 
         }
       ]
 
-  asked-open : (b : Bool) (body : Body) (given : Answer) → b ≡ true → IsAskedIf b old new (asked_by body) given → IsAskedOpen old new (asked_by body) given
+  asked-open : (b : Bool) (body : Body) (given : Answer) → b ≡ true → IsAskedIf b old new (command_of body) given → IsAskedOpen old new (command_of body) given
   asked-open true body given is asked = asked
   asked-open false body given is asked = absurd (cc)
 
   -- the line that an open handle was asked to run was answered and reported
-  pub line-call : (body : Body) (given : Answer) → is_open old ≡ true → IsAsked old new (asked_by body) given → IsReporting given room out count returned → IsLineCall old new body room out count returned
+  pub line-call : (body : Body) (given : Answer) → is_open old ≡ true → IsAsked old new (command_of body) given → IsReporting given room out count returned → IsLineCall old new body room out count returned
   line-call (Cmd c) given opened asked t = of_command c given (asked-open (is_open old) (Cmd c) given opened asked) t
   line-call (Bad r) given opened asked t = of_refusal r given opened (asked-open (is_open old) (Bad r) given opened asked) t

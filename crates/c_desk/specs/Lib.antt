@@ -1,5 +1,5 @@
-pub mod Asked
 pub mod Call
+pub mod Commands
 pub mod Handle
 pub mod Held
 pub mod Lending

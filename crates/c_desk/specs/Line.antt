@@ -32,10 +32,10 @@ body_of_lines (line ∷ [] ∷ next ∷ more) = Some (Bad Syntax)
 abbrev pub body_of_bytes : List ℕ → Option Body
 body_of_bytes bytes = body_of_lines (lines_of bytes)
 
--- what the line asks for
-abbrev pub asked_by : Body → Result Command Refusal
-asked_by (Cmd command) = Ok command
-asked_by (Bad refusal) = Err refusal
+-- the command of a line, or its error
+abbrev pub command_of : Body → Result Command Refusal
+command_of (Cmd command) = Ok command
+command_of (Bad refusal) = Err refusal
 
 -- the answer without the cookies that it fires, which are queued
 abbrev pub without_cookies : Answer → Answer

@@ -4,7 +4,7 @@ ghost use Rattle.std.specs.Prelude.{◌≡◌};
 ghost use Rattle.c_desk.specs.Reported.{StoresInfo, StoresReport, StoresTable};
 ghost use Rattle.c_desk.specs.Call.{number_of, number_of_answer, reported_or, yes_or};
 
-use crate::rows::{BufferInfo, BufferRow, Counts, FenceInfo, FileInfo, TimelineInfo, put};
+use crate::rows::{CBufferRow, CFenceRow, CFileRow, CShowRow, CTimelineRow, RowCounts, put};
 use command_core::Answer;
 use point_core::Refusal;
 
@@ -48,7 +48,7 @@ pub fn store_if(answer: &Answer, yes: &mut i32)
 }
 
 /// Stores file information, as many fences as there is room for, if the answer is one.
-pub fn store_info(answer: &Answer, status: &mut i32, rows: &mut [FenceInfo], count: &mut usize)
+pub fn store_info(answer: &Answer, status: &mut i32, rows: &mut [CFenceRow], count: &mut usize)
     ensures { StoresInfo answer.now status.old status.new rows.old rows.new count.old count.new }
 {
     if let Answer::Info(info) = answer {
@@ -60,7 +60,7 @@ pub fn store_info(answer: &Answer, status: &mut i32, rows: &mut [FenceInfo], cou
 }
 
 /// Stores a buffer's table, as many rows as there is room for, if the answer is one.
-pub fn store_table(answer: &Answer, rows: &mut [BufferRow], count: &mut usize)
+pub fn store_table(answer: &Answer, rows: &mut [CShowRow], count: &mut usize)
     ensures { StoresTable answer.now rows.old rows.new count.old count.new }
 {
     if let Answer::Show(table) = answer {
@@ -73,10 +73,10 @@ pub fn store_table(answer: &Answer, rows: &mut [BufferRow], count: &mut usize)
 /// Stores a report, as many rows as there is room for, if the answer is one.
 pub fn store_report(
     answer: &Answer,
-    timelines: &mut [TimelineInfo],
-    files: &mut [FileInfo],
-    buffers: &mut [BufferInfo],
-    counts: &mut Counts,
+    timelines: &mut [CTimelineRow],
+    files: &mut [CFileRow],
+    buffers: &mut [CBufferRow],
+    counts: &mut RowCounts,
 )
     ensures { StoresReport answer.now timelines.old timelines.new files.old files.new
         buffers.old buffers.new counts.old counts.new }
@@ -84,7 +84,7 @@ pub fn store_report(
     if let Answer::Report(report) = answer {
         let (all_timelines, all_files) = (report.timelines.as_slice(), report.files.as_slice());
         let all_buffers = report.buffers.as_slice();
-        *counts = Counts {
+        *counts = RowCounts {
             timelines: all_timelines.len(),
             files: all_files.len(),
             buffers: all_buffers.len(),

@@ -4,14 +4,14 @@
 #![tactic(auto)]
 
 ghost use Rattle.std.specs.Prelude.{◌≡◌, ◌<◌, ◌≤◌, pos, [], true, false, length, None, IfSome, IfErr, OnOk, OnErr, ⊤};
-ghost use Rattle.c_desk.specs.Asked.{asked_timeline, asked_inc, asked_shut, asked_value, asked_fence, asked_merge, asked_close, asked_wait, asked_info, asked_buffer, asked_add, asked_import, asked_export, asked_test, asked_trim, asked_show, asked_watch, asked_unwatch, asked_report};
+ghost use Rattle.c_desk.specs.Commands.{timeline_command, inc_command, shut_command, value_command, fence_command, merge_command, close_command, wait_command, info_command, buffer_command, add_command, import_command, export_command, test_command, trim_command, show_command, watch_command, unwatch_command, report_command};
 ghost use Rattle.c_desk.specs.Call.{IsCall, reported_or, yes_or, number_of, IsNew, IsOpening, IsTaking};
 ghost use Rattle.c_desk.specs.Line.{body_of_bytes, IsKept, IsLineCall, StoresText};
 ghost use Rattle.c_desk.specs.Reported.{StoresInfo, StoresReport, StoresTable};
 ghost use Rattle.c_desk.specs.Handle.{is_open};
 
 mod answers;
-mod asked;
+mod commands;
 mod handle;
 mod line;
 mod rows;
@@ -20,7 +20,7 @@ mod service;
 use crate::answers::{number, refused, store, store_if, store_info, store_report, store_table};
 use crate::handle::DeskHandle;
 use crate::line::{ANSWER_ROOM, answer_line, body_of_bytes, store_text};
-use crate::rows::{BufferInfo, BufferRow, Counts, FenceInfo, FileInfo, TimelineInfo};
+use crate::rows::{CBufferRow, CFenceRow, CFileRow, CShowRow, CTimelineRow, RowCounts};
 use crate::service::Service;
 use command_core::Command;
 use point_core::{LimitKind, Refusal};
@@ -69,10 +69,10 @@ pub extern "C" fn bim_desk_close(alloc: Global, desk: &mut DeskHandle)
 /// `timeline T`, as libsync's `sw_sync_timeline_create`: stores the timeline's context.
 #[unsafe(no_mangle)]
 pub extern "C" fn bim_timeline_n(desk: &mut DeskHandle, timeline: &[u8], context: &mut u64) -> i32
-    ensures { IsCall desk.old desk.new (asked_timeline timeline.now) result (λ given.
+    ensures { IsCall desk.old desk.new (timeline_command timeline.now) result (λ given.
         context.new ≡ reported_or given context.old) }
 {
-    let answer = desk.ask(asked::timeline(timeline));
+    let answer = desk.ask(commands::timeline(timeline));
     store(&answer, context);
     number(&answer)
 }
@@ -80,10 +80,10 @@ pub extern "C" fn bim_timeline_n(desk: &mut DeskHandle, timeline: &[u8], context
 /// `inc T N`, as libsync's `sw_sync_timeline_inc`: stores the timeline's new value.
 #[unsafe(no_mangle)]
 pub extern "C" fn bim_inc_n(desk: &mut DeskHandle, timeline: &[u8], n: u64, value: &mut u64) -> i32
-    ensures { IsCall desk.old desk.new (asked_inc timeline.now n) result (λ given.
+    ensures { IsCall desk.old desk.new (inc_command timeline.now n) result (λ given.
         value.new ≡ reported_or given value.old) }
 {
-    let answer = desk.ask(asked::inc(timeline, n));
+    let answer = desk.ask(commands::inc(timeline, n));
     store(&answer, value);
     number(&answer)
 }
@@ -91,10 +91,10 @@ pub extern "C" fn bim_inc_n(desk: &mut DeskHandle, timeline: &[u8], n: u64, valu
 /// `value T`: stores the timeline's value.
 #[unsafe(no_mangle)]
 pub extern "C" fn bim_value_n(desk: &mut DeskHandle, timeline: &[u8], value: &mut u64) -> i32
-    ensures { IsCall desk.old desk.new (asked_value timeline.now) result (λ given.
+    ensures { IsCall desk.old desk.new (value_command timeline.now) result (λ given.
         value.new ≡ reported_or given value.old) }
 {
-    let answer = desk.ask(asked::value(timeline));
+    let answer = desk.ask(commands::value(timeline));
     store(&answer, value);
     number(&answer)
 }
@@ -102,10 +102,10 @@ pub extern "C" fn bim_value_n(desk: &mut DeskHandle, timeline: &[u8], value: &mu
 /// `shut T`, as the close of a sw_sync timeline's descriptor: stores the timeline's value.
 #[unsafe(no_mangle)]
 pub extern "C" fn bim_shut_n(desk: &mut DeskHandle, timeline: &[u8], value: &mut u64) -> i32
-    ensures { IsCall desk.old desk.new (asked_shut timeline.now) result (λ given.
+    ensures { IsCall desk.old desk.new (shut_command timeline.now) result (λ given.
         value.new ≡ reported_or given value.old) }
 {
-    let answer = desk.ask(asked::shut(timeline));
+    let answer = desk.ask(commands::shut(timeline));
     store(&answer, value);
     number(&answer)
 }
@@ -118,9 +118,9 @@ pub extern "C" fn bim_fence_n(
     timeline: &[u8],
     point: u64,
 ) -> i32
-    ensures { IsCall desk.old desk.new (asked_fence file.now timeline.now point) result (λ _. ⊤) }
+    ensures { IsCall desk.old desk.new (fence_command file.now timeline.now point) result (λ _. ⊤) }
 {
-    number(&desk.ask(asked::fence(file, timeline, point)))
+    number(&desk.ask(commands::fence(file, timeline, point)))
 }
 
 /// `merge F A B`, as libsync's `sync_merge`.
@@ -131,25 +131,25 @@ pub extern "C" fn bim_merge_n(
     first: &[u8],
     second: &[u8],
 ) -> i32
-    ensures { IsCall desk.old desk.new (asked_merge file.now first.now second.now) result (λ _. ⊤) }
+    ensures { IsCall desk.old desk.new (merge_command file.now first.now second.now) result (λ _. ⊤) }
 {
-    number(&desk.ask(asked::merge(file, first, second)))
+    number(&desk.ask(commands::merge(file, first, second)))
 }
 
 /// `close F`, as the close of a sync file's last descriptor.
 #[unsafe(no_mangle)]
 pub extern "C" fn bim_close_n(desk: &mut DeskHandle, file: &[u8]) -> i32
-    ensures { IsCall desk.old desk.new (asked_close file.now) result (λ _. ⊤) }
+    ensures { IsCall desk.old desk.new (close_command file.now) result (λ _. ⊤) }
 {
-    number(&desk.ask(asked::close(file)))
+    number(&desk.ask(commands::close(file)))
 }
 
 /// `wait F`, as libsync's `sync_wait` with a timeout of 0.
 #[unsafe(no_mangle)]
 pub extern "C" fn bim_wait_n(desk: &mut DeskHandle, file: &[u8]) -> i32
-    ensures { IsCall desk.old desk.new (asked_wait file.now) result (λ _. ⊤) }
+    ensures { IsCall desk.old desk.new (wait_command file.now) result (λ _. ⊤) }
 {
-    number(&desk.ask(asked::wait(file)))
+    number(&desk.ask(commands::wait(file)))
 }
 
 /// `info F`, as libsync's `sync_file_info`: stores the file's status, the number of its fences, and as many of them as
@@ -159,13 +159,13 @@ pub extern "C" fn bim_info_n(
     desk: &mut DeskHandle,
     file: &[u8],
     status: &mut i32,
-    rows: &mut [FenceInfo],
+    rows: &mut [CFenceRow],
     count: &mut usize,
 ) -> i32
-    ensures { IsCall desk.old desk.new (asked_info file.now) result (λ given.
+    ensures { IsCall desk.old desk.new (info_command file.now) result (λ given.
         StoresInfo given status.old status.new rows.old rows.new count.old count.new) }
 {
-    let answer = desk.ask(asked::info(file));
+    let answer = desk.ask(commands::info(file));
     store_info(&answer, status, rows, count);
     number(&answer)
 }
@@ -173,9 +173,9 @@ pub extern "C" fn bim_info_n(
 /// `buffer B`, as Linux's `dma_resv_init`.
 #[unsafe(no_mangle)]
 pub extern "C" fn bim_buffer_n(desk: &mut DeskHandle, buffer: &[u8]) -> i32
-    ensures { IsCall desk.old desk.new (asked_buffer buffer.now) result (λ _. ⊤) }
+    ensures { IsCall desk.old desk.new (buffer_command buffer.now) result (λ _. ⊤) }
 {
-    number(&desk.ask(asked::buffer(buffer)))
+    number(&desk.ask(commands::buffer(buffer)))
 }
 
 /// `add B T P U`, as Linux's `dma_resv_add_fence`. The usage is a number of Linux's `enum dma_resv_usage`.
@@ -187,25 +187,25 @@ pub extern "C" fn bim_add_n(
     point: u64,
     usage: i32,
 ) -> i32
-    ensures { IsCall desk.old desk.new (asked_add buffer.now timeline.now point usage) result (λ _. ⊤) }
+    ensures { IsCall desk.old desk.new (add_command buffer.now timeline.now point usage) result (λ _. ⊤) }
 {
-    number(&desk.ask(asked::add(buffer, timeline, point, usage)))
+    number(&desk.ask(commands::add(buffer, timeline, point, usage)))
 }
 
 /// `import B F FLAGS`, as Linux's `DMA_BUF_IOCTL_IMPORT_SYNC_FILE`.
 #[unsafe(no_mangle)]
 pub extern "C" fn bim_import_n(desk: &mut DeskHandle, buffer: &[u8], file: &[u8], flags: u32) -> i32
-    ensures { IsCall desk.old desk.new (asked_import buffer.now file.now flags) result (λ _. ⊤) }
+    ensures { IsCall desk.old desk.new (import_command buffer.now file.now flags) result (λ _. ⊤) }
 {
-    number(&desk.ask(asked::import(buffer, file, flags)))
+    number(&desk.ask(commands::import(buffer, file, flags)))
 }
 
 /// `export F B FLAGS`, as Linux's `DMA_BUF_IOCTL_EXPORT_SYNC_FILE`.
 #[unsafe(no_mangle)]
 pub extern "C" fn bim_export_n(desk: &mut DeskHandle, file: &[u8], buffer: &[u8], flags: u32) -> i32
-    ensures { IsCall desk.old desk.new (asked_export file.now buffer.now flags) result (λ _. ⊤) }
+    ensures { IsCall desk.old desk.new (export_command file.now buffer.now flags) result (λ _. ⊤) }
 {
-    number(&desk.ask(asked::export(file, buffer, flags)))
+    number(&desk.ask(commands::export(file, buffer, flags)))
 }
 
 /// `test B U`, as Linux's `dma_resv_test_signaled`: stores 1 for yes and 0 for no.
@@ -216,10 +216,10 @@ pub extern "C" fn bim_test_n(
     usage: i32,
     signalled: &mut i32,
 ) -> i32
-    ensures { IsCall desk.old desk.new (asked_test buffer.now usage) result (λ given.
+    ensures { IsCall desk.old desk.new (test_command buffer.now usage) result (λ given.
         signalled.new ≡ yes_or given signalled.old) }
 {
-    let answer = desk.ask(asked::test(buffer, usage));
+    let answer = desk.ask(commands::test(buffer, usage));
     store_if(&answer, signalled);
     number(&answer)
 }
@@ -227,9 +227,9 @@ pub extern "C" fn bim_test_n(
 /// `trim B`. The kernel has no such call.
 #[unsafe(no_mangle)]
 pub extern "C" fn bim_trim_n(desk: &mut DeskHandle, buffer: &[u8]) -> i32
-    ensures { IsCall desk.old desk.new (asked_trim buffer.now) result (λ _. ⊤) }
+    ensures { IsCall desk.old desk.new (trim_command buffer.now) result (λ _. ⊤) }
 {
-    number(&desk.ask(asked::trim(buffer)))
+    number(&desk.ask(commands::trim(buffer)))
 }
 
 /// `show B`, as Linux's debugfs lists a buffer's reservation: stores the number of rows in its table, and as many of
@@ -238,13 +238,13 @@ pub extern "C" fn bim_trim_n(desk: &mut DeskHandle, buffer: &[u8]) -> i32
 pub extern "C" fn bim_show_n(
     desk: &mut DeskHandle,
     buffer: &[u8],
-    rows: &mut [BufferRow],
+    rows: &mut [CShowRow],
     count: &mut usize,
 ) -> i32
-    ensures { IsCall desk.old desk.new (asked_show buffer.now) result (λ given.
+    ensures { IsCall desk.old desk.new (show_command buffer.now) result (λ given.
         StoresTable given rows.old rows.new count.old count.new) }
 {
-    let answer = desk.ask(asked::show(buffer));
+    let answer = desk.ask(commands::show(buffer));
     store_table(&answer, rows, count);
     number(&answer)
 }
@@ -254,12 +254,12 @@ pub extern "C" fn bim_show_n(
 #[unsafe(no_mangle)]
 pub extern "C" fn bim_report_n(
     desk: &mut DeskHandle,
-    timelines: &mut [TimelineInfo],
-    files: &mut [FileInfo],
-    buffers: &mut [BufferInfo],
-    counts: &mut Counts,
+    timelines: &mut [CTimelineRow],
+    files: &mut [CFileRow],
+    buffers: &mut [CBufferRow],
+    counts: &mut RowCounts,
 ) -> i32
-    ensures { IsCall desk.old desk.new asked_report result (λ given.
+    ensures { IsCall desk.old desk.new report_command result (λ given.
         StoresReport given timelines.old timelines.new files.old files.new
         buffers.old buffers.new counts.old counts.new) }
 {
@@ -271,15 +271,15 @@ pub extern "C" fn bim_report_n(
 /// `watch F COOKIE`, as Linux's `dma_fence_add_callback`.
 #[unsafe(no_mangle)]
 pub extern "C" fn bim_watch_n(desk: &mut DeskHandle, file: &[u8], cookie: u64) -> i32
-    ensures { IsCall desk.old desk.new (asked_watch file.now cookie) result (λ _. ⊤) }
+    ensures { IsCall desk.old desk.new (watch_command file.now cookie) result (λ _. ⊤) }
 {
-    number(&desk.ask(asked::watch(file, cookie)))
+    number(&desk.ask(commands::watch(file, cookie)))
 }
 
 /// `unwatch COOKIE`, as Linux's `dma_fence_remove_callback`: stores 1 if there was such a watch, else 0.
 #[unsafe(no_mangle)]
 pub extern "C" fn bim_unwatch(desk: &mut DeskHandle, cookie: u64, was_there: &mut i32) -> i32
-    ensures { IsCall desk.old desk.new (asked_unwatch cookie) result (λ given.
+    ensures { IsCall desk.old desk.new (unwatch_command cookie) result (λ given.
         was_there.new ≡ yes_or given was_there.old) }
 {
     let answer = desk.ask(Ok(Command::Unwatch(cookie)));

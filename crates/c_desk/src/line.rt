@@ -1,7 +1,7 @@
 //! Runs one line of a script for a C program, and stores its answer's text.
 ghost use Rattle.std.specs.Prelude.{◌≡◌, ◌≤◌, true, false, length, MatchOption};
 ghost use Rattle.c_desk.specs.Handle.{is_open};
-ghost use Rattle.c_desk.specs.Line.{body_of_bytes, asked_by, has_rows, answer_text, IsReporting, IsLineCall, StoresText};
+ghost use Rattle.c_desk.specs.Line.{body_of_bytes, command_of, has_rows, answer_text, IsReporting, IsLineCall, StoresText};
 
 use crate::answers::{number, refused};
 use crate::handle::DeskHandle;
@@ -47,12 +47,12 @@ pub fn answer_line(
     requires room { ANSWER_ROOM ≤ length out.old }
     ensures { IsLineCall desk.old desk.new body out.old out.new count.new result }
 {
-    let answer = desk.ask(asked_by(body));
+    let answer = desk.ask(command_of(body));
     report(alloc, &answer, out, count)
 }
 
-fn asked_by(body: Body) -> Result<Command, Refusal>
-    ensures { result ≡ asked_by body }
+fn command_of(body: Body) -> Result<Command, Refusal>
+    ensures { result ≡ command_of body }
 {
     match body {
         Body::Cmd(command) => Ok(command),

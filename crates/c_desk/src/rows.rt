@@ -1,7 +1,7 @@
-//! The rows of answers as C structs.
+//! The rows of answers as C structs. `CFileRow` is made from a `FileRow`, and the others likewise.
 ghost use Rattle.std.specs.Prelude.{◌≡◌, map};
 ghost use Rattle.c_handle.specs.Rows.{over};
-ghost use Rattle.c_desk.specs.Reported.{filled, driver_text, fence_info, buffer_row, timeline_info, file_info, buffer_info};
+ghost use Rattle.c_desk.specs.Reported.{filled, driver_text, c_fence_row, c_show_row, c_timeline_row, c_file_row, c_buffer_row};
 
 use command_core::{BufferRows, FenceRow, FileRow, Maker, ShowRow};
 use point_core::{Name, TimelineRow};
@@ -23,7 +23,7 @@ pub trait RowOf<T>: Copy + Drop {
 /// A fence of a file: `struct bim_fence_info`.
 #[repr(C)]
 #[derive(Clone, Copy, Drop)]
-pub struct FenceInfo {
+pub struct CFenceRow {
     pub timeline: [u8; NAME_ROOM],
     pub point: u64,
     pub driver: [u8; DRIVER_ROOM],
@@ -33,7 +33,7 @@ pub struct FenceInfo {
 /// A pending fence of a buffer: `struct bim_row`.
 #[repr(C)]
 #[derive(Clone, Copy, Drop)]
-pub struct BufferRow {
+pub struct CShowRow {
     pub usage: i32,
     pub timeline: [u8; NAME_ROOM],
     pub point: u64,
@@ -42,7 +42,7 @@ pub struct BufferRow {
 /// A timeline of a report: `struct bim_timeline_row`.
 #[repr(C)]
 #[derive(Clone, Copy, Drop)]
-pub struct TimelineInfo {
+pub struct CTimelineRow {
     pub timeline: [u8; NAME_ROOM],
     pub value: u64,
     pub is_closed: i32,
@@ -51,7 +51,7 @@ pub struct TimelineInfo {
 /// A file of a report: `struct bim_file_row`.
 #[repr(C)]
 #[derive(Clone, Copy, Drop)]
-pub struct FileInfo {
+pub struct CFileRow {
     pub file: [u8; NAME_ROOM],
     pub fences: u64,
     pub status: i32,
@@ -60,7 +60,7 @@ pub struct FileInfo {
 /// A buffer of a report: `struct bim_buffer_row`.
 #[repr(C)]
 #[derive(Clone, Copy, Drop)]
-pub struct BufferInfo {
+pub struct CBufferRow {
     pub buffer: [u8; NAME_ROOM],
     pub rows: u64,
 }
@@ -68,17 +68,17 @@ pub struct BufferInfo {
 /// The number of rows of each kind in a report: `struct bim_counts`.
 #[repr(C)]
 #[derive(Clone, Copy, Drop)]
-pub struct Counts {
+pub struct RowCounts {
     pub timelines: usize,
     pub files: usize,
     pub buffers: usize,
 }
 
-impl RowOf<FenceRow> for FenceInfo {
-    ghost made_of = { fence_info };
+impl RowOf<FenceRow> for CFenceRow {
+    ghost made_of = { c_fence_row };
 
-    fn of(row: &FenceRow) -> FenceInfo {
-        FenceInfo {
+    fn of(row: &FenceRow) -> CFenceRow {
+        CFenceRow {
             timeline: filled(&row.timeline),
             point: row.point,
             driver: driver_text(row.driver),
@@ -87,11 +87,11 @@ impl RowOf<FenceRow> for FenceInfo {
     }
 }
 
-impl RowOf<ShowRow> for BufferRow {
-    ghost made_of = { buffer_row };
+impl RowOf<ShowRow> for CShowRow {
+    ghost made_of = { c_show_row };
 
-    fn of(row: &ShowRow) -> BufferRow {
-        BufferRow {
+    fn of(row: &ShowRow) -> CShowRow {
+        CShowRow {
             usage: i32::from(row.usage.number()),
             timeline: filled(&row.timeline),
             point: row.point,
@@ -99,11 +99,11 @@ impl RowOf<ShowRow> for BufferRow {
     }
 }
 
-impl RowOf<TimelineRow> for TimelineInfo {
-    ghost made_of = { timeline_info };
+impl RowOf<TimelineRow> for CTimelineRow {
+    ghost made_of = { c_timeline_row };
 
-    fn of(row: &TimelineRow) -> TimelineInfo {
-        TimelineInfo {
+    fn of(row: &TimelineRow) -> CTimelineRow {
+        CTimelineRow {
             timeline: filled(&row.name),
             value: row.value,
             is_closed: i32::from(row.closed),
@@ -111,11 +111,11 @@ impl RowOf<TimelineRow> for TimelineInfo {
     }
 }
 
-impl RowOf<FileRow> for FileInfo {
-    ghost made_of = { file_info };
+impl RowOf<FileRow> for CFileRow {
+    ghost made_of = { c_file_row };
 
-    fn of(row: &FileRow) -> FileInfo {
-        FileInfo {
+    fn of(row: &FileRow) -> CFileRow {
+        CFileRow {
             file: filled(&row.name),
             fences: row.count,
             status: row.status.number(),
@@ -123,11 +123,11 @@ impl RowOf<FileRow> for FileInfo {
     }
 }
 
-impl RowOf<BufferRows> for BufferInfo {
-    ghost made_of = { buffer_info };
+impl RowOf<BufferRows> for CBufferRow {
+    ghost made_of = { c_buffer_row };
 
-    fn of(row: &BufferRows) -> BufferInfo {
-        BufferInfo {
+    fn of(row: &BufferRows) -> CBufferRow {
+        CBufferRow {
             buffer: filled(&row.name),
             rows: row.rows.as_slice().len() as u64,
         }

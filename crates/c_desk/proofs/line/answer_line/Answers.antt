@@ -12,7 +12,7 @@ returns c =
     let new = c.ask-answer.new.self in
     let given = c.ask-answer.result in
     let t = c.report.ensures in
-    let asked = subst (λ (a : Result Command Refusal). IsAsked old new a given) c.asked_by.ensures c.ask-answer.ensures in
+    let asked = subst (λ (a : Result Command Refusal). IsAsked old new a given) c.command_of.ensures c.ask-answer.ensures in
     line-call old new c.args.out.now c.report.new.out c.report.new.count _ c.requires.room c.args.body given c.requires.opened asked (record {
       reported = t.reported;
       is = t.is;

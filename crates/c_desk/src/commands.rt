@@ -1,6 +1,7 @@
-//! Builds the command of a call from its arguments, or the refusal for a bad argument.
+//! The command of each call, from its arguments, or the refusal for a bad argument. `lib.rt` calls one function for each
+//! export.
 ghost use Rattle.std.specs.Prelude.{◌≡◌, ok_or};
-ghost use Rattle.c_desk.specs.Asked.{name_of, usage_of, asked_timeline, asked_inc, asked_shut, asked_value, asked_fence, asked_merge, asked_close, asked_wait, asked_info, asked_buffer, asked_add, asked_import, asked_export, asked_test, asked_trim, asked_show, asked_watch};
+ghost use Rattle.c_desk.specs.Commands.{name_of, usage_of, timeline_command, inc_command, shut_command, value_command, fence_command, merge_command, close_command, wait_command, info_command, buffer_command, add_command, import_command, export_command, test_command, trim_command, show_command, watch_command};
 
 use c_handle::usage_of;
 use command_core::Command;
@@ -26,7 +27,7 @@ fn usage(number: i32) -> Result<Usage, Refusal>
 
 #[inline(always)]
 pub fn timeline(timeline: &[u8]) -> Result<Command, Refusal>
-    ensures { result ≡ asked_timeline timeline.now }
+    ensures { result ≡ timeline_command timeline.now }
 {
     let Some(timeline) = name(timeline) else {
         return Err(Refusal::Syntax);
@@ -36,7 +37,7 @@ pub fn timeline(timeline: &[u8]) -> Result<Command, Refusal>
 
 #[inline(always)]
 pub fn inc(timeline: &[u8], n: u64) -> Result<Command, Refusal>
-    ensures { result ≡ asked_inc timeline.now n }
+    ensures { result ≡ inc_command timeline.now n }
 {
     let Some(timeline) = name(timeline) else {
         return Err(Refusal::Syntax);
@@ -46,7 +47,7 @@ pub fn inc(timeline: &[u8], n: u64) -> Result<Command, Refusal>
 
 #[inline(always)]
 pub fn shut(timeline: &[u8]) -> Result<Command, Refusal>
-    ensures { result ≡ asked_shut timeline.now }
+    ensures { result ≡ shut_command timeline.now }
 {
     let Some(timeline) = name(timeline) else {
         return Err(Refusal::Syntax);
@@ -56,7 +57,7 @@ pub fn shut(timeline: &[u8]) -> Result<Command, Refusal>
 
 #[inline(always)]
 pub fn value(timeline: &[u8]) -> Result<Command, Refusal>
-    ensures { result ≡ asked_value timeline.now }
+    ensures { result ≡ value_command timeline.now }
 {
     let Some(timeline) = name(timeline) else {
         return Err(Refusal::Syntax);
@@ -66,7 +67,7 @@ pub fn value(timeline: &[u8]) -> Result<Command, Refusal>
 
 #[inline(always)]
 pub fn fence(file: &[u8], timeline: &[u8], point: u64) -> Result<Command, Refusal>
-    ensures { result ≡ asked_fence file.now timeline.now point }
+    ensures { result ≡ fence_command file.now timeline.now point }
 {
     let Some(file) = name(file) else {
         return Err(Refusal::Syntax);
@@ -79,7 +80,7 @@ pub fn fence(file: &[u8], timeline: &[u8], point: u64) -> Result<Command, Refusa
 
 #[inline(always)]
 pub fn merge(file: &[u8], first: &[u8], second: &[u8]) -> Result<Command, Refusal>
-    ensures { result ≡ asked_merge file.now first.now second.now }
+    ensures { result ≡ merge_command file.now first.now second.now }
 {
     let Some(file) = name(file) else {
         return Err(Refusal::Syntax);
@@ -95,7 +96,7 @@ pub fn merge(file: &[u8], first: &[u8], second: &[u8]) -> Result<Command, Refusa
 
 #[inline(always)]
 pub fn close(file: &[u8]) -> Result<Command, Refusal>
-    ensures { result ≡ asked_close file.now }
+    ensures { result ≡ close_command file.now }
 {
     let Some(file) = name(file) else {
         return Err(Refusal::Syntax);
@@ -105,7 +106,7 @@ pub fn close(file: &[u8]) -> Result<Command, Refusal>
 
 #[inline(always)]
 pub fn wait(file: &[u8]) -> Result<Command, Refusal>
-    ensures { result ≡ asked_wait file.now }
+    ensures { result ≡ wait_command file.now }
 {
     let Some(file) = name(file) else {
         return Err(Refusal::Syntax);
@@ -115,7 +116,7 @@ pub fn wait(file: &[u8]) -> Result<Command, Refusal>
 
 #[inline(always)]
 pub fn info(file: &[u8]) -> Result<Command, Refusal>
-    ensures { result ≡ asked_info file.now }
+    ensures { result ≡ info_command file.now }
 {
     let Some(file) = name(file) else {
         return Err(Refusal::Syntax);
@@ -125,7 +126,7 @@ pub fn info(file: &[u8]) -> Result<Command, Refusal>
 
 #[inline(always)]
 pub fn buffer(buffer: &[u8]) -> Result<Command, Refusal>
-    ensures { result ≡ asked_buffer buffer.now }
+    ensures { result ≡ buffer_command buffer.now }
 {
     let Some(buffer) = name(buffer) else {
         return Err(Refusal::Syntax);
@@ -135,7 +136,7 @@ pub fn buffer(buffer: &[u8]) -> Result<Command, Refusal>
 
 #[inline(always)]
 pub fn add(buffer: &[u8], timeline: &[u8], point: u64, number: i32) -> Result<Command, Refusal>
-    ensures { result ≡ asked_add buffer.now timeline.now point number }
+    ensures { result ≡ add_command buffer.now timeline.now point number }
 {
     let Some(buffer) = name(buffer) else {
         return Err(Refusal::Syntax);
@@ -148,7 +149,7 @@ pub fn add(buffer: &[u8], timeline: &[u8], point: u64, number: i32) -> Result<Co
 
 #[inline(always)]
 pub fn import(buffer: &[u8], file: &[u8], flags: u32) -> Result<Command, Refusal>
-    ensures { result ≡ asked_import buffer.now file.now flags }
+    ensures { result ≡ import_command buffer.now file.now flags }
 {
     let Some(buffer) = name(buffer) else {
         return Err(Refusal::Syntax);
@@ -161,7 +162,7 @@ pub fn import(buffer: &[u8], file: &[u8], flags: u32) -> Result<Command, Refusal
 
 #[inline(always)]
 pub fn export(file: &[u8], buffer: &[u8], flags: u32) -> Result<Command, Refusal>
-    ensures { result ≡ asked_export file.now buffer.now flags }
+    ensures { result ≡ export_command file.now buffer.now flags }
 {
     let Some(file) = name(file) else {
         return Err(Refusal::Syntax);
@@ -174,7 +175,7 @@ pub fn export(file: &[u8], buffer: &[u8], flags: u32) -> Result<Command, Refusal
 
 #[inline(always)]
 pub fn test(buffer: &[u8], number: i32) -> Result<Command, Refusal>
-    ensures { result ≡ asked_test buffer.now number }
+    ensures { result ≡ test_command buffer.now number }
 {
     let Some(buffer) = name(buffer) else {
         return Err(Refusal::Syntax);
@@ -184,7 +185,7 @@ pub fn test(buffer: &[u8], number: i32) -> Result<Command, Refusal>
 
 #[inline(always)]
 pub fn trim(buffer: &[u8]) -> Result<Command, Refusal>
-    ensures { result ≡ asked_trim buffer.now }
+    ensures { result ≡ trim_command buffer.now }
 {
     let Some(buffer) = name(buffer) else {
         return Err(Refusal::Syntax);
@@ -194,7 +195,7 @@ pub fn trim(buffer: &[u8]) -> Result<Command, Refusal>
 
 #[inline(always)]
 pub fn show(buffer: &[u8]) -> Result<Command, Refusal>
-    ensures { result ≡ asked_show buffer.now }
+    ensures { result ≡ show_command buffer.now }
 {
     let Some(buffer) = name(buffer) else {
         return Err(Refusal::Syntax);
@@ -204,7 +205,7 @@ pub fn show(buffer: &[u8]) -> Result<Command, Refusal>
 
 #[inline(always)]
 pub fn watch(file: &[u8], cookie: u64) -> Result<Command, Refusal>
-    ensures { result ≡ asked_watch file.now cookie }
+    ensures { result ≡ watch_command file.now cookie }
 {
     let Some(file) = name(file) else {
         return Err(Refusal::Syntax);
