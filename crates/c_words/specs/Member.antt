@@ -10,7 +10,7 @@ use Rattle.words_core.specs.theorem.Trace.{add, load, won, lost, raise, shut}
 use Rattle.words_core.specs.theorem.Words.{WordsModel}
 use Rattle.words_core.specs.declared.seat.TheConstants.{PARTS}
 use Rattle.words_core.specs.declared.words.TheConstants.{FLAGS}
-use Rattle.c_words.specs.declared.limits.TheConstants.{LEAST_PARTS}
+use Rattle.c_words.specs.declared.member.TheConstants.{LEAST_PARTS}
 use Rattle.c_words.specs.Shares.{share_of}
 
 pub record MemberModel : Type 0 where

@@ -8,9 +8,9 @@ ghost use Rattle.c_words.specs.Files.{IsOpen, IsClosed};
 ghost use Rattle.c_words.specs.Seats.{IsOpen as IsOpenSeat, IsClosed as IsClosedSeat};
 
 use crate::file_handle::FileHandle;
-use crate::numbers::{OK, refused};
 use crate::seat_handle::SeatHandle;
 use crate::shared_file::{SharedFile, file_name};
+use crate::{OK, refused};
 use point_core::{CONTEXTS, Context, Point, Refusal};
 use std::alloc::Global;
 use syncfile_core::SyncFile;

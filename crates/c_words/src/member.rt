@@ -8,11 +8,10 @@ ghost use Rattle.point_core.specs.Status.{status_number};
 ghost use Rattle.syncfile_core.specs.Running.{IsBorneOut};
 ghost use Rattle.words_core.specs.theorem.Loads.{reach_seen, HasLoadedAll};
 ghost use Rattle.words_core.specs.declared.seat.TheConstants.{PARTS};
-ghost use Rattle.c_words.specs.declared.limits.TheConstants.{LEAST_PARTS};
+ghost use Rattle.c_words.specs.declared.member.TheConstants.{LEAST_PARTS};
 ghost use Rattle.c_words.specs.Shares.{share_of};
 
-use crate::exporting::listed_file;
-use crate::limits::{LEAST_PARTS, SHARE};
+use crate::export::listed_file;
 use clients_core::Board;
 use point_core::{Context, Listing, Refusal, Status, Usage};
 use resv_core::SharedTable;
@@ -21,6 +20,16 @@ use std::marker::Model;
 use std::sync::Arc;
 use syncfile_core::SyncFile;
 use words_core::{Driver, Once, Seat, Words};
+
+/// The least parts of each seat: one to look with, and one to drive with.
+const LEAST_PARTS: u32 = 2;
+
+const _: () = prove!(LEAST_PARTS == 2);
+
+/// A seat gives one in this many of its parts to the next.
+const SHARE: u32 = 1_024;
+
+const _: () = prove!(SHARE == 1_024);
 
 /// The words, which all members share, a seat on them to look with, and the driver of a timeline, if it drives one.
 #[derive(Drop)]

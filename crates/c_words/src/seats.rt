@@ -13,8 +13,8 @@ ghost use Rattle.c_words.specs.Member.{after_loss, come_back};
 ghost use Rattle.c_words.specs.Seats.{IsOpen, IsClosed, with_seat};
 
 use crate::member::Member;
-use crate::numbers::{OK, refused};
 use crate::seat_handle::SeatHandle;
+use crate::{OK, refused};
 use c_handle::usage_of;
 use point_core::Refusal;
 use std::alloc::Global;

@@ -3,7 +3,7 @@ use Rattle.c_words.proofs.Moved.{same, lent}
 use Rattle.c_words.proofs.Signed.{answers}
 use Rattle.c_words.specs.Answers.{refused}
 use Rattle.c_words.specs.Member.{MemberModel, HasBuffer}
-use Rattle.c_words.proofs.exporting.bim_board_export.Goals as goal
+use Rattle.c_words.proofs.export.bim_board_export.Goals as goal
 
 pub returns-in-Err-clause-no_buffer : goal.returns-in-Err-clause-no_buffer
 returns-in-Err-clause-no_buffer c is shut usage none =

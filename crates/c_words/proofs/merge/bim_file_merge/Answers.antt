@@ -1,5 +1,5 @@
 use Rattle.c_words.proofs.FileMoved.{same_file}
-use Rattle.c_words.proofs.merging.bim_file_merge.Goals as goal
+use Rattle.c_words.proofs.merge.bim_file_merge.Goals as goal
 
 pub returns-in-Err-clause-a_same : goal.returns-in-Err-clause-a_same
 returns-in-Err-clause-a_same c = same_file c.is_open.ensures.unchanged c.get_mut-2.ensures.value

@@ -14,9 +14,9 @@ ghost use Rattle.c_words.specs.Seats.{IsOpen as IsOpenSeat, IsClosed as IsClosed
 use crate::file_handle::FileHandle;
 use crate::files::boxed;
 use crate::member::Member;
-use crate::numbers::{OK, refused};
 use crate::seat_handle::SeatHandle;
 use crate::shared_file::{SharedFile, file_name};
+use crate::{OK, refused};
 use c_handle::usage_of;
 use point_core::{Floor, Items, Listing, Refusal, Usage};
 use std::alloc::Global;

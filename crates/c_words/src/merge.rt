@@ -10,9 +10,9 @@ ghost use Rattle.c_words.specs.Seats.{IsOpen as IsOpenSeat, IsClosed as IsClosed
 use crate::file_handle::FileHandle;
 use crate::files::boxed;
 use crate::member::Member;
-use crate::numbers::{OK, refused};
 use crate::seat_handle::SeatHandle;
 use crate::shared_file::SharedFile;
+use crate::{OK, refused};
 use point_core::Refusal;
 use std::alloc::Global;
 use syncfile_core::SyncFile;
