@@ -3,11 +3,11 @@ use Rattle.std.proofs.Common.{◌≡◌, ◌≢◌, ℕ, ◌<◌, ◌≤◌, inl
 use Rattle.std.proofs.lemmas.Bool.{cases_Bool, cases_eq, false≢true}
 use Rattle.std.proofs.lemmas.List.Elements.{All-append, All-contains_itself, All-weaker}
 use Rattle.device_core.specs.declared.fence.Signal.{Signal}
-use Rattle.device_core.specs.declared.refusal.Refusal.{Refusal}
+use Rattle.device_core.specs.declared.errno.Errno.{Errno}
 use Rattle.device_core.specs.declared.request.Request.{Request}
 use Rattle.device_core.specs.declared.request.Request.TheVariants as request
-use Rattle.device_core.specs.declared.request.Answer.{Answer}
-use Rattle.device_core.specs.declared.request.Answer.TheVariants as answer
+use Rattle.device_core.specs.declared.request.Reply.{Reply}
+use Rattle.device_core.specs.declared.request.Reply.TheVariants as answer
 use Rattle.device_core.specs.theorem.Buffers.{none_waits}
 use Rattle.device_core.specs.theorem.Fences.{are_signalled, status_of}
 use Rattle.device_core.specs.theorem.State.{FileState, DeviceState, Objects, file_at, timeline_at, objects_of, file_signalled}
@@ -81,7 +81,7 @@ module _ (d : Objects) where
   next-rises (request.Test buffer usage) = omega arith
 
 -- a consequence of a result that is Ok
-pub on-ok : {X : Type 0} (r : Result X Refusal) (P Q : Type 0) → (P → Q) → OnOk r P → OnOk r Q
+pub on-ok : {X : Type 0} (r : Result X Errno) (P Q : Type 0) → (P → Q) → OnOk r P → OnOk r Q
 on-ok (Ok x) P Q f h = f h
 on-ok (Err e) P Q f h = tt
 
@@ -105,7 +105,7 @@ idle d e ns given none woken = nobody ns (λ n among.
     wakes-none d e n given none both.0 both.1)
 
 -- a request that may not wake has woken nobody
-quiet : (d : DeviceState) (r : Request) (given : Answer) → ((n : ℕ) → d.next ≤ n → file_at d n ≡ None) → Reports (objects_of d) r given → may_wake d r ≡ false → woken_in given ≡ []
+quiet : (d : DeviceState) (r : Request) (given : Reply) → ((n : ℕ) → d.next ≤ n → file_at d n ≡ None) → Reports (objects_of d) r given → may_wake d r ≡ false → woken_in given ≡ []
 quiet d (request.Open name) given known h still = ap woken_in h
 quiet d (request.Fence t point now) given known h still = ap woken_in h
 quiet d (request.Inc t m now) given known h still = idle (objects_of d) (risen (objects_of d) t m now) (woken_in given) known still (woken-told (objects_of d) (risen (objects_of d) t m now) given h)
@@ -126,7 +126,7 @@ module _ (d : DeviceState) (history : List Request) (had : HasHistory d history)
   sound : IsSound w
   sound = subst (λ (o : Objects). IsSound (record { objects = o; put = (world_of history).put })) (sym had.is) (IsSound-history history had.accepted)
 
-  module _ (r : Request) (given : Answer) (reports : Reports (objects_of d) r given) where
+  module _ (r : Request) (given : Reply) (reports : Reports (objects_of d) r given) where
     woken : AreWoken (objects_of d) (after (objects_of d) r) (woken_in given)
     woken = wakes-after w r given sound reports
 
@@ -145,12 +145,12 @@ module _ (d : DeviceState) (history : List Request) (had : HasHistory d history)
     ]
 
   -- there is room for the files that a request wakes
-  pub woken-fits : (r : Request) (given : Result Answer Refusal) (spare : ℕ) → IsAnswer (objects_of d) r given → (may_wake d r ≡ true → length d.files ≤ spare) → length (woken_of given) ≤ spare
+  pub woken-fits : (r : Request) (given : Result Reply Errno) (spare : ℕ) → IsAnswer (objects_of d) r given → (may_wake d r ≡ true → length d.files ≤ spare) → length (woken_of given) ≤ spare
   woken-fits r (Ok given) spare answered room = fits r given answered.1 spare room
   woken-fits r (Err refusal) spare answered room = omega arith
 
   -- the queue then has only given numbers
-  pub given-after : (r : Request) (given : Result Answer Refusal) (e : DeviceState) (queue : List ℕ) → IsAnswer (objects_of d) r given → OnOk given (objects_of e ≡ after (objects_of d) r) → OnErr given (e ≡ d)
+  pub given-after : (r : Request) (given : Result Reply Errno) (e : DeviceState) (queue : List ℕ) → IsAnswer (objects_of d) r given → OnOk given (objects_of e ≡ after (objects_of d) r) → OnErr given (e ≡ d)
       → AreGiven d.next queue → AreGiven e.next (queue ++ woken_of given)
   given-after r (Ok given) e queue answered done unchanged waits =
       let rises : d.next ≤ e.next = subst (λ (o : Objects). d.next ≤ o.next) (sym done) (next-rises (objects_of d) r) in

@@ -3,9 +3,9 @@ use Rattle.std.proofs.Common.{◌≡◌, ◌∙◌, ℕ, ◌<◌, inl, inr, Bool
 use Rattle.std.proofs.lemmas.Bool.{cases_Bool, false≢true}
 use Rattle.std.proofs.lemmas.List.{append-nil}
 use Rattle.std.proofs.lemmas.List.Elements.{All-filter, All-head, All-tail, All-weaker, filter-append}
-use Rattle.device_core.specs.declared.refusal.Refusal.{Refusal}
+use Rattle.device_core.specs.declared.errno.Errno.{Errno}
 use Rattle.device_core.specs.declared.request.Request.{Request}
-use Rattle.device_core.specs.declared.request.Answer.{Answer}
+use Rattle.device_core.specs.declared.request.Reply.{Reply}
 use Rattle.device_core.specs.theorem.State.{DeviceState, Objects, file_at, objects_of}
 use Rattle.device_core.specs.theorem.Request.{after, IsAnswer}
 use Rattle.device_core.specs.theorem.History.{HasHistory, history_after}
@@ -40,12 +40,12 @@ abbrev pub state : DeviceState → List ℕ → ServiceState
 state d woken = record { device = d; woken = woken }
 
 module _ (d e : DeviceState) (r : Request) where
-  stays : (given : Result Answer Refusal) → OnOk given (objects_of e ≡ after (objects_of d) r) → OnErr given (e ≡ d) → (n : ℕ) → n < d.next → is_some (file_at e n) ≡ true → is_some (file_at d n) ≡ true
+  stays : (given : Result Reply Errno) → OnOk given (objects_of e ≡ after (objects_of d) r) → OnErr given (e ≡ d) → (n : ℕ) → n < d.next → is_some (file_at e n) ≡ true → is_some (file_at d n) ≡ true
   stays (Ok answer) done unchanged n low is = files-stay (objects_of d) r n low (sym (ap (λ (o : Objects). is_some (o.files n)) done) ∙ is)
   stays (Err refusal) done unchanged n low is = sym (ap (λ (x : DeviceState). is_some (file_at x n)) unchanged) ∙ is
 
   -- a queued file that is open now was open before
-  pub kept-after : (given : Result Answer Refusal) (queue : List ℕ) → OnOk given (objects_of e ≡ after (objects_of d) r) → OnErr given (e ≡ d) → AreGiven d.next queue
+  pub kept-after : (given : Result Reply Errno) (queue : List ℕ) → OnOk given (objects_of e ≡ after (objects_of d) r) → OnErr given (e ≡ d) → AreGiven d.next queue
       → open_among e (queue ++ woken_of given) ≡ open_among e (open_among d queue ++ woken_of given)
   kept-after given queue done unchanged waits =
       let now : ℕ → Bool = λ n. is_some (file_at e n) in
@@ -56,14 +56,14 @@ module _ (d e : DeviceState) (r : Request) where
       ∙ sym (filter-append now (filter before queue) (woken_of given))
 
   -- a refused request changes nothing
-  pub unchanged-after : (given : Result Answer Refusal) (queue old : List ℕ) → OnErr given (e ≡ d) → open_among d queue ≡ open_among d old → OnErr given (state e (open_among e (queue ++ woken_of given)) ≡ state d (open_among d old))
+  pub unchanged-after : (given : Result Reply Errno) (queue old : List ℕ) → OnErr given (e ≡ d) → open_among d queue ≡ open_among d old → OnErr given (state e (open_among e (queue ++ woken_of given)) ≡ state d (open_among d old))
   unchanged-after (Ok answer) queue old unchanged kept = tt
   unchanged-after (Err refusal) queue old unchanged kept =
       let woken : open_among e (queue ++ []) ≡ open_among d old = ap (open_among e) (append-nil queue) ∙ ap (λ (x : DeviceState). open_among x queue) unchanged ∙ kept in
       λ i. record { device = unchanged i; woken = woken i }
 
   -- a request that was served
-  pub answered-step : (given : Result Answer Refusal) (queue old : List ℕ) → IsAnswer (objects_of d) r given → OnOk given (objects_of e ≡ after (objects_of d) r)
+  pub answered-step : (given : Result Reply Errno) (queue old : List ℕ) → IsAnswer (objects_of d) r given → OnOk given (objects_of e ≡ after (objects_of d) r)
       → ((history : List Request) → HasHistory d history → HasHistory e (history_after history r given)) → OnErr given (e ≡ d) → open_among d queue ≡ open_among d old → AreGiven d.next queue
       → IsStep (state d (open_among d old)) (state e (open_among e (queue ++ woken_of given))) r given
   answered-step given queue old answer done stands unchanged kept waits = record {
@@ -74,7 +74,7 @@ module _ (d e : DeviceState) (r : Request) where
   }
 
 -- a request for which there was no room
-pub refused-step : (d : DeviceState) (r : Request) (refusal : Refusal) (queue old : List ℕ) → IsAnswer (objects_of d) r (Err refusal) → open_among d queue ≡ open_among d old
+pub refused-step : (d : DeviceState) (r : Request) (refusal : Errno) (queue old : List ℕ) → IsAnswer (objects_of d) r (Err refusal) → open_among d queue ≡ open_among d old
     → IsStep (state d (open_among d old)) (state d (open_among d queue)) r (Err refusal)
 refused-step d r refusal queue old answer kept =
     let same : state d (open_among d queue) ≡ state d (open_among d old) = λ i. record { device = d; woken = kept i } in

@@ -1,21 +1,21 @@
 -- The result of a call from C: an answer, its number, and the stored values.
 use Rattle.std.specs.Prelude.{◌≡◌, ◌⊎◌, ℕ, ℤ, pos, Bool, true, false, List, [], length, drop, min, Option, None, Some, Result, Ok, Err}
-use Rattle.device_core.specs.declared.refusal.Refusal.{Refusal}
-use Rattle.device_core.specs.declared.refusal.Refusal.TheVariants.{NoEntry, NoMemory, Invalid, WrongKind, NoNumber, Overflow}
+use Rattle.device_core.specs.declared.errno.Errno.{Errno}
+use Rattle.device_core.specs.declared.errno.Errno.TheVariants.{NoEntry, NoMemory, Invalid, WrongKind, NoNumber, Overflow}
 use Rattle.device_core.specs.declared.request.Request.{Request}
-use Rattle.device_core.specs.declared.request.Answer.{Answer}
+use Rattle.device_core.specs.declared.request.Reply.{Reply}
 use Rattle.device_core.specs.theorem.State.{nothing}
 use Rattle.c_device.specs.declared.handle.DeviceHandle.{DeviceHandle}
 use Rattle.c_device.specs.Handle.{is_open}
 use Rattle.c_handle.specs.Rows.{over}
 use Rattle.c_device.specs.Service.{IsStep}
 
--- the answer of a call: none from a closed handle
-abbrev pub Given : Type 0
-Given = Option (Result Answer Refusal)
+-- the result of a call that is a request: none from a closed handle
+abbrev pub CallReply : Type 0
+CallReply = Option (Result Reply Errno)
 
 -- the errno that Linux gives
-abbrev pub errno_of : Refusal → ℤ
+abbrev pub errno_of : Errno → ℤ
 errno_of NoEntry = pos 2
 errno_of NoMemory = pos 12
 errno_of Invalid = pos 22
@@ -24,45 +24,45 @@ errno_of NoNumber = pos 28
 errno_of Overflow = pos 75
 
 -- 0 if the request was accepted, else the errno of the refusal: EBADF for a closed handle
-abbrev pub number_of : {A : Type 0} → Option (Result A Refusal) → ℤ
+abbrev pub number_of : {A : Type 0} → Option (Result A Errno) → ℤ
 number_of None = pos 9
 number_of (Some (Ok answer)) = pos 0
 number_of (Some (Err refusal)) = errno_of refusal
 
 -- the handle is closed, and stays as it is
-pub record IsClosed (old new : DeviceHandle) (given : Given) : Type 0 where
+pub record IsClosed (old new : DeviceHandle) (given : CallReply) : Type 0 where
   pub is : given ≡ None
   pub unchanged : new ≡ old
 
 -- the arguments are refused, and nothing has changed
-pub record IsRefusal (refusal : Refusal) (old new : DeviceHandle) (given : Given) : Type 0 where
+pub record IsRefusal (refusal : Errno) (old new : DeviceHandle) (given : CallReply) : Type 0 where
   pub is : given ≡ Some (Err refusal)
   pub unchanged : new ≡ old
 
 -- the open handle's service made one step
-pub record IsStepOf (old new : DeviceHandle) (asked : Request) (given : Given) : Type 0 where
-  pub answer : Result Answer Refusal
+pub record IsStepOf (old new : DeviceHandle) (asked : Request) (given : CallReply) : Type 0 where
+  pub answer : Result Reply Errno
   pub is : given ≡ Some answer
   pub opened : is_open new ≡ true
   pub step : IsStep old.service new.service asked answer
 
 -- an open handle answers what was asked for
-abbrev pub IsAskedOpen : DeviceHandle → DeviceHandle → Result Request Refusal → Given → Type 0
+abbrev pub IsAskedOpen : DeviceHandle → DeviceHandle → Result Request Errno → CallReply → Type 0
 IsAskedOpen old new (Ok asked) given = IsStepOf old new asked given
 IsAskedOpen old new (Err refusal) given = IsRefusal refusal old new given
 
 -- a closed handle is refused, whatever is asked for
-abbrev pub IsAskedIf : Bool → DeviceHandle → DeviceHandle → Result Request Refusal → Given → Type 0
+abbrev pub IsAskedIf : Bool → DeviceHandle → DeviceHandle → Result Request Errno → CallReply → Type 0
 IsAskedIf true old new asked given = IsAskedOpen old new asked given
 IsAskedIf false old new asked given = IsClosed old new given
 
-abbrev pub IsAsked : DeviceHandle → DeviceHandle → Result Request Refusal → Given → Type 0
+abbrev pub IsAsked : DeviceHandle → DeviceHandle → Result Request Errno → CallReply → Type 0
 IsAsked old new asked given = IsAskedIf (is_open old) old new asked given
 
 -- the answer of the call, the number that it returns, and the values that it stores
-pub record IsCall (old new : DeviceHandle) (asked : Result Request Refusal) (returned : ℤ) (Stores : Given → Type 0)
+pub record IsCall (old new : DeviceHandle) (asked : Result Request Errno) (returned : ℤ) (Stores : CallReply → Type 0)
     : Type 0 where
-  pub given : Given
+  pub given : CallReply
   pub answered : IsAsked old new asked given
   pub number : returned ≡ number_of given
   pub stores : Stores given

@@ -1,8 +1,8 @@
-pub mod Asked
 pub mod Call
 pub mod Handle
 pub mod Held
 pub mod Lending
-pub mod Looks
+pub mod Queries
 pub mod Reported
+pub mod Requests
 pub mod Service

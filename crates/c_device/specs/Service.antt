@@ -1,9 +1,9 @@
 -- A device with its queue of woken files, and one request on both.
 use Rattle.std.specs.Prelude.{◌≡◌, ℕ, ◌<◌, Bool, false, List, ◌++◌, filter, is_some, All, Result, OnErr}
-use Rattle.device_core.specs.declared.refusal.Refusal.{Refusal}
+use Rattle.device_core.specs.declared.errno.Errno.{Errno}
 use Rattle.device_core.specs.declared.request.Request.{Request}
 use Rattle.device_core.specs.declared.request.Request.TheVariants as request
-use Rattle.device_core.specs.declared.request.Answer.{Answer}
+use Rattle.device_core.specs.declared.request.Reply.{Reply}
 use Rattle.device_core.specs.theorem.State.{DeviceState, file_at, objects_of}
 use Rattle.device_core.specs.theorem.Request.{IsAnswer, takes_memory}
 use Rattle.device_core.specs.theorem.History.{HasHistory, history_after}
@@ -19,7 +19,7 @@ abbrev pub open_among : DeviceState → List ℕ → List ℕ
 open_among d numbers = filter (λ n. is_some (file_at d n)) numbers
 
 -- the files that the answer wakes
-abbrev pub woken_of : Result Answer Refusal → List ℕ
+abbrev pub woken_of : Result Reply Errno → List ℕ
 woken_of given = in_accepted woken_in given
 
 -- the numbers were given before the next one
@@ -27,7 +27,7 @@ abbrev pub AreGiven : ℕ → List ℕ → Type 0
 AreGiven next numbers = All (λ n. n < next) numbers
 
 -- the request was answered as a device answers it, and the files that it woke are queued after the earlier ones
-pub record IsStep (old new : ServiceState) (asked : Request) (given : Result Answer Refusal) : Type 0 where
+pub record IsStep (old new : ServiceState) (asked : Request) (given : Result Reply Errno) : Type 0 where
   pub answered : IsAnswer (objects_of old.device) asked given
   pub stands : (history : List Request) →
       HasHistory old.device history → HasHistory new.device (history_after history asked given)

@@ -2,12 +2,12 @@
 //! no value keep their old ones.
 ghost use Rattle.std.specs.Prelude.{◌≡◌};
 ghost use Rattle.c_device.specs.Call.{errno_of, number_of};
-ghost use Rattle.c_device.specs.Looks.{due_or, row_or, value_or};
+ghost use Rattle.c_device.specs.Queries.{c_point_or, due_or, value_or};
 ghost use Rattle.c_device.specs.Reported.{StoresInfo, number_or, status_or, yes_or};
 
-use crate::handle::{Given, Look};
-use crate::rows::{FenceRow, FileRow, PointRow, point_row, put};
-use device_core::{Answer, Fence, Refusal};
+use crate::handle::{CallReply, CallResult};
+use crate::rows::{CFenceInfo, CFileInfo, CPoint, c_point, put};
+use device_core::{Errno, Fence, Reply};
 
 /// The errno for a closed handle, as for a bad descriptor.
 const EBADF: i32 = 9;
@@ -17,7 +17,7 @@ pub const EEXIST: i32 = 17;
 
 /// 0, or the errno of the refusal.
 #[inline(always)]
-pub fn number<T>(given: &Look<T>) -> i32
+pub fn number<T>(given: &CallResult<T>) -> i32
     ensures { result ≡ number_of given.now }
 {
     match given {
@@ -29,7 +29,7 @@ pub fn number<T>(given: &Look<T>) -> i32
 
 /// The errno that Linux gives.
 #[inline(always)]
-pub fn errno(refusal: Refusal) -> i32
+pub fn errno(refusal: Errno) -> i32
     ensures { result ≡ errno_of refusal }
 {
     refusal as i32
@@ -37,37 +37,37 @@ pub fn errno(refusal: Refusal) -> i32
 
 /// Stores the number of the new object, if the answer has one.
 #[inline(always)]
-pub fn store(given: &Given, number: &mut u64)
+pub fn store(given: &CallReply, number: &mut u64)
     ensures { number.new ≡ number_or given.now number.old }
 {
-    if let Some(Ok(Answer::Number(made))) = given {
+    if let Some(Ok(Reply::Number(made))) = given {
         *number = *made;
     }
 }
 
 /// Stores a status, if the answer is one.
 #[inline(always)]
-pub fn store_status(given: &Given, status: &mut i32)
+pub fn store_status(given: &CallReply, status: &mut i32)
     ensures { status.new ≡ status_or given.now status.old }
 {
-    if let Some(Ok(Answer::Status(told))) = given {
+    if let Some(Ok(Reply::Status(told))) = given {
         *status = told.number();
     }
 }
 
 /// Stores 1 for yes and 0 for no, if the answer is one of these.
 #[inline(always)]
-pub fn store_if(given: &Given, yes: &mut i32)
+pub fn store_if(given: &CallReply, yes: &mut i32)
     ensures { yes.new ≡ yes_or given.now yes.old }
 {
-    if let Some(Ok(Answer::Signalled(signalled))) = given {
+    if let Some(Ok(Reply::Signalled(signalled))) = given {
         *yes = i32::from(*signalled);
     }
 }
 
-/// Stores the value, and nothing if the look failed.
+/// Stores the value, and nothing if the query failed.
 #[inline(always)]
-pub fn store_value(found: &Look<u64>, value: &mut u64)
+pub fn store_value(found: &CallResult<u64>, value: &mut u64)
     ensures { value.new ≡ value_or found.now value.old }
 {
     if let Some(Ok(known)) = found {
@@ -75,9 +75,9 @@ pub fn store_value(found: &Look<u64>, value: &mut u64)
     }
 }
 
-/// Stores the point, or 0 if there is none, and nothing if the look failed.
+/// Stores the point, or 0 if there is none, and nothing if the query failed.
 #[inline(always)]
-pub fn store_due(found: &Look<Option<u64>>, point: &mut u64)
+pub fn store_due(found: &CallResult<Option<u64>>, point: &mut u64)
     ensures { point.new ≡ due_or found.now point.old }
 {
     if let Some(Ok(first)) = found {
@@ -85,23 +85,23 @@ pub fn store_due(found: &Look<Option<u64>>, point: &mut u64)
     }
 }
 
-/// Stores the fence's row, and nothing if the look failed.
+/// Stores the fence's point, and nothing if the query failed.
 #[inline(always)]
-pub fn store_point(found: &Look<Fence>, row: &mut PointRow)
-    ensures { row.new ≡ row_or found.now row.old }
+pub fn store_point(found: &CallResult<Fence>, row: &mut CPoint)
+    ensures { row.new ≡ c_point_or found.now row.old }
 {
     if let Some(Ok(fence)) = found {
-        *row = point_row(fence);
+        *row = c_point(fence);
     }
 }
 
 /// Stores information on a file, with as many fences as there is room for, if the answer is one.
-pub fn store_info(given: &Given, info: &mut FileRow, rows: &mut [FenceRow])
+pub fn store_info(given: &CallReply, info: &mut CFileInfo, rows: &mut [CFenceInfo])
     ensures { StoresInfo given.now info.old info.new rows.old rows.new }
 {
-    if let Some(Ok(Answer::Info(report))) = given {
+    if let Some(Ok(Reply::Info(report))) = given {
         let fences = report.fences.as_slice();
-        *info = FileRow {
+        *info = CFileInfo {
             name: report.name.bytes,
             fences: fences.len() as u64,
             status: report.status.number(),

@@ -6,15 +6,15 @@ ghost use Rattle.c_device.specs.Service.{ServiceState};
 
 use crate::service::Service;
 use c_handle::Handle;
-use device_core::{Answer, Fence, Refusal, Request};
+use device_core::{Errno, Fence, Reply, Request};
 use std::alloc::Global;
 use std::marker::Model;
 
-/// What a look finds, or none if its handle is closed.
-pub type Look<T> = Option<Result<T, Refusal>>;
+/// The result of a call, or none if its handle is closed.
+pub type CallResult<T> = Option<Result<T, Errno>>;
 
-/// The answer of a call, likewise.
-pub type Given = Look<Answer>;
+/// The result of a call that is a request.
+pub type CallReply = CallResult<Reply>;
 
 /// A device that C programs use: `struct bim_device { void *at; }`. It is closed while the pointer is null.
 #[repr(C)]
@@ -36,7 +36,7 @@ impl DeviceHandle {
     ghost use Rattle.c_device.specs.Handle.{is_open};
     ghost use Rattle.c_device.specs.Lending.{as_handle, LendsHandle, LendsService};
     ghost use Rattle.c_device.specs.Call.{IsAsked};
-    ghost use Rattle.c_device.specs.Looks.{AnswersDue, AnswersFence, AnswersValue, IsLook};
+    ghost use Rattle.c_device.specs.Queries.{AnswersDue, AnswersFence, AnswersValue, IsQuery};
 
     /// Whether the handle is open.
     pub fn is_open(&mut self) -> bool
@@ -72,7 +72,7 @@ impl DeviceHandle {
     /// The answer of a call: none if the handle is closed, else the error of its arguments, else the answer to the
     /// request.
     #[inline(always)]
-    pub fn ask(&mut self, asked: Result<Request, Refusal>) -> Given
+    pub fn ask(&mut self, asked: Result<Request, Errno>) -> CallReply
         ensures { IsAsked self.old self.new asked result }
     {
         if !self.is_open() {
@@ -86,8 +86,8 @@ impl DeviceHandle {
 
     /// The value of a timeline.
     #[inline(always)]
-    pub fn value(&mut self, timeline: u64) -> Look<u64>
-        ensures { IsLook self.old self.new (AnswersValue timeline) result }
+    pub fn value(&mut self, timeline: u64) -> CallResult<u64>
+        ensures { IsQuery self.old self.new (AnswersValue timeline) result }
     {
         if self.is_open() {
             Some(self.get_mut().value(timeline))
@@ -98,8 +98,8 @@ impl DeviceHandle {
 
     /// The least point at which an increment would signal a fence of a file.
     #[inline(always)]
-    pub fn first_due(&mut self, timeline: u64, n: u64) -> Look<Option<u64>>
-        ensures { IsLook self.old self.new (AnswersDue timeline n) result }
+    pub fn first_due(&mut self, timeline: u64, n: u64) -> CallResult<Option<u64>>
+        ensures { IsQuery self.old self.new (AnswersDue timeline n) result }
     {
         if self.is_open() {
             Some(self.get_mut().first_due(timeline, n))
@@ -110,8 +110,8 @@ impl DeviceHandle {
 
     /// The fence of a file at an index.
     #[inline(always)]
-    pub fn fence_of(&mut self, file: u64, index: usize) -> Look<Fence>
-        ensures { IsLook self.old self.new (AnswersFence file index) result }
+    pub fn fence_of(&mut self, file: u64, index: usize) -> CallResult<Fence>
+        ensures { IsQuery self.old self.new (AnswersFence file index) result }
     {
         if self.is_open() {
             Some(self.get_mut().fence_of(file, index))

@@ -1,21 +1,20 @@
-//! The device for C programs: one export for each request, one that takes the files that were woken, and looks that
-//! change nothing. `bimphlai-run` serves its processes with it.
+//! The device for C programs: one export for each request, one that takes the files that were woken, and queries
+//! that change nothing. `bimphlai-run` serves its processes with it.
 //!
 //! `include/bimphlai.h` has the signatures. A name is a pointer and a length.
 #![tactic(auto)]
 
 ghost use Rattle.std.specs.Prelude.{◌≡◌, false, IfErr, OnOk, OnErr, Ok, ⊤};
-ghost use Rattle.device_core.specs.declared.refusal.Refusal.TheVariants.{NoMemory};
+ghost use Rattle.device_core.specs.declared.errno.Errno.TheVariants.{NoMemory};
 ghost use Rattle.device_core.specs.declared.request.Request.TheVariants as request;
 ghost use Rattle.device_core.specs.theorem.Names.{as_text};
-ghost use Rattle.c_device.specs.Asked.{asked_test};
+ghost use Rattle.c_device.specs.Requests.{test_request, usage_of};
 ghost use Rattle.c_device.specs.Call.{IsCall, IsNew, IsOpening, IsTaking};
 ghost use Rattle.c_device.specs.Handle.{is_open};
-ghost use Rattle.c_device.specs.Looks.{AnswersDue, AnswersFence, AnswersValue, IsLookCall, due_or, row_or, value_or};
+ghost use Rattle.c_device.specs.Queries.{AnswersDue, AnswersFence, AnswersValue, IsQueryCall, c_point_or, due_or, value_or};
 ghost use Rattle.c_device.specs.Reported.{StoresInfo, number_or, status_or, yes_or};
 
 mod answers;
-mod asked;
 mod handle;
 mod rows;
 mod service;
@@ -25,9 +24,11 @@ use crate::answers::{
     store_value,
 };
 use crate::handle::DeviceHandle;
-use crate::rows::{FenceRow, FileRow, PointRow};
+use crate::rows::{CFenceInfo, CFileInfo, CPoint};
 use crate::service::Service;
-use device_core::{Refusal, Request, Text};
+use c_handle::usage_of;
+use device_core::{Errno, Request, Text};
+use point_core::Usage;
 use std::alloc::Global;
 
 /// Opens an empty device at a closed handle.
@@ -46,7 +47,7 @@ pub extern "C" fn bim_device_open(alloc: Global, device: &mut DeviceHandle) -> i
     }
 }
 
-fn open(alloc: Global, device: &mut DeviceHandle) -> Result<(), Refusal>
+fn open(alloc: Global, device: &mut DeviceHandle) -> Result<(), Errno>
     requires { is_open device.old ≡ false }
     ensures done { OnOk result (IsNew device.new) }
     ensures memory { IfErr result (λ e. e ≡ NoMemory) }
@@ -57,7 +58,7 @@ fn open(alloc: Global, device: &mut DeviceHandle) -> Result<(), Refusal>
             device.open(service);
             Ok(())
         }
-        Err(_) => Err(Refusal::NoMemory),
+        Err(_) => Err(Errno::NoMemory),
     }
 }
 
@@ -160,8 +161,8 @@ pub extern "C" fn bim_device_is_signalled(
 pub extern "C" fn bim_device_info_n(
     device: &mut DeviceHandle,
     file: u64,
-    info: &mut FileRow,
-    rows: &mut [FenceRow],
+    info: &mut CFileInfo,
+    rows: &mut [CFenceInfo],
 ) -> i32
     ensures { IsCall device.old device.new (Ok (request.Info file)) result (λ given.
         StoresInfo given info.old info.new rows.old rows.new) }
@@ -229,18 +230,33 @@ pub extern "C" fn bim_device_test(
     usage: i32,
     signalled: &mut i32,
 ) -> i32
-    ensures { IsCall device.old device.new (asked_test buffer usage) result (λ given.
+    ensures { IsCall device.old device.new (test_request buffer usage) result (λ given.
         signalled.new ≡ yes_or given signalled.old) }
 {
-    let given = device.ask(asked::test(buffer, usage));
+    let given = device.ask(test_request(buffer, usage));
     store_if(&given, signalled);
     number(&given)
+}
+
+#[inline(always)]
+fn test_request(buffer: u64, number: i32) -> Result<Request, Errno>
+    ensures { result ≡ test_request buffer number }
+{
+    Ok(Request::Test(buffer, usage(number)?))
+}
+
+/// The usage with this number, as Linux's `enum dma_resv_usage` counts.
+#[inline(always)]
+fn usage(number: i32) -> Result<Usage, Errno>
+    ensures { result ≡ usage_of number }
+{
+    usage_of(number).ok_or(Errno::Invalid)
 }
 
 /// Stores the value of a timeline.
 #[unsafe(no_mangle)]
 pub extern "C" fn bim_device_value(device: &mut DeviceHandle, timeline: u64, value: &mut u64) -> i32
-    ensures { IsLookCall device.old device.new (AnswersValue timeline) result (λ found.
+    ensures { IsQueryCall device.old device.new (AnswersValue timeline) result (λ found.
         value.new ≡ value_or found value.old) }
 {
     let found = device.value(timeline);
@@ -256,7 +272,7 @@ pub extern "C" fn bim_device_first_due(
     n: u64,
     point: &mut u64,
 ) -> i32
-    ensures { IsLookCall device.old device.new (AnswersDue timeline n) result (λ found.
+    ensures { IsQueryCall device.old device.new (AnswersDue timeline n) result (λ found.
         point.new ≡ due_or found point.old) }
 {
     let found = device.first_due(timeline, n);
@@ -270,10 +286,10 @@ pub extern "C" fn bim_device_fence_of(
     device: &mut DeviceHandle,
     file: u64,
     index: usize,
-    point: &mut PointRow,
+    point: &mut CPoint,
 ) -> i32
-    ensures { IsLookCall device.old device.new (AnswersFence file index) result (λ found.
-        point.new ≡ row_or found point.old) }
+    ensures { IsQueryCall device.old device.new (AnswersFence file index) result (λ found.
+        point.new ≡ c_point_or found point.old) }
 {
     let found = device.fence_of(file, index);
     store_point(&found, point);

@@ -1,10 +1,10 @@
 //! Information on files and fences as C structs.
 ghost use Rattle.std.specs.Prelude.{◌≡◌, map};
 ghost use Rattle.c_handle.specs.Rows.{over};
-ghost use Rattle.c_device.specs.Looks.{point_row};
-ghost use Rattle.c_device.specs.Reported.{driver_text, fence_row};
+ghost use Rattle.c_device.specs.Queries.{c_point};
+ghost use Rattle.c_device.specs.Reported.{driver_text, c_fence_info};
 
-use device_core::{Driver, Fence, FenceInfo, TEXT_BYTES};
+use device_core::{Fence, FenceDriver, FenceInfo, TEXT_BYTES};
 
 /// A driver name, NUL-terminated and NUL-padded.
 pub const DRIVER_TEXT_BYTES: usize = 8;
@@ -12,7 +12,7 @@ pub const DRIVER_TEXT_BYTES: usize = 8;
 /// Information on a fence: `struct bim_device_fence_info`.
 #[repr(C)]
 #[derive(Clone, Copy, Drop)]
-pub struct FenceRow {
+pub struct CFenceInfo {
     pub timeline: [u8; TEXT_BYTES],
     pub at: u64,
     pub driver: [u8; DRIVER_TEXT_BYTES],
@@ -22,7 +22,7 @@ pub struct FenceRow {
 /// Information on a file: `struct bim_device_file_info`.
 #[repr(C)]
 #[derive(Clone, Copy, Drop)]
-pub struct FileRow {
+pub struct CFileInfo {
     pub name: [u8; TEXT_BYTES],
     pub fences: u64,
     pub status: i32,
@@ -31,15 +31,15 @@ pub struct FileRow {
 /// A fence by its point: `struct bim_device_point`.
 #[repr(C)]
 #[derive(Clone, Copy, Drop)]
-pub struct PointRow {
+pub struct CPoint {
     pub timeline: u64,
     pub value: u64,
     pub is_pending: i32,
 }
 
 /// Stores rows, as many as there is room for.
-pub fn put(fences: &[FenceInfo], rows: &mut [FenceRow])
-    ensures { rows.new ≡ over (map fence_row fences.now) rows.old }
+pub fn put(fences: &[FenceInfo], rows: &mut [CFenceInfo])
+    ensures { rows.new ≡ over (map c_fence_info fences.now) rows.old }
 {
     for index in 0..fences.len().min(rows.len()) {
         rows[index] = row_of(&fences[index]);
@@ -47,20 +47,20 @@ pub fn put(fences: &[FenceInfo], rows: &mut [FenceRow])
 }
 
 #[inline(always)]
-pub fn point_row(fence: &Fence) -> PointRow
-    ensures { result ≡ point_row fence.now }
+pub fn c_point(fence: &Fence) -> CPoint
+    ensures { result ≡ c_point fence.now }
 {
-    PointRow {
+    CPoint {
         timeline: fence.timeline,
         value: fence.value,
         is_pending: i32::from(fence.signal.is_none()),
     }
 }
 
-fn row_of(fence: &FenceInfo) -> FenceRow
-    ensures { result ≡ fence_row fence.now }
+fn row_of(fence: &FenceInfo) -> CFenceInfo
+    ensures { result ≡ c_fence_info fence.now }
 {
-    FenceRow {
+    CFenceInfo {
         timeline: fence.timeline.bytes,
         at: fence.at,
         driver: driver_text(fence.driver),
@@ -68,11 +68,11 @@ fn row_of(fence: &FenceInfo) -> FenceRow
     }
 }
 
-fn driver_text(driver: Driver) -> [u8; DRIVER_TEXT_BYTES]
+fn driver_text(driver: FenceDriver) -> [u8; DRIVER_TEXT_BYTES]
     ensures { result ≡ driver_text driver }
 {
     match driver {
-        Driver::SwSync => *b"sw_sync\0",
-        Driver::Stub => *b"stub\0\0\0\0",
+        FenceDriver::SwSync => *b"sw_sync\0",
+        FenceDriver::Stub => *b"stub\0\0\0\0",
     }
 }

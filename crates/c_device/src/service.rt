@@ -6,10 +6,10 @@ ghost use Rattle.device_core.specs.declared.request.Request.TheVariants as reque
 ghost use Rattle.device_core.specs.theorem.Request.{IsAnswer, takes_memory};
 ghost use Rattle.device_core.specs.theorem.State.{nothing, objects_of};
 ghost use Rattle.c_handle.specs.Rows.{over};
-ghost use Rattle.c_device.specs.Looks.{AnswersDue, AnswersFence, AnswersValue};
+ghost use Rattle.c_device.specs.Queries.{AnswersDue, AnswersFence, AnswersValue};
 ghost use Rattle.c_device.specs.Service.{IsStep, AreGiven, may_wake, open_among, woken_of};
 
-use device_core::{Answer, Device, Fence, Refusal, Request};
+use device_core::{Device, Errno, Fence, Reply, Request};
 use std::alloc::Global;
 use std::collections::VecDeque;
 use std::marker::Model;
@@ -48,7 +48,7 @@ impl Service {
 
     /// The answer to one request, as `Device::serve`. The files that it wakes are queued.
     #[inline(always)]
-    pub fn step(&mut self, request: Request) -> Result<Answer, Refusal>
+    pub fn step(&mut self, request: Request) -> Result<Reply, Errno>
         ensures { IsStep self.old self.new request result }
     {
         if let Err(refusal) = make_room(&mut self.woken, &self.device, &request) {
@@ -61,7 +61,7 @@ impl Service {
 
     /// The value of a timeline, as `Device::value`.
     #[inline(always)]
-    pub fn value(&self, timeline: u64) -> Result<u64, Refusal>
+    pub fn value(&self, timeline: u64) -> Result<u64, Errno>
         ensures { AnswersValue timeline self.now.device result }
     {
         self.device.value(timeline)
@@ -69,7 +69,7 @@ impl Service {
 
     /// The least point at which an increment would signal a fence of a file, as `Device::first_due`.
     #[inline(always)]
-    pub fn first_due(&self, timeline: u64, n: u64) -> Result<Option<u64>, Refusal>
+    pub fn first_due(&self, timeline: u64, n: u64) -> Result<Option<u64>, Errno>
         ensures { AnswersDue timeline n self.now.device result }
     {
         self.device.first_due(timeline, n)
@@ -77,7 +77,7 @@ impl Service {
 
     /// The fence of a file at an index, as `Device::fence_of`.
     #[inline(always)]
-    pub fn fence_of(&self, file: u64, index: usize) -> Result<Fence, Refusal>
+    pub fn fence_of(&self, file: u64, index: usize) -> Result<Fence, Errno>
         ensures { AnswersFence file index self.now.device result }
     {
         self.device.fence_of(file, index)
@@ -98,7 +98,7 @@ impl Service {
 ///
 /// Fails with the device's own cause to refuse the request, and without one with `NoMemory`.
 #[inline(always)]
-fn make_room(woken: &mut VecDeque<u64>, device: &Device, request: &Request) -> Result<(), Refusal>
+fn make_room(woken: &mut VecDeque<u64>, device: &Device, request: &Request) -> Result<(), Errno>
     ensures kept { open_among device.now woken.new.items ≡ open_among device.now woken.old.items }
     ensures given { (next : ℕ) → AreGiven next woken.old.items → AreGiven next woken.new.items }
     ensures ready { OnOk result (may_wake device.now request.now ≡ true →
@@ -118,7 +118,7 @@ fn room_for_inc(
     device: &Device,
     timeline: u64,
     n: u32,
-) -> Result<(), Refusal>
+) -> Result<(), Errno>
     ensures kept { open_among device.now woken.new.items ≡ open_among device.now woken.old.items }
     ensures given { (next : ℕ) → AreGiven next woken.old.items → AreGiven next woken.new.items }
     ensures ready { OnOk result ((now : ℕ) →
@@ -135,7 +135,7 @@ fn room_for_inc(
 
 // Closing a file or a buffer wakes nothing, so no room is made for it. It may leave the queue with too much room.
 #[inline(always)]
-fn room_for_close(woken: &mut VecDeque<u64>, device: &Device, number: u64) -> Result<(), Refusal>
+fn room_for_close(woken: &mut VecDeque<u64>, device: &Device, number: u64) -> Result<(), Errno>
     ensures kept { open_among device.now woken.new.items ≡ open_among device.now woken.old.items }
     ensures given { (next : ℕ) → AreGiven next woken.old.items → AreGiven next woken.new.items }
     ensures ready { OnOk result ((now : ℕ) →
@@ -208,11 +208,11 @@ fn drop_released(woken: &mut VecDeque<u64>, device: &Device)
 
 /// Queues the files that the answer wakes.
 #[inline(always)]
-fn keep(woken: &mut VecDeque<u64>, given: &Result<Answer, Refusal>)
+fn keep(woken: &mut VecDeque<u64>, given: &Result<Reply, Errno>)
     requires room { length (woken_of given.now) ≤ deque_capacity woken.old - deque_len woken.old }
     ensures items { woken.new.items ≡ woken.old.items ++ woken_of given.now }
 {
-    if let Ok(Answer::Woken(files)) = given {
+    if let Ok(Reply::Woken(files)) = given {
         push_all(woken, files.as_slice());
     }
 }

@@ -12,14 +12,14 @@ use Rattle.point_core.specs.Agreement.{all_reached}
 use Rattle.point_core.specs.Reach.{GREATEST}
 use Rattle.point_core.proofs.Reached.{all_reached-IsReached}
 use Rattle.device_core.specs.declared.fence.Fence.{Fence}
-use Rattle.device_core.specs.declared.fence.Text.{Text}
+use Rattle.device_core.specs.declared.text.Text.{Text}
 use Rattle.device_core.specs.declared.fence.Timeline.{Timeline}
-use Rattle.device_core.specs.declared.info.Driver.TheVariants.{SwSync}
-use Rattle.device_core.specs.declared.refusal.Refusal.{Refusal}
+use Rattle.device_core.specs.declared.info.FenceDriver.TheVariants.{SwSync}
+use Rattle.device_core.specs.declared.errno.Errno.{Errno}
 use Rattle.device_core.specs.declared.request.Request.{Request}
 use Rattle.device_core.specs.declared.request.Request.TheVariants as request
-use Rattle.device_core.specs.declared.request.Answer.{Answer}
-use Rattle.device_core.specs.declared.request.Answer.TheVariants as answer
+use Rattle.device_core.specs.declared.request.Reply.{Reply}
+use Rattle.device_core.specs.declared.request.Reply.TheVariants as answer
 use Rattle.device_core.specs.theorem.Fences.{are_signalled, point_in, status_before, status_of, time_of}
 use Rattle.device_core.specs.theorem.Names.{as_text, fences_name as fences_name_in, file_name, kernel_name, text_of}
 use Rattle.device_core.specs.theorem.Info.{fence_info, fence_infos, stub_info}
@@ -104,7 +104,7 @@ woken-told h r woken accepted none are = record {
   rising = are.rising;
 }
 
-on-woken : (such more : List ℕ → Type 0) (given : Answer) → ((woken : List ℕ) → such woken → more woken) → OnWoken such given → OnWoken more given
+on-woken : (such more : List ℕ → Type 0) (given : Reply) → ((woken : List ℕ) → such woken → more woken) → OnWoken such given → OnWoken more given
 on-woken such more (answer.Number n) then is = is
 on-woken such more (answer.Woken woken) then is = then woken.items is
 on-woken such more (answer.Status status) then is = is
@@ -142,12 +142,12 @@ lacks-told h (request.Export buffer flags) accepted none takes = tt
 lacks-told h (request.Import buffer file flags) accepted none takes = tt
 lacks-told h (request.Test buffer usage) accepted none takes = absurd (false≢true takes)
 
-refusal-told : (h : List Request) (r : Request) (e : Refusal) → AreAccepted empty_world h → IsCause (cause_of (world_of h).objects r) (takes_memory (world_of h).objects r) e → Refuses (first_cause (causes h r)) h r e
+refusal-told : (h : List Request) (r : Request) (e : Errno) → AreAccepted empty_world h → IsCause (cause_of (world_of h).objects r) (takes_memory (world_of h).objects r) e → Refuses (first_cause (causes h r)) h r e
 refusal-told h r e accepted is =
     subst (λ o. Refuses o h r e) (cause-told (world_of h) h r (HasKinds-history h accepted) (HasSums-history h accepted))
     (go (cause_of (world_of h).objects r) refl is)
   where
-    go : (o : Option Refusal) → cause_of (world_of h).objects r ≡ o → IsCause o (takes_memory (world_of h).objects r) e → Refuses o h r e
+    go : (o : Option Errno) → cause_of (world_of h).objects r ≡ o → IsCause o (takes_memory (world_of h).objects r) e → Refuses o h r e
     go None none told = (told.0, lacks-told h r accepted none told.1)
     go (Some cause) some told = told
 
@@ -202,7 +202,7 @@ infos-told h accepted n f m there is =
     ∙ ap (λ ls. cond (length ls == 0) (stub_info f.stub_at ∷ []) (map (row_of h n) ls)) is.points
     ∙ ap (λ t. cond (length m.points == 0) (stub_info t ∷ []) (map (row_of h n) m.points)) is.stub_at
 
-info-told : (h : List Request) → AreAccepted empty_world h → Have32Bits h → (n : ℕ) (o : Option FileState) (given : Answer) → (world_of h).objects.files n ≡ o → OnInfo n o given → OnInfoOf (IsInfoOf h n) given
+info-told : (h : List Request) → AreAccepted empty_world h → Have32Bits h → (n : ℕ) (o : Option FileState) (given : Reply) → (world_of h).objects.files n ≡ o → OnInfo n o given → OnInfoOf (IsInfoOf h n) given
 info-told h accepted small n None given there told = absurd told
 info-told h accepted small n (Some f) (answer.Number m) there told = told
 info-told h accepted small n (Some f) (answer.Woken woken) there told = told
@@ -218,11 +218,11 @@ info-told h accepted small n (Some f) (answer.Info info) there told =
 info-told h accepted small n (Some f) answer.Done there told = told
 
 -- the answers to accepted requests
-object-told : {X : Type 0} (o : Option X) (tell : X → Answer) (given other : Answer) → OnObject o tell given → ((x : X) → o ≡ Some x → tell x ≡ other) → given ≡ other
+object-told : {X : Type 0} (o : Option X) (tell : X → Reply) (given other : Reply) → OnObject o tell given → ((x : X) → o ≡ Some x → tell x ≡ other) → given ≡ other
 object-told None tell given other is same = absurd is
 object-told (Some x) tell given other is same = is ∙ same x refl
 
-number-told : (h : List Request) → AreAccepted empty_world h → (given : Answer) → given ≡ answer.Number (world_of h).objects.next → given ≡ answer.Number (length (kinds h) + 1)
+number-told : (h : List Request) → AreAccepted empty_world h → (given : Reply) → given ≡ answer.Number (world_of h).objects.next → given ≡ answer.Number (length (kinds h) + 1)
 number-told h accepted given is = is ∙ ap answer.Number (HasKinds-history h accepted).next
 
 tested-told : (h : List Request) → AreAccepted empty_world h → (n : ℕ) (b : BufferState) (usage : Usage) → (world_of h).objects.buffers n ≡ Some b → none_waits (world_of h).objects.timelines usage b.fences ≡ is_reached_at h (usage_number usage) n
@@ -233,7 +233,7 @@ tested-told h accepted n b usage there =
     let two = all_reached-IsReached (reach_of w.objects) (usage_number usage) (w.put n) in
     same-test (none_waits w.objects.timelines usage b.fences) (is_reached_at h (usage_number usage) n) (λ is. two.1 (one.0 is), λ is. one.1 (two.0 is))
 
-answer-told : (h : List Request) (r : Request) (given : Answer) → AreAccepted empty_world h → Have32Bits h → cause_of (world_of h).objects r ≡ None → Reports (world_of h).objects r given → Answers h r given
+answer-told : (h : List Request) (r : Request) (given : Reply) → AreAccepted empty_world h → Have32Bits h → cause_of (world_of h).objects r ≡ None → Reports (world_of h).objects r given → Answers h r given
 answer-told h (request.Open name) given accepted small none is = number-told h accepted given is
 answer-told h (request.Fence t point now) given accepted small none is = number-told h accepted given is
 answer-told h (request.Inc t n now) given accepted small none is =
@@ -257,18 +257,18 @@ answer-told h (request.Test buffer usage) given accepted small none is =
     object-told ((world_of h).objects.buffers buffer) (λ b. answer.Signalled (none_waits (world_of h).objects.timelines usage b.fences)) given (answer.Signalled (is_reached_at h (usage_number usage) buffer)) is
     (λ b there. ap answer.Signalled (tested-told h accepted buffer b usage there))
 
-pub IsAnswered-world : (h : List Request) (r : Request) (a : Result Answer Refusal) → AreAccepted empty_world h → Have32Bits h → IsAnswer (world_of h).objects r a → IsAnswered h r a
+pub IsAnswered-world : (h : List Request) (r : Request) (a : Result Reply Errno) → AreAccepted empty_world h → Have32Bits h → IsAnswer (world_of h).objects r a → IsAnswered h r a
 IsAnswered-world h r (Ok given) accepted small is = (
   sym (cause-told (world_of h) h r (HasKinds-history h accepted) (HasSums-history h accepted)) ∙ is.0,
   answer-told h r given accepted small is.0 is.1,
 )
 IsAnswered-world h r (Err e) accepted small is = refusal-told h r e accepted is
 
-pub IsAnswered-stands : (d : DeviceState) (h : List Request) (r : Request) (a : Result Answer Refusal) → HasHistory d h → Have32Bits h → IsAnswer (objects_of d) r a → IsAnswered h r a
+pub IsAnswered-stands : (d : DeviceState) (h : List Request) (r : Request) (a : Result Reply Errno) → HasHistory d h → Have32Bits h → IsAnswer (objects_of d) r a → IsAnswered h r a
 IsAnswered-stands d h r a had small is = IsAnswered-world h r a had.accepted small (subst (λ o. IsAnswer o r a) had.is is)
 
 -- along a run
-AreAnswered-from : (h rs : List Request) (given : List (Result Answer Refusal)) → AreAccepted empty_world h → Have32Bits h → Have32Bits rs → AreAnswers h rs given → AreAnswered h rs given
+AreAnswered-from : (h rs : List Request) (given : List (Result Reply Errno)) → AreAccepted empty_world h → Have32Bits h → Have32Bits rs → AreAnswers h rs given → AreAnswered h rs given
 AreAnswered-from h [] [] accepted small rest are = tt
 AreAnswered-from h [] (a ∷ given) accepted small rest are = are
 AreAnswered-from h (r ∷ rs) [] accepted small rest are = are
@@ -282,7 +282,7 @@ AreAnswered-from h (r ∷ rs) (Err e ∷ given) accepted small rest are = (
   AreAnswered-from h rs given accepted small (All-tail Has32Bits r rs rest) are.1,
 )
 
-pub AreAnswered-run : (rs : List Request) (given : List (Result Answer Refusal)) → Have32Bits rs → AreAnswers [] rs given → AreAnswered [] rs given
+pub AreAnswered-run : (rs : List Request) (given : List (Result Reply Errno)) → Have32Bits rs → AreAnswers [] rs given → AreAnswered [] rs given
 AreAnswered-run rs given small are = AreAnswered-from [] rs given tt (All-nil Has32Bits) small are
 
 -- the reach

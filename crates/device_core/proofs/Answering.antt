@@ -7,8 +7,8 @@ use Rattle.point_core.specs.Reach.{GREATEST}
 use Rattle.device_core.specs.declared.fence.Signal.{Signal}
 use Rattle.device_core.specs.declared.fence.Fence.{Fence}
 use Rattle.device_core.specs.declared.fence.Timeline.{Timeline}
-use Rattle.device_core.specs.declared.refusal.Refusal.{Refusal}
-use Rattle.device_core.specs.declared.refusal.Refusal.TheVariants.{Overflow}
+use Rattle.device_core.specs.declared.errno.Errno.{Errno}
+use Rattle.device_core.specs.declared.errno.Errno.TheVariants.{Overflow}
 use Rattle.device_core.specs.theorem.Fences.{is_pending, is_due, signal_at, are_signalled, signalled_by, all_signalled_by}
 use Rattle.device_core.specs.theorem.State.{FileState, DeviceState, at, timeline_at, file_at, objects_of, raised, file_signalled, AreSignalled}
 use Rattle.device_core.specs.Woken.{is_settled_by, file_wakes}
@@ -67,11 +67,11 @@ woken-risen d e t n now found None there signalled told rising = absurd (false�
 woken-risen d e t n now found (Some k) there signalled told rising = woken-signalled d e t (k.value + n) (signal_at now false) found signalled told rising
 
 -- a timeline that is closed
-pub closing-woken : (d e : DeviceState) (t now : ℕ) (r : Result (Vec ℕ Global) Refusal) → OnOk r (AreSignalled t GREATEST (signal_at now true) d.files e.files) → IfOk r (λ found. (f : ℕ) → Contains found.items f ↔ (file_wakes t GREATEST (file_at d f) ≡ true)) → IfOk r (λ found. IsStrictlyIncreasing found.items) → IfOk r (λ found. AreWoken (objects_of d) (objects_of e) found.items)
+pub closing-woken : (d e : DeviceState) (t now : ℕ) (r : Result (Vec ℕ Global) Errno) → OnOk r (AreSignalled t GREATEST (signal_at now true) d.files e.files) → IfOk r (λ found. (f : ℕ) → Contains found.items f ↔ (file_wakes t GREATEST (file_at d f) ≡ true)) → IfOk r (λ found. IsStrictlyIncreasing found.items) → IfOk r (λ found. AreWoken (objects_of d) (objects_of e) found.items)
 closing-woken d e t now (Ok found) signalled told rising = woken-signalled d e t GREATEST (signal_at now true) found.items signalled told rising
 closing-woken d e t now (Err x) signalled told rising = tt
 
-pub closing-closed : (d e : DeviceState) (t now : ℕ) (r : Result (Vec ℕ Global) Refusal) → OnOk r (IsSome (timeline_at d t)) → e.next ≡ d.next → e.buffers ≡ d.buffers → OnOk r ((q : ℕ) → timeline_at e q ≡ cond (nat_eq t q) None (timeline_at d q)) → OnOk r (AreSignalled t GREATEST (signal_at now true) d.files e.files) → OnOk r (objects_of e ≡ closed (objects_of d) t now)
+pub closing-closed : (d e : DeviceState) (t now : ℕ) (r : Result (Vec ℕ Global) Errno) → OnOk r (IsSome (timeline_at d t)) → e.next ≡ d.next → e.buffers ≡ d.buffers → OnOk r ((q : ℕ) → timeline_at e q ≡ cond (nat_eq t q) None (timeline_at d q)) → OnOk r (AreSignalled t GREATEST (signal_at now true) d.files e.files) → OnOk r (objects_of e ≡ closed (objects_of d) t now)
 closing-closed d e t now (Ok found) there next buffers timelines signalled = objects-with_signals d e t None GREATEST (signal_at now true) next buffers timelines signalled ∙ closed-timeline d t now there
 closing-closed d e t now (Err x) there next buffers timelines signalled = tt
 
@@ -85,6 +85,6 @@ objects-risen d e t n now (Some k) is there next buffers timelines signalled =
     objects-with_signals d e t (Some (raised k n)) (k.value + n) (signal_at now false) next buffers timelines signalled
     ∙ ap (λ p. with_signals (objects_of d) t (option_map (λ j. raised j n) p) (value_in p + n) (signal_at now false)) (sym is)
 
-pub no_cause-timeline : (o : Option Timeline) (why : Refusal) (f : ℕ → ℕ) → IsSome o → IfSome o (λ k. f k.value < 2 ^ 64) → cond (is_some o) (overflow (f (value_in o))) (Some why) ≡ None
+pub no_cause-timeline : (o : Option Timeline) (why : Errno) (f : ℕ → ℕ) → IsSome o → IfSome o (λ k. f k.value < 2 ^ 64) → cond (is_some o) (overflow (f (value_in o))) (Some why) ≡ None
 no_cause-timeline None why f there fits = absurd (false≢true there)
 no_cause-timeline (Some k) why f there fits = ap (λ b. cond b (Some Overflow) None) (lt-leb (2 ^ 64) (f k.value) fits)

@@ -9,12 +9,12 @@ use Rattle.std.proofs.lemmas.List.Sums.{sum_by-cons, sum_by-append}
 use Rattle.point_core.specs.Reach.{GREATEST}
 use Rattle.device_core.specs.declared.fence.Signal.{Signal}
 use Rattle.device_core.specs.declared.fence.Fence.{Fence}
-use Rattle.device_core.specs.declared.refusal.Refusal.{Refusal}
+use Rattle.device_core.specs.declared.errno.Errno.{Errno}
 use Rattle.device_core.specs.declared.request.Request.{Request}
 use Rattle.device_core.specs.declared.request.Request.TheVariants as request
-use Rattle.device_core.specs.declared.request.Answer.{Answer}
+use Rattle.device_core.specs.declared.request.Reply.{Reply}
 use Rattle.device_core.specs.declared.info.FileInfo.{FileInfo}
-use Rattle.device_core.specs.declared.request.Answer.TheVariants as answer
+use Rattle.device_core.specs.declared.request.Reply.TheVariants as answer
 use Rattle.device_core.specs.theorem.Fences.{is_pending, is_due, signal_at, are_signalled, status_of}
 use Rattle.device_core.specs.theorem.State.{FileState, DeviceState, Objects, file_at, file_signalled, merged_files, one_fence_file, export_of}
 use Rattle.device_core.specs.Woken.{is_settled_by}
@@ -164,7 +164,7 @@ new-woken w file sound = none-woken w.objects (with_file w.objects file) (λ n. 
   | inr apart ↦ inl (with_at-other w.objects.files w.objects.next file n apart)
 ])
 
-pub woken-told : (old new : Objects) (given : Answer) → OnWoken (AreWoken old new) given → AreWoken old new (woken_in given)
+pub woken-told : (old new : Objects) (given : Reply) → OnWoken (AreWoken old new) given → AreWoken old new (woken_in given)
 woken-told old new (answer.Number n) h = absurd h
 woken-told old new (answer.Woken woken) h = h
 woken-told old new (answer.Status status) h = absurd h
@@ -172,7 +172,7 @@ woken-told old new (answer.Signalled signalled) h = absurd h
 woken-told old new (answer.Info info) h = absurd h
 woken-told old new answer.Done h = absurd h
 
-number-told : (such : List ℕ → Type 0) (given : Answer) → OnWoken such given → number_in given ≡ []
+number-told : (such : List ℕ → Type 0) (given : Reply) → OnWoken such given → number_in given ≡ []
 number-told such (answer.Number n) h = absurd h
 number-told such (answer.Woken woken) h = refl
 number-told such (answer.Status status) h = absurd h
@@ -180,11 +180,11 @@ number-told such (answer.Signalled signalled) h = absurd h
 number-told such (answer.Info info) h = absurd h
 number-told such answer.Done h = absurd h
 
-pub object-told : {X : Type 0} (told : Answer → List ℕ) (o : Option X) (give : X → Answer) (given : Answer) → ((x : X) → told (give x) ≡ []) → OnObject o give given → told given ≡ []
+pub object-told : {X : Type 0} (told : Reply → List ℕ) (o : Option X) (give : X → Reply) (given : Reply) → ((x : X) → told (give x) ≡ []) → OnObject o give given → told given ≡ []
 object-told told None give given none h = absurd h
 object-told told (Some f) give given none h = ap told h ∙ none f
 
-pub info-told : (told : Answer → List ℕ) (n : ℕ) (o : Option FileState) (given : Answer) → ((info : FileInfo) → told (answer.Info info) ≡ []) → OnInfo n o given → told given ≡ []
+pub info-told : (told : Reply → List ℕ) (n : ℕ) (o : Option FileState) (given : Reply) → ((info : FileInfo) → told (answer.Info info) ≡ []) → OnInfo n o given → told given ≡ []
 info-told told n None given none h = absurd h
 info-told told n (Some f) (answer.Number m) none h = absurd h
 info-told told n (Some f) (answer.Woken woken) none h = absurd h
@@ -193,7 +193,7 @@ info-told told n (Some f) (answer.Signalled signalled) none h = absurd h
 info-told told n (Some f) (answer.Info info) none h = none info
 info-told told n (Some f) answer.Done none h = absurd h
 
-pub wakes-after : (w : World) (r : Request) (given : Answer) → IsSound w → Reports w.objects r given → AreWoken w.objects (after w.objects r) (woken_in given)
+pub wakes-after : (w : World) (r : Request) (given : Reply) → IsSound w → Reports w.objects r given → AreWoken w.objects (after w.objects r) (woken_in given)
 wakes-after w (request.Open name) given sound h = subst (AreWoken w.objects (after w.objects (request.Open name))) (sym (ap woken_in h)) (none-woken w.objects (after w.objects (request.Open name)) (λ n. inl refl))
 wakes-after w (request.Fence t point now) given sound h = subst (AreWoken w.objects (after w.objects (request.Fence t point now))) (sym (ap woken_in h)) (new-woken w _ sound)
 wakes-after w (request.Inc t n now) given sound h = woken-told w.objects (risen w.objects t n now) given h
@@ -212,7 +212,7 @@ wakes-after w (request.Test buffer usage) given sound h =
     subst (AreWoken w.objects w.objects) (sym (object-told woken_in (w.objects.buffers buffer) (λ b. answer.Signalled (none_waits_in w.objects.timelines usage b.fences)) given (λ b. refl) h)) (none-woken w.objects w.objects (λ n. inl refl))
 
 -- the number that is given
-abbrev IsNext : Objects → Request → Answer → Type 0
+abbrev IsNext : Objects → Request → Reply → Type 0
 IsNext d r given =
     ((number_in given ≡ d.next ∷ []) × ((after d r).next ≡ d.next + 1))
     ⊎ ((number_in given ≡ []) × ((after d r).next ≡ d.next))
@@ -221,7 +221,7 @@ next-closed : (d : Objects) (number now : ℕ) (b : Bool) → (cond b (closed_ti
 next-closed d number now true = refl
 next-closed d number now false = refl
 
-next-after : (d : Objects) (r : Request) (given : Answer) → Reports d r given → IsNext d r given
+next-after : (d : Objects) (r : Request) (given : Reply) → Reports d r given → IsNext d r given
 next-after d (request.Open name) given h = inl (ap number_in h, refl)
 next-after d (request.Fence t point now) given h = inl (ap number_in h, refl)
 next-after d (request.Inc t n now) given h = inr (number-told (AreWoken d (risen d t n now)) given h, refl)
@@ -243,11 +243,11 @@ times-push test n (x ∷ rest) w r = let again = times-push test n rest (world_a
 count-append : (n : ℕ) (xs ys : List ℕ) → count_by (nat_eq n) (xs ++ ys) ≡ count_by (nat_eq n) xs + count_by (nat_eq n) ys
 count-append n xs ys = sum_by-append (λ y. cond (nat_eq n y) 1 0) xs ys
 
-told-push : (told : Answer → List ℕ) (given : List (Result Answer Refusal)) (a : Result Answer Refusal) → flat_map (in_accepted told) (given ++ a ∷ []) ≡ flat_map (in_accepted told) given ++ in_accepted told a
+told-push : (told : Reply → List ℕ) (given : List (Result Reply Errno)) (a : Result Reply Errno) → flat_map (in_accepted told) (given ++ a ∷ []) ≡ flat_map (in_accepted told) given ++ in_accepted told a
 told-push told [] a = append-nil (in_accepted told a)
 told-push told (b ∷ given) a = ap (λ ns. in_accepted told b ++ ns) (told-push told given a) ∙ sym (append_assoc (in_accepted told b) (flat_map (in_accepted told) given) (in_accepted told a))
 
-woken-push : (n : ℕ) (given : List (Result Answer Refusal)) (a : Result Answer Refusal) → times_woken n (given ++ a ∷ []) ≡ times_woken n given + count_by (nat_eq n) (in_accepted woken_in a)
+woken-push : (n : ℕ) (given : List (Result Reply Errno)) (a : Result Reply Errno) → times_woken n (given ++ a ∷ []) ≡ times_woken n given + count_by (nat_eq n) (in_accepted woken_in a)
 woken-push n given a = ap (count_by (nat_eq n)) (told-push woken_in given a) ∙ count-append n (flat_map (in_accepted woken_in) given) (in_accepted woken_in a)
 
 -- a file that begins to wait is the one that is made
@@ -288,13 +288,13 @@ begins-made d (request.Export buffer flags) n is = (begins-new d (export_of d.ti
 begins-made d (request.Import buffer file flags) n is = none_begins (d.files n) (d.files n) (λ none. none) is
 begins-made d (request.Test buffer usage) n is = none_begins (d.files n) (d.files n) (λ none. none) is
 
-record HasTimes (d : Objects) (history : List Request) (given : List (Result Answer Refusal)) : Type 0 where
+record HasTimes (d : Objects) (history : List Request) (given : List (Result Reply Errno)) : Type 0 where
   pub each : (n : ℕ) → times_begun n history ≡ times_woken n given + times_dropped n history + one_if (is_waiting (d.files n))
   pub begun : (n : ℕ) → times_begun n history ≤ 1
   pub none : (n : ℕ) → d.next ≤ n → times_begun n history ≡ 0
   pub numbers : numbers_given given ≡ range_with_len 1 (d.next - 1)
 
-numbers-after : (d : Objects) (r : Request) (a : Answer) (given : List (Result Answer Refusal)) → 1 ≤ d.next → IsNext d r a → numbers_given given ≡ range_with_len 1 (d.next - 1) → numbers_given (given ++ Ok a ∷ []) ≡ range_with_len 1 ((after d r).next - 1)
+numbers-after : (d : Objects) (r : Request) (a : Reply) (given : List (Result Reply Errno)) → 1 ≤ d.next → IsNext d r a → numbers_given given ≡ range_with_len 1 (d.next - 1) → numbers_given (given ++ Ok a ∷ []) ≡ range_with_len 1 ((after d r).next - 1)
 numbers-after d r a given first (inl new) is =
     let more : (after d r).next - 1 ≡ (d.next - 1) + 1 = let next = new.1 in omega arith in
     told-push number_in given (Ok a) ∙ ap (λ ns. numbers_given given ++ ns) new.0 ∙ ap (λ ns. ns ++ d.next ∷ []) is
@@ -303,7 +303,7 @@ numbers-after d r a given first (inr same) is =
     told-push number_in given (Ok a) ∙ ap (λ ns. numbers_given given ++ ns) same.0 ∙ append-nil (numbers_given given) ∙ is
     ∙ ap (λ m. range_with_len 1 (m - 1)) (sym same.1)
 
-HasTimes-after : (history : List Request) (given : List (Result Answer Refusal)) (r : Request) (a : Answer) → IsSound (world_of history) → Reports (world_of history).objects r a
+HasTimes-after : (history : List Request) (given : List (Result Reply Errno)) (r : Request) (a : Reply) → IsSound (world_of history) → Reports (world_of history).objects r a
     → HasTimes (world_of history).objects history given → HasTimes (after (world_of history).objects r) (history ++ r ∷ []) (given ++ Ok a ∷ [])
 HasTimes-after history given r a sound told h =
     let w = world_of history in
@@ -351,7 +351,7 @@ HasTimes-after history given r a sound told h =
       numbers = numbers-after d r a given first (next-after d r a told) h.numbers;
     }
 
-HasTimes-refused : (d : Objects) (history : List Request) (given : List (Result Answer Refusal)) (e : Refusal) → HasTimes d history given → HasTimes d history (given ++ Err e ∷ [])
+HasTimes-refused : (d : Objects) (history : List Request) (given : List (Result Reply Errno)) (e : Errno) → HasTimes d history given → HasTimes d history (given ++ Err e ∷ [])
 HasTimes-refused d history given e h = record {
   each = λ n.
       let woken = woken-push n given (Err e) in
@@ -362,7 +362,7 @@ HasTimes-refused d history given e h = record {
   numbers = told-push number_in given (Err e) ∙ append-nil (numbers_given given) ∙ h.numbers;
 }
 
-HasTimes-from : (rs : List Request) (answers : List (Result Answer Refusal)) (history : List Request) (before : List (Result Answer Refusal)) → AreAccepted empty_world history → AreAnswers history rs answers
+HasTimes-from : (rs : List Request) (answers : List (Result Reply Errno)) (history : List Request) (before : List (Result Reply Errno)) → AreAccepted empty_world history → AreAnswers history rs answers
     → HasTimes (world_of history).objects history before → HasTimes (world_of (history_of history rs answers)).objects (history_of history rs answers) (before ++ answers)
 HasTimes-from [] [] history before accepted are h = subst (HasTimes (world_of history).objects history) (sym (append-nil before)) h
 HasTimes-from [] (a ∷ rest) history before accepted are h = absurd are
@@ -379,15 +379,15 @@ HasTimes-from (r ∷ rs) (Err e ∷ rest) history before accepted are h =
     subst (HasTimes (world_of (history_of history rs rest)).objects (history_of history rs rest)) (append_assoc before (Err e ∷ []) rest)
     (HasTimes-from rs rest history (before ++ Err e ∷ []) accepted are.1 (HasTimes-refused (world_of history).objects history before e h))
 
-HasTimes-run : (rs : List Request) (answers : List (Result Answer Refusal)) → AreAnswers [] rs answers → HasTimes (world_of (history_of [] rs answers)).objects (history_of [] rs answers) answers
+HasTimes-run : (rs : List Request) (answers : List (Result Reply Errno)) → AreAnswers [] rs answers → HasTimes (world_of (history_of [] rs answers)).objects (history_of [] rs answers) answers
 HasTimes-run rs answers are = HasTimes-from rs answers [] [] tt are (record { each = λ n. refl; begun = λ n. omega arith; none = λ n low. refl; numbers = refl })
 
-pub ReportsNumbers-run : (d : DeviceState) (rs : List Request) (answers : List (Result Answer Refusal)) → AreAnswers [] rs answers → HasHistory d (history_of [] rs answers) → ReportsNumbers d answers
+pub ReportsNumbers-run : (d : DeviceState) (rs : List Request) (answers : List (Result Reply Errno)) → AreAnswers [] rs answers → HasHistory d (history_of [] rs answers) → ReportsNumbers d answers
 ReportsNumbers-run d rs answers are had =
     let times = HasTimes-run rs answers are in
     record { rising = times.numbers ∙ ap (λ (o : Objects). range_with_len 1 (o.next - 1)) (sym had.is) }
 
-pub ReportsEachWaking-run : (d : DeviceState) (rs : List Request) (answers : List (Result Answer Refusal)) → AreAnswers [] rs answers → HasHistory d (history_of [] rs answers) → ReportsEachWaking d (history_of [] rs answers) answers
+pub ReportsEachWaking-run : (d : DeviceState) (rs : List Request) (answers : List (Result Reply Errno)) → AreAnswers [] rs answers → HasHistory d (history_of [] rs answers) → ReportsEachWaking d (history_of [] rs answers) answers
 ReportsEachWaking-run d rs answers are had =
     let times = HasTimes-run rs answers are in
     let history = history_of [] rs answers in

@@ -11,7 +11,7 @@ use Rattle.std.proofs.lemmas.Map.Steps.{set_value_same}
 use Rattle.device_core.specs.declared.fence.Fence.{Fence}
 use Rattle.device_core.specs.declared.fence.Timeline.{Timeline}
 use Rattle.device_core.specs.declared.timelines.OpenTimeline.{OpenTimeline}
-use Rattle.device_core.specs.declared.waiting.Waiting.{Waiting}
+use Rattle.device_core.specs.declared.waiting_files.Waiter.{Waiter}
 use Rattle.device_core.specs.theorem.Fences.{is_pending, waits_at}
 use Rattle.device_core.specs.Floors.{HasFloors, HasRisenQuietly, TimelinesState, lowered, lowered_by, settled, timelines_in, timelines_state}
 use Rattle.device_core.specs.theorem.State.{AreInOrder, at, holds, is_due_at, raised, waits_of}
@@ -20,11 +20,11 @@ use Rattle.device_core.specs.theorem.State.{AreInOrder, at, holds, is_due_at, ra
 pub at-timelines : (es : List (ℕ × OpenTimeline)) (number : ℕ) → at (timelines_in es) number ≡ option_map (λ (o : OpenTimeline). o.timeline) (at es number)
 at-timelines es number = lookup-map_values (λ (o : OpenTimeline). o.timeline) (nat_eq number) es
 
-pub at-view : (es : List (ℕ × OpenTimeline)) (index : List Waiting) (d : TimelinesState) → timelines_state es index ≡ d → (number : ℕ) → at d.entries number ≡ option_map (λ (o : OpenTimeline). o.timeline) (at es number)
+pub at-view : (es : List (ℕ × OpenTimeline)) (index : List Waiter) (d : TimelinesState) → timelines_state es index ≡ d → (number : ℕ) → at d.entries number ≡ option_map (λ (o : OpenTimeline). o.timeline) (at es number)
 at-view es index d view number = ap (λ (s : TimelinesState). at s.entries number) (sym view) ∙ at-timelines es number
 
 -- one timeline is changed or removed
-pub timelines-changed : (old new : List (ℕ × OpenTimeline)) (number : ℕ) (w : Option OpenTimeline) (index : List Waiting) (d : TimelinesState) → timelines_state old index ≡ d → ((q : ℕ) → at new q ≡ cond (nat_eq number q) w (at old q)) → (q : ℕ) → at (timelines_in new) q ≡ cond (nat_eq number q) (option_map (λ (o : OpenTimeline). o.timeline) w) (at d.entries q)
+pub timelines-changed : (old new : List (ℕ × OpenTimeline)) (number : ℕ) (w : Option OpenTimeline) (index : List Waiter) (d : TimelinesState) → timelines_state old index ≡ d → ((q : ℕ) → at new q ≡ cond (nat_eq number q) w (at old q)) → (q : ℕ) → at (timelines_in new) q ≡ cond (nat_eq number q) (option_map (λ (o : OpenTimeline). o.timeline) w) (at d.entries q)
 timelines-changed old new number w index d view is q =
     at-timelines new q ∙ ap (option_map (λ (o : OpenTimeline). o.timeline)) (is q) ∙ elim (cases_Bool (nat_eq number q)) [
       | inl same ↦ rw same refl
@@ -48,14 +48,14 @@ module _ (old new : List (ℕ × OpenTimeline)) (number : ℕ) where
   at-same : (q : ℕ) → number ≡ q → nat_eq number q ≡ true
   at-same q is = eq-eqb number q is
 
-  pub HasFloors-written : (index fewer : List Waiting) (w : Option OpenTimeline) → ((q : ℕ) → at new q ≡ cond (nat_eq number q) w (at old q)) → HasFloors old index → AreInOrder fewer → ((k : Waiting) → holds fewer k ≡ true → holds index k ≡ true)
-      → ((k : Waiting) → k.timeline ≡ number → holds fewer k ≡ true → IsAtMost w k.value) → HasFloors new fewer
+  pub HasFloors-written : (index fewer : List Waiter) (w : Option OpenTimeline) → ((q : ℕ) → at new q ≡ cond (nat_eq number q) w (at old q)) → HasFloors old index → AreInOrder fewer → ((k : Waiter) → holds fewer k ≡ true → holds index k ≡ true)
+      → ((k : Waiter) → k.timeline ≡ number → holds fewer k ≡ true → IsAtMost w k.value) → HasFloors new fewer
   HasFloors-written index fewer w is kept ordered less own = record {
     floors = λ k there. subst (λ o. IsAtMost o k.value) (sym (is k.timeline)) (low-by (nat_eq number k.timeline) w (at old k.timeline) k.value (λ same. own k (sym (eqb-true number k.timeline same)) there) (λ other. kept.floors k (less k there)));
     ordered = ordered;
   }
 
-pub HasFloors-none : (es : List (ℕ × OpenTimeline)) (index : List Waiting) → index ≡ [] → HasFloors es index
+pub HasFloors-none : (es : List (ℕ × OpenTimeline)) (index : List Waiter) → index ≡ [] → HasFloors es index
 unfolding IsStrictlySortedBy
 HasFloors-none es index is = record {
   floors = λ k there. absurd (false≢true (sym (ap (λ ks. holds ks k) is) ∙ there));
@@ -63,24 +63,24 @@ HasFloors-none es index is = record {
 }
 
 -- the same timelines with a smaller index
-pub HasFloors-fewer : (es : List (ℕ × OpenTimeline)) (index fewer : List Waiting) → HasFloors es index → AreInOrder fewer → ((k : Waiting) → holds fewer k ≡ true → holds index k ≡ true) → HasFloors es fewer
+pub HasFloors-fewer : (es : List (ℕ × OpenTimeline)) (index fewer : List Waiter) → HasFloors es index → AreInOrder fewer → ((k : Waiter) → holds fewer k ≡ true → holds index k ≡ true) → HasFloors es fewer
 HasFloors-fewer es index fewer kept ordered less = record { floors = λ k there. kept.floors k (less k there); ordered = ordered }
 
 -- a timeline that is opened has the floor 0
-pub HasFloors-opened : (old new : List (ℕ × OpenTimeline)) (number : ℕ) (o : OpenTimeline) (index : List Waiting) → ((q : ℕ) → at new q ≡ cond (nat_eq number q) (Some o) (at old q)) → o.floor ≡ 0 → HasFloors old index → HasFloors new index
+pub HasFloors-opened : (old new : List (ℕ × OpenTimeline)) (number : ℕ) (o : OpenTimeline) (index : List Waiter) → ((q : ℕ) → at new q ≡ cond (nat_eq number q) (Some o) (at old q)) → o.floor ≡ 0 → HasFloors old index → HasFloors new index
 HasFloors-opened old new number o index is low kept = HasFloors-written old new number index index (Some o) is kept kept.ordered (λ k there. there) (λ k its there. omega (arith, low))
 
 -- a timeline whose floor is not raised
-own_floor : (number value : ℕ) (was : Option OpenTimeline) (k : Waiting) (es : List (ℕ × OpenTimeline)) → was ≡ at es number → k.timeline ≡ number → IsAtMost (at es k.timeline) k.value → IsAtMost was k.value
+own_floor : (number value : ℕ) (was : Option OpenTimeline) (k : Waiter) (es : List (ℕ × OpenTimeline)) → was ≡ at es number → k.timeline ≡ number → IsAtMost (at es k.timeline) k.value → IsAtMost was k.value
 own_floor number value was k es there its low = subst (λ o. IsAtMost o k.value) (ap (at es) its ∙ sym there) low
 
-pub HasFloors-kept : (old new : List (ℕ × OpenTimeline)) (number : ℕ) (o w : OpenTimeline) (index : List Waiting) → ((q : ℕ) → at new q ≡ cond (nat_eq number q) (Some w) (at old q)) → Some o ≡ at old number → w.floor ≡ o.floor → HasFloors old index → HasFloors new index
+pub HasFloors-kept : (old new : List (ℕ × OpenTimeline)) (number : ℕ) (o w : OpenTimeline) (index : List Waiter) → ((q : ℕ) → at new q ≡ cond (nat_eq number q) (Some w) (at old q)) → Some o ≡ at old number → w.floor ≡ o.floor → HasFloors old index → HasFloors new index
 HasFloors-kept old new number o w index is there same kept =
     HasFloors-written old new number index index (Some w) is kept kept.ordered (λ k held. held)
     (λ k its held. let low : o.floor ≤ k.value = own_floor number 0 (Some o) k old there its (kept.floors k held) in omega (arith, same, low))
 
 -- a timeline that is closed
-pub HasFloors-closed : (old new : List (ℕ × OpenTimeline)) (number : ℕ) (index fewer : List Waiting) → ((q : ℕ) → at new q ≡ cond (nat_eq number q) None (at old q)) → HasFloors old index → AreInOrder fewer → ((k : Waiting) → holds fewer k ≡ true → holds index k ≡ true) → HasFloors new fewer
+pub HasFloors-closed : (old new : List (ℕ × OpenTimeline)) (number : ℕ) (index fewer : List Waiter) → ((q : ℕ) → at new q ≡ cond (nat_eq number q) None (at old q)) → HasFloors old index → AreInOrder fewer → ((k : Waiter) → holds fewer k ≡ true → holds index k ≡ true) → HasFloors new fewer
 HasFloors-closed old new number index fewer is kept ordered less = HasFloors-written old new number index fewer None is kept ordered less (λ k its there. tt)
 
 -- a timeline that has risen
@@ -94,8 +94,8 @@ settled-at number value floor old q = elim (cases_Bool (nat_eq number q)) [
   | inr other ↦ rw other refl
 ]
 
-pub HasFloors-settled : (old new : List (ℕ × OpenTimeline)) (number value floor : ℕ) (index fewer : List Waiting) → ((q : ℕ) → at new q ≡ cond (nat_eq number q) (option_map (settled value floor) (at old q)) (at old q)) → HasFloors old index → AreInOrder fewer → ((k : Waiting) → holds fewer k ≡ true → holds index k ≡ true)
-    → ((k : Waiting) → k.timeline ≡ number → holds fewer k ≡ true → floor ≤ k.value) → HasFloors new fewer
+pub HasFloors-settled : (old new : List (ℕ × OpenTimeline)) (number value floor : ℕ) (index fewer : List Waiter) → ((q : ℕ) → at new q ≡ cond (nat_eq number q) (option_map (settled value floor) (at old q)) (at old q)) → HasFloors old index → AreInOrder fewer → ((k : Waiter) → holds fewer k ≡ true → holds index k ≡ true)
+    → ((k : Waiter) → k.timeline ≡ number → holds fewer k ≡ true → floor ≤ k.value) → HasFloors new fewer
 HasFloors-settled old new number value floor index fewer is kept ordered less low =
     HasFloors-written old new number index fewer (option_map (settled value floor) (at old number)) (λ q. is q ∙ settled-at number value floor old q) kept ordered less
     (λ k its there. settled-low value floor (at old number) k.value (low k its there))
@@ -114,7 +114,7 @@ settled-timelines old new number value floor is = subst (λ o. IfSome o (λ t. (
         ]
 
 -- the least point of a timeline
-pub least-floor : (number value : ℕ) (first : Waiting) (index : List Waiting) → is_due_at number value first ≡ true → ((k : Waiting) → is_due_at number value k ≡ true → holds index k ≡ true → first.value ≤ k.value) → (k : Waiting) → k.timeline ≡ number → holds index k ≡ true → first.value ≤ k.value
+pub least-floor : (number value : ℕ) (first : Waiter) (index : List Waiter) → is_due_at number value first ≡ true → ((k : Waiter) → is_due_at number value k ≡ true → holds index k ≡ true → first.value ≤ k.value) → (k : Waiter) → k.timeline ≡ number → holds index k ≡ true → first.value ≤ k.value
 least-floor number value first index due least k its there = elim (cases_Bool (nat_le k.value value)) [
   | inl low ↦ least k (and_from (nat_eq k.timeline number) (nat_le k.value value) (eq-eqb k.timeline number its) low) there
   | inr high ↦
@@ -123,7 +123,7 @@ least-floor number value first index due least k its there = elim (cases_Bool (n
       omega (arith, past, most)
 ]
 
-pub none-floor : (number value : ℕ) (index : List Waiting) → ((k : Waiting) → is_due_at number value k ≡ true → holds index k ≡ false) → (k : Waiting) → k.timeline ≡ number → holds index k ≡ true → value ≤ k.value
+pub none-floor : (number value : ℕ) (index : List Waiter) → ((k : Waiter) → is_due_at number value k ≡ true → holds index k ≡ false) → (k : Waiter) → k.timeline ≡ number → holds index k ≡ true → value ≤ k.value
 none-floor number value index none k its there = elim (cases_Bool (nat_le k.value value)) [
   | inl low ↦ absurd (false≢true (sym (none k (and_from (nat_eq k.timeline number) (nat_le k.value value) (eq-eqb k.timeline number its) low)) ∙ there))
   | inr high ↦ let past = leb-false k.value value high in omega (arith, past)
@@ -152,7 +152,7 @@ or_cases : (a b : Bool) → (a || b) ≡ true → (a ≡ true) ⊎ (b ≡ true)
 or_cases true b h = inl refl
 or_cases false b h = inr h
 
-lowered-waits : (k : Waiting) (fs : List Fence) (o : OpenTimeline) → waits_at k fs ≡ true → (lowered k.timeline fs o).floor ≤ k.value
+lowered-waits : (k : Waiter) (fs : List Fence) (o : OpenTimeline) → waits_at k fs ≡ true → (lowered k.timeline fs o).floor ≤ k.value
 lowered-waits k [] o waits = absurd (false≢true waits)
 lowered-waits k (f ∷ fs) o waits = go (or_cases (is_pending f && (nat_eq f.timeline k.timeline && nat_eq f.value k.value)) (waits_at k fs) waits) (λ p later. lowered-waits k fs p later)
   where
@@ -170,25 +170,25 @@ lowered-waits k (f ∷ fs) o waits = go (or_cases (is_pending f && (nat_eq f.tim
         omega (arith, down, floor, value)
     go (inr later) rest = rest next later
 
-lowered-most : (k : Waiting) (fs : List Fence) (o : Option OpenTimeline) → IsAtMost o k.value → IsAtMost (option_map (lowered k.timeline fs) o) k.value
+lowered-most : (k : Waiter) (fs : List Fence) (o : Option OpenTimeline) → IsAtMost o k.value → IsAtMost (option_map (lowered k.timeline fs) o) k.value
 lowered-most k fs None low = tt
 lowered-most k fs (Some o) low = let down = lowered-low k.timeline fs o in omega (arith, down, low)
 
-lowered-own : (k : Waiting) (fs : List Fence) (o : Option OpenTimeline) → waits_at k fs ≡ true → IsAtMost (option_map (lowered k.timeline fs) o) k.value
+lowered-own : (k : Waiter) (fs : List Fence) (o : Option OpenTimeline) → waits_at k fs ≡ true → IsAtMost (option_map (lowered k.timeline fs) o) k.value
 lowered-own k fs None waits = tt
 lowered-own k fs (Some o) waits = lowered-waits k fs o waits
 
-pub HasFloors-lowered : (old new : List (ℕ × OpenTimeline)) (index more : List Waiting) (file : ℕ) (fs : List Fence) → ((q : ℕ) → at new q ≡ option_map (lowered q fs) (at old q)) → HasFloors old index → AreInOrder more → ((k : Waiting) → holds more k ≡ (waits_of file fs k || holds index k)) → HasFloors new more
+pub HasFloors-lowered : (old new : List (ℕ × OpenTimeline)) (index more : List Waiter) (file : ℕ) (fs : List Fence) → ((q : ℕ) → at new q ≡ option_map (lowered q fs) (at old q)) → HasFloors old index → AreInOrder more → ((k : Waiter) → holds more k ≡ (waits_of file fs k || holds index k)) → HasFloors new more
 HasFloors-lowered old new index more file fs is kept ordered put = record {
   floors = λ k there. subst (λ o. IsAtMost o k.value) (sym (is k.timeline)) (go k (or_cases (waits_of file fs k) (holds index k) (sym (put k) ∙ there)));
   ordered = ordered;
 }
   where
-    go : (k : Waiting) → (waits_of file fs k ≡ true) ⊎ (holds index k ≡ true) → IsAtMost (option_map (lowered k.timeline fs) (at old k.timeline)) k.value
+    go : (k : Waiter) → (waits_of file fs k ≡ true) ⊎ (holds index k ≡ true) → IsAtMost (option_map (lowered k.timeline fs) (at old k.timeline)) k.value
     go k (inl own) = lowered-own k fs (at old k.timeline) (and_parts (nat_eq k.file file) (waits_at k fs) own).1
     go k (inr other) = lowered-most k fs (at old k.timeline) (kept.floors k other)
 
-pub HasFloors-lowered_only : (old new : List (ℕ × OpenTimeline)) (index : List Waiting) (fs : List Fence) → ((q : ℕ) → at new q ≡ option_map (lowered q fs) (at old q)) → HasFloors old index → HasFloors new index
+pub HasFloors-lowered_only : (old new : List (ℕ × OpenTimeline)) (index : List Waiter) (fs : List Fence) → ((q : ℕ) → at new q ≡ option_map (lowered q fs) (at old q)) → HasFloors old index → HasFloors new index
 HasFloors-lowered_only old new index fs is kept = record {
   floors = λ k there. subst (λ o. IsAtMost o k.value) (sym (is k.timeline)) (lowered-most k fs (at old k.timeline) (kept.floors k there));
   ordered = kept.ordered;
@@ -213,7 +213,7 @@ timelines-written test (e ∷ es) o w there same = go (test e.0) refl (λ later.
         ap (λ b. timelines_in (cond b ((e.0, w) ∷ es) (e ∷ set_value test es w))) is ∙ ap (λ xs. (e.0, e.1.timeline) ∷ xs) (rest later)
 
 -- a rise that stays below the floor
-none_below : (number value : ℕ) (o : OpenTimeline) (es : List (ℕ × OpenTimeline)) (index : List Waiting) → Some o ≡ at es number → value < o.floor → HasFloors es index → (k : Waiting) → is_due_at number value k ≡ true → holds index k ≡ false
+none_below : (number value : ℕ) (o : OpenTimeline) (es : List (ℕ × OpenTimeline)) (index : List Waiter) → Some o ≡ at es number → value < o.floor → HasFloors es index → (k : Waiter) → is_due_at number value k ≡ true → holds index k ≡ false
 none_below number value o es index there below kept k due = elim (cases_Bool (holds index k)) [
   | inl held ↦
       let parts = and_parts (nat_eq k.timeline number) (nat_le k.value value) due in
@@ -224,7 +224,7 @@ none_below number value o es index there below kept k due = elim (cases_Bool (ho
   | inr away ↦ away
 ]
 
-pub risen-quietly : (b : Bool) (number n : ℕ) (old new : List (ℕ × OpenTimeline)) (index : List Waiting) (o w : OpenTimeline) (d : TimelinesState) → timelines_state old index ≡ d → Some o ≡ at old number → ((q : ℕ) → at new q ≡ cond (nat_eq number q) (Some w) (at old q)) → HasFloors old index
+pub risen-quietly : (b : Bool) (number n : ℕ) (old new : List (ℕ × OpenTimeline)) (index : List Waiter) (o w : OpenTimeline) (d : TimelinesState) → timelines_state old index ≡ d → Some o ≡ at old number → ((q : ℕ) → at new q ≡ cond (nat_eq number q) (Some w) (at old q)) → HasFloors old index
     → OnTrue b (o.timeline.value + n < o.floor) → OnTrue b (o.timeline.value + n < 2 ^ 64) → OnTrue b (w ≡ record o { timeline = raised o.timeline n }) → OnTrue b (HasRisenQuietly d (timelines_state new index) number n)
 risen-quietly false number n old new index o w d view there written kept below fits risen = tt
 risen-quietly true number n old new index o w d view there written kept below fits risen = subst (λ s. HasRisenQuietly s (timelines_state new index) number n) view (record {
@@ -244,7 +244,7 @@ risen-quietly true number n old new index o w d view there written kept below fi
       | inr other ↦ rw other (sym (at-timelines old q))
     ]
 
-pub not-risen : (b : Bool) (number : ℕ) (old new : List (ℕ × OpenTimeline)) (index : List Waiting) (o w : OpenTimeline) (d : TimelinesState) → timelines_state old index ≡ d → Some o ≡ at old number → new ≡ set_value (nat_eq number) old w → OnFalse b (w ≡ o) → OnFalse b (timelines_state new index ≡ d)
+pub not-risen : (b : Bool) (number : ℕ) (old new : List (ℕ × OpenTimeline)) (index : List Waiter) (o w : OpenTimeline) (d : TimelinesState) → timelines_state old index ≡ d → Some o ≡ at old number → new ≡ set_value (nat_eq number) old w → OnFalse b (w ≡ o) → OnFalse b (timelines_state new index ≡ d)
 not-risen true number old new index o w d view there written same = tt
 not-risen false number old new index o w d view there written same = ap (λ es. timelines_state es index) (written ∙ ap (set_value (nat_eq number) old) same ∙ set_value_same (nat_eq number) old o (sym there)) ∙ view
 

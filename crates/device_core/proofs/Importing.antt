@@ -4,17 +4,17 @@ use Rattle.std.specs.Map.{lookup, set_value}
 use Rattle.std.proofs.lemmas.Map.Steps.{set_value_same}
 use Rattle.point_core.specs.declared.entry.Usage.{Usage}
 use Rattle.device_core.specs.declared.fence.Fence.{Fence}
-use Rattle.device_core.specs.declared.refusal.Refusal.{Refusal}
+use Rattle.device_core.specs.declared.errno.Errno.{Errno}
 use Rattle.device_core.specs.theorem.State.{FileState, DeviceState, timeline_at, file_at, buffer_at, import_of}
 use Rattle.device_core.specs.theorem.Buffers.{BufferState, import_into}
 
 -- a refused import leaves the table as it was
-pub refused-unchanged : {X Y : Type 0} (r : Result Y Refusal) (number : ℕ) (old new : List (ℕ × X)) (was now : X) → Some was ≡ lookup (nat_eq number) old → new ≡ set_value (nat_eq number) old now → OnErr r (now ≡ was) → OnErr r (new ≡ old)
+pub refused-unchanged : {X Y : Type 0} (r : Result Y Errno) (number : ℕ) (old new : List (ℕ × X)) (was now : X) → Some was ≡ lookup (nat_eq number) old → new ≡ set_value (nat_eq number) old now → OnErr r (now ≡ was) → OnErr r (new ≡ old)
 refused-unchanged (Ok done) number old new was now there left same = tt
 refused-unchanged (Err e) number old new was now there left same = left ∙ ap (set_value (nat_eq number) old) same ∙ set_value_same (nat_eq number) old was (sym there)
 
 -- by valid flags, of an open file
-pub imported-in : {Y : Type 0} (r : Result Y Refusal) (d e : DeviceState) (u : Result Usage Refusal) (usage : Usage) (file : ℕ) (f : FileState) (fs : List Fence) (number : ℕ) (new : ℕ → Option BufferState)
+pub imported-in : {Y : Type 0} (r : Result Y Errno) (d e : DeviceState) (u : Result Usage Errno) (usage : Usage) (file : ℕ) (f : FileState) (fs : List Fence) (number : ℕ) (new : ℕ → Option BufferState)
     → d ≡ e → Ok usage ≡ u → Some f ≡ file_at d file → fs ≡ f.fences
     → OnOk r ((q : ℕ) → new q ≡ cond (nat_eq number q) (option_map (import_into (timeline_at d) usage fs) (buffer_at d number)) (buffer_at d q))
     → OnOk r ((q : ℕ) → new q ≡ cond (nat_eq number q) (import_of (timeline_at e) u (file_at e file) (buffer_at e number)) (buffer_at e q))

@@ -10,9 +10,9 @@ use Rattle.point_core.specs.Reach.{GREATEST}
 use Rattle.device_core.specs.declared.buffer_fence.BufferFence.{BufferFence}
 use Rattle.device_core.specs.declared.fence.Fence.{Fence}
 use Rattle.device_core.specs.declared.fence.Signal.{Signal}
-use Rattle.device_core.specs.declared.fence.Text.{Text}
+use Rattle.device_core.specs.declared.text.Text.{Text}
 use Rattle.device_core.specs.declared.fence.Timeline.{Timeline}
-use Rattle.device_core.specs.declared.refusal.Refusal.{Refusal}
+use Rattle.device_core.specs.declared.errno.Errno.{Errno}
 use Rattle.device_core.specs.declared.request.Request.{Request}
 use Rattle.device_core.specs.declared.request.Request.TheVariants as request
 use Rattle.device_core.specs.theorem.Fences.{all_signalled_by, is_pending, merged, signal_at, signalled_by}
@@ -187,7 +187,7 @@ merged-in name put more (Some g) (Some k) f left right is =
     (All-weaker (λ (x : Fence). Contains put (entry_in x)) P (λ x its. Contains-append_left put more (entry_in x) its) g.fences (left g refl))
     (All-weaker (λ (x : Fence). Contains more (entry_in x)) P (λ x its. Contains-append_right put more (entry_in x) its) k.fences (right k refl)))
 
-export-in : (timelines : ℕ → Option Timeline) (u : Result Usage Refusal) (put : List Entry) (o : Option BufferState) (f : FileState) → ((b : BufferState) → o ≡ Some b → AreAmong put b.fences) → export_of timelines u o ≡ Some f → AreIn (put_by_export u put) f.fences
+export-in : (timelines : ℕ → Option Timeline) (u : Result Usage Errno) (put : List Entry) (o : Option BufferState) (f : FileState) → ((b : BufferState) → o ≡ Some b → AreAmong put b.fences) → export_of timelines u o ≡ Some f → AreIn (put_by_export u put) f.fences
 export-in timelines (Err e) put o f all is = None≢Some f is
 export-in timelines (Ok usage) put None f all is = None≢Some f is
 export-in timelines (Ok usage) put (Some b) f all is =
@@ -195,7 +195,7 @@ export-in timelines (Ok usage) put (Some b) f all is =
     subst (AreIn (at_usage usage put)) fs (exported-in timelines usage put b.fences (all b refl))
 
 -- a buffer before and after an import
-import-in : (timelines : ℕ → Option Timeline) (u : Result Usage Refusal) (put more : List Entry) (o : Option FileState) (p : Option BufferState) (b : BufferState) → ((g : FileState) → o ≡ Some g → AreIn more g.fences) → ((c : BufferState) → p ≡ Some c → AreAmong put c.fences) → import_of timelines u o p ≡ Some b → AreAmong (put_by_import u put more) b.fences
+import-in : (timelines : ℕ → Option Timeline) (u : Result Usage Errno) (put more : List Entry) (o : Option FileState) (p : Option BufferState) (b : BufferState) → ((g : FileState) → o ≡ Some g → AreIn more g.fences) → ((c : BufferState) → p ≡ Some c → AreAmong put c.fences) → import_of timelines u o p ≡ Some b → AreAmong (put_by_import u put more) b.fences
 import-in timelines (Err e) put more o p b file was is = was b is
 import-in timelines (Ok usage) put more None p b file was is =
     All-weaker (λ (h : BufferFence). Contains put (entry_of h)) (λ (h : BufferFence). Contains (put ++ put_with usage more) (entry_of h)) (λ h its. Contains-append_left put (put_with usage more) (entry_of h) its) b.fences (was b is)
@@ -203,12 +203,12 @@ import-in timelines (Ok usage) put more (Some g) None b file was is = None≢Som
 import-in timelines (Ok usage) put more (Some g) (Some c) b file was is =
     subst (AreAmong (put ++ put_with usage more)) (ap (λ (x : BufferState). x.fences) (same_Some is)) (import-among timelines usage g.fences c put more (was c refl) (file g refl))
 
-extended : (u : Result Usage Refusal) (put more : List Entry) (fs : List Fence) → AreIn put fs → AreIn (put_by_import u put more) fs
+extended : (u : Result Usage Errno) (put more : List Entry) (fs : List Fence) → AreIn put fs → AreIn (put_by_import u put more) fs
 extended (Err e) put more fs all = all
 extended (Ok usage) put more fs all =
     All-weaker (λ (f : Fence). Contains put (entry_in f)) (λ (f : Fence). Contains (put ++ put_with usage more) (entry_in f)) (λ f its. Contains-append_left put (put_with usage more) (entry_in f) its) fs all
 
-HasListed-imported : (w : World) (buffer file : ℕ) (u : Result Usage Refusal) → IsSound w → HasListed w
+HasListed-imported : (w : World) (buffer file : ℕ) (u : Result Usage Errno) → IsSound w → HasListed w
     → HasListed (record { objects = record w.objects { buffers = with_at w.objects.buffers buffer (import_of w.objects.timelines u (w.objects.files file) (w.objects.buffers buffer)) }; put = with_at w.put buffer (put_by_import u (w.put buffer) (w.put file)) })
 HasListed-imported w buffer file u sound h =
     let new = import_of w.objects.timelines u (w.objects.files file) (w.objects.buffers buffer) in

@@ -12,9 +12,9 @@ use Rattle.point_core.specs.Reach.{GREATEST}
 use Rattle.device_core.specs.declared.buffer_fence.BufferFence.{BufferFence}
 use Rattle.device_core.specs.declared.fence.Fence.{Fence}
 use Rattle.device_core.specs.declared.fence.Signal.{Signal}
-use Rattle.device_core.specs.declared.fence.Text.{Text}
+use Rattle.device_core.specs.declared.text.Text.{Text}
 use Rattle.device_core.specs.declared.fence.Timeline.{Timeline}
-use Rattle.device_core.specs.declared.refusal.Refusal.{Refusal}
+use Rattle.device_core.specs.declared.errno.Errno.{Errno}
 use Rattle.device_core.specs.declared.request.Request.{Request}
 use Rattle.device_core.specs.declared.request.Request.TheVariants as request
 use Rattle.device_core.specs.theorem.Wrapping.{unwrapped}
@@ -179,7 +179,7 @@ imported-stub timelines usage fs b = elim (cases_Bool (are_signalled fs)) [
   ])
 ]
 
-import-stub : (timelines : ℕ → Option Timeline) (u : Result Usage Refusal) (f : Option FileState) (o : Option BufferState) (b : BufferState) → import_of timelines u f o ≡ Some b → (c : BufferState) × (o ≡ Some c) × (b.stub_at ≡ c.stub_at)
+import-stub : (timelines : ℕ → Option Timeline) (u : Result Usage Errno) (f : Option FileState) (o : Option BufferState) (b : BufferState) → import_of timelines u f o ≡ Some b → (c : BufferState) × (o ≡ Some c) × (b.stub_at ≡ c.stub_at)
 import-stub timelines (Err e) f o b is = (b, is, refl)
 import-stub timelines (Ok usage) None o b is = (b, is, refl)
 import-stub timelines (Ok usage) (Some f) None b is = None≢Some b is
@@ -311,7 +311,7 @@ exported-low : (timelines : ℕ → Option Timeline) (usage : Usage) (hs : List 
 exported-low timelines usage hs =
     All-weaker (λ (f : Fence). IsWaitingAt f (timelines f.timeline)) IsLow (λ f is. waiting-low f (timelines f.timeline) is) (exported timelines usage hs) (exported-waits timelines usage hs)
 
-made-exported : (h : List Request) (accepted : AreAccepted empty_world h) (made : ℕ → Making) (buffer : ℕ) (u : Result Usage Refusal) (o : Option BufferState) (f : FileState) → (world_of h).objects.buffers buffer ≡ o → HasMakings (world_of h).objects made → export_of (world_of h).objects.timelines u o ≡ Some f
+made-exported : (h : List Request) (accepted : AreAccepted empty_world h) (made : ℕ → Making) (buffer : ℕ) (u : Result Usage Errno) (o : Option BufferState) (f : FileState) → (world_of h).objects.buffers buffer ≡ o → HasMakings (world_of h).objects made → export_of (world_of h).objects.timelines u o ≡ Some f
     → IsMadeAs f (listing_file empty_text (pending_points (reach_of (world_of h).objects) (put_by_export u ((world_of h).put buffer)) 0) (made buffer).stub_at) × All IsLow f.fences
 made-exported h accepted made buffer (Err e) o f there are is = None≢Some f is
 made-exported h accepted made buffer (Ok usage) None f there are is = None≢Some f is

@@ -13,8 +13,8 @@ use Rattle.std.proofs.lemmas.Map.Entries.{length-keys_of}
 use Rattle.std.proofs.lemmas.Map.Keys.{IsDistinct-from_sorted}
 use Rattle.std.proofs.lemmas.Map.Made.{is_member-filter, is_some-lookup, length-le_from_is_member}
 use Rattle.device_core.specs.declared.fence.Fence.{Fence}
-use Rattle.device_core.specs.declared.waiting.Waiting.{Waiting}
-use Rattle.device_core.specs.theorem.Fences.{is_pending, pending_of, waiting, waits_at}
+use Rattle.device_core.specs.declared.waiting_files.Waiter.{Waiter}
+use Rattle.device_core.specs.theorem.Fences.{is_pending, pending_of, waits_at, waiter}
 use Rattle.device_core.specs.theorem.Memory.{alive, pending_in}
 use Rattle.device_core.specs.theorem.State.{AreInOrder, FileState, IsIndexed, at, file_waits, holds, is_same, order}
 use Rattle.device_core.proofs.Held.{found-holds}
@@ -65,37 +65,37 @@ kept-alive es next distinct given =
     subst (λ n. n ≤ length (filter live numbers)) (length-keys_of es) few
 
 -- the points for which a file waits
-abbrev points_of : ℕ → Option FileState → List Waiting
+abbrev points_of : ℕ → Option FileState → List Waiter
 points_of n None = []
-points_of n (Some f) = map (waiting n) (pending_of f.fences)
+points_of n (Some f) = map (waiter n) (pending_of f.fences)
 
 length-points : (n : ℕ) (o : Option FileState) → length (points_of n o) ≡ pending_in o
 length-points n None = refl
-length-points n (Some f) = length-map (pending_of f.fences) (waiting n)
+length-points n (Some f) = length-map (pending_of f.fences) (waiter n)
 
 turned : (a b : ℕ) → nat_eq a b ≡ true → nat_eq b a ≡ true
 turned a b same = eq-eqb b a (sym (eqb-true a b same))
 
-held-here : (k : Waiting) (fs : List Fence) → waits_at k fs ≡ true → holds (map (waiting k.file) (pending_of fs)) k ≡ true
+held-here : (k : Waiter) (fs : List Fence) → waits_at k fs ≡ true → holds (map (waiter k.file) (pending_of fs)) k ≡ true
 held-here k [] waits = absurd (false≢true waits)
 held-here k (f ∷ fs) waits = go (or_cases (is_pending f && (nat_eq f.timeline k.timeline && nat_eq f.value k.value)) (waits_at k fs) waits) (cases_Bool (is_pending f)) (λ later. held-here k fs later)
   where
-    go : ((is_pending f && (nat_eq f.timeline k.timeline && nat_eq f.value k.value)) ≡ true) ⊎ (waits_at k fs ≡ true) → (is_pending f ≡ true) ⊎ (is_pending f ≡ false) → (waits_at k fs ≡ true → holds (map (waiting k.file) (pending_of fs)) k ≡ true) → holds (map (waiting k.file) (pending_of (f ∷ fs))) k ≡ true
+    go : ((is_pending f && (nat_eq f.timeline k.timeline && nat_eq f.value k.value)) ≡ true) ⊎ (waits_at k fs ≡ true) → (is_pending f ≡ true) ⊎ (is_pending f ≡ false) → (waits_at k fs ≡ true → holds (map (waiter k.file) (pending_of fs)) k ≡ true) → holds (map (waiter k.file) (pending_of (f ∷ fs))) k ≡ true
     go (inl here) (inl pending) rest =
         let both = and_parts (nat_eq f.timeline k.timeline) (nat_eq f.value k.value) (and_parts (is_pending f) (nat_eq f.timeline k.timeline && nat_eq f.value k.value) here).1 in
         rw pending
-        (or_left (is_same k (waiting k.file f)) (holds (map (waiting k.file) (pending_of fs)) k)
+        (or_left (is_same k (waiter k.file f)) (holds (map (waiter k.file) (pending_of fs)) k)
         (and_from (nat_eq k.timeline f.timeline) (nat_eq k.value f.value && nat_eq k.file k.file) (turned f.timeline k.timeline both.0)
         (and_from (nat_eq k.value f.value) (nat_eq k.file k.file) (turned f.value k.value both.1) (eq-eqb k.file k.file refl))))
     go (inl here) (inr signalled) rest = absurd (false≢true (sym signalled ∙ (and_parts (is_pending f) (nat_eq f.timeline k.timeline && nat_eq f.value k.value) here).0))
-    go (inr later) (inl pending) rest = rw pending (or_right (is_same k (waiting k.file f)) (holds (map (waiting k.file) (pending_of fs)) k) (rest later))
+    go (inr later) (inl pending) rest = rw pending (or_right (is_same k (waiter k.file f)) (holds (map (waiter k.file) (pending_of fs)) k) (rest later))
     go (inr later) (inr signalled) rest = rw signalled (rest later)
 
-held-points : (k : Waiting) (o : Option FileState) → file_waits k o ≡ true → holds (points_of k.file o) k ≡ true
+held-points : (k : Waiter) (o : Option FileState) → file_waits k o ≡ true → holds (points_of k.file o) k ≡ true
 held-points k None waits = absurd (false≢true waits)
 held-points k (Some f) waits = held-here k f.fences waits
 
-held-from : (files : ℕ → Option FileState) (a n : ℕ) (k : Waiting) → a ≤ k.file → k.file < a + n → holds (points_of k.file (files k.file)) k ≡ true → holds (flat_map (λ m. points_of m (files m)) (range_with_len a n)) k ≡ true
+held-from : (files : ℕ → Option FileState) (a n : ℕ) (k : Waiter) → a ≤ k.file → k.file < a + n → holds (points_of k.file (files k.file)) k ≡ true → holds (flat_map (λ m. points_of m (files m)) (range_with_len a n)) k ≡ true
 held-from files a zero k low high there = absurd (omega arith)
 held-from files a (suc n) k low high there =
     let rest = flat_map (λ m. points_of m (files m)) (range_with_len (a + 1) n) in
@@ -106,7 +106,7 @@ held-from files a (suc n) k low high there =
     ]
 
 -- the index has no more points than fences are pending
-pub waiting-alive : (index : List Waiting) (files : List (ℕ × FileState)) (next : ℕ) → AreInOrder index → IsIndexed index files → ((n : ℕ) → next ≤ n → at files n ≡ None) → length index ≤ sum_by (λ n. pending_in (at files n)) (range_with_len 0 next)
+pub waiting-alive : (index : List Waiter) (files : List (ℕ × FileState)) (next : ℕ) → AreInOrder index → IsIndexed index files → ((n : ℕ) → next ≤ n → at files n ≡ None) → length index ≤ sum_by (λ n. pending_in (at files n)) (range_with_len 0 next)
 waiting-alive index files next ordered indexed given =
     let numbers = range_with_len 0 next in
     let all = flat_map (λ n. points_of n (at files n)) numbers in
@@ -116,6 +116,6 @@ waiting-alive index files next ordered indexed given =
     found-holds k all ∙ held-from (at files) 0 next k (omega arith) (in_range next k.file (was_given (at files) next k.file given (is_there k (at files k.file) waits))) (held-points k (at files k.file) waits)) in
     subst (λ n. length index ≤ n) (length-flat_map (λ n. points_of n (at files n)) numbers ∙ (λ i. sum_by (λ n. length-points n (at files n) i) numbers)) few
   where
-    is_there : (k : Waiting) (o : Option FileState) → file_waits k o ≡ true → is_some o ≡ true
+    is_there : (k : Waiter) (o : Option FileState) → file_waits k o ≡ true → is_some o ≡ true
     is_there k None waits = absurd (false≢true waits)
     is_there k (Some f) waits = refl

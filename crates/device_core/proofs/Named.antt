@@ -8,9 +8,9 @@ use Rattle.point_core.specs.Reach.{GREATEST}
 use Rattle.device_core.specs.declared.buffer_fence.BufferFence.{BufferFence}
 use Rattle.device_core.specs.declared.fence.Fence.{Fence}
 use Rattle.device_core.specs.declared.fence.Signal.{Signal}
-use Rattle.device_core.specs.declared.fence.Text.{Text}
+use Rattle.device_core.specs.declared.text.Text.{Text}
 use Rattle.device_core.specs.declared.fence.Timeline.{Timeline}
-use Rattle.device_core.specs.declared.refusal.Refusal.{Refusal}
+use Rattle.device_core.specs.declared.errno.Errno.{Errno}
 use Rattle.device_core.specs.declared.request.Request.{Request}
 use Rattle.device_core.specs.declared.request.Request.TheVariants as request
 use Rattle.device_core.specs.theorem.Fences.{is_due, signal_at, signalled_by}
@@ -116,7 +116,7 @@ all_waiting-named before timelines usage [] all = All-nil (IsNamed before)
 all_waiting-named before timelines usage (h ∷ hs) all =
     waiting-named before h (filter_map (waiting_fence timelines usage) hs) (is_within usage (entry_of h)) (timelines h.timeline) (λ t is. all h.timeline t is) (all_waiting-named before timelines usage hs all)
 
-exported-names : (before : List Request) (timelines : ℕ → Option Timeline) (u : Result Usage Refusal) (o : Option BufferState) (f : FileState) → AreNamed before timelines → export_of timelines u o ≡ Some f → All (IsNamed before) f.fences
+exported-names : (before : List Request) (timelines : ℕ → Option Timeline) (u : Result Usage Errno) (o : Option BufferState) (f : FileState) → AreNamed before timelines → export_of timelines u o ≡ Some f → All (IsNamed before) f.fences
 exported-names before timelines (Err e) o f all is = None≢Some f is
 exported-names before timelines (Ok usage) None f all is = None≢Some f is
 exported-names before timelines (Ok usage) (Some b) f all is =

@@ -7,9 +7,9 @@ use Rattle.device_core.specs.declared.fence.Signal.{Signal}
 use Rattle.device_core.specs.declared.fence.Timeline.{Timeline}
 use Rattle.device_core.specs.declared.request.Request.TheVariants as request
 use Rattle.device_core.specs.theorem.Fences.{signal_at}
-use Rattle.device_core.specs.declared.refusal.Refusal.{Refusal}
+use Rattle.device_core.specs.declared.errno.Errno.{Errno}
 use Rattle.device_core.specs.theorem.Buffers.{BufferState}
-use Rattle.device_core.specs.declared.refusal.Refusal.TheVariants.{NoEntry, NoMemory, Overflow}
+use Rattle.device_core.specs.declared.errno.Errno.TheVariants.{NoEntry, NoMemory, Overflow}
 use Rattle.device_core.specs.theorem.State.{FileState, Objects, file_signalled, missing_timeline, raised}
 use Rattle.device_core.specs.Woken.{WakesSome, file_wakes}
 use Rattle.device_core.specs.theorem.Request.{IsCause, cause_of, closed_timeline, dropped, has_signalled, is_waiting, overflow, takes_memory, value_in, wakes_some, with_at, with_signals}
@@ -112,7 +112,7 @@ close-refused d t now there given some =
     let cause : cause_of d (request.Close t now) ≡ None = ap (λ b. cond (b || (is_some (d.files t) || is_some (d.buffers t))) None (Some NoEntry)) there in
     subst (λ o. IsCause o (takes_memory d (request.Close t now)) NoMemory) (sym cause) (refl, close-takes d t now there given some)
 
-pub close-missing : (d : Objects) (n now : ℕ) (e : Refusal) → is_some (d.timelines n) ≡ false → d.files n ≡ None → d.buffers n ≡ None → e ≡ NoEntry → IsCause (cause_of d (request.Close n now)) (takes_memory d (request.Close n now)) e
+pub close-missing : (d : Objects) (n now : ℕ) (e : Errno) → is_some (d.timelines n) ≡ false → d.files n ≡ None → d.buffers n ≡ None → e ≡ NoEntry → IsCause (cause_of d (request.Close n now)) (takes_memory d (request.Close n now)) e
 close-missing d n now e timelines files buffers is =
     let cause : cause_of d (request.Close n now) ≡ Some NoEntry =
     ap (λ b. cond (b || (is_some (d.files n) || is_some (d.buffers n))) None (Some NoEntry)) timelines

@@ -7,10 +7,10 @@ use Rattle.std.proofs.lemmas.List.Elements.{filter_map-append}
 use Rattle.std.proofs.lemmas.List.Folds.{list_any-append}
 use Rattle.point_core.specs.declared.entry.Usage.{Usage}
 use Rattle.point_core.specs.Reach.{GREATEST}
-use Rattle.device_core.specs.declared.fence.Text.{Text}
+use Rattle.device_core.specs.declared.text.Text.{Text}
 use Rattle.device_core.specs.declared.fence.Timeline.{Timeline}
-use Rattle.device_core.specs.declared.refusal.Refusal.{Refusal}
-use Rattle.device_core.specs.declared.refusal.Refusal.TheVariants.{NoEntry}
+use Rattle.device_core.specs.declared.errno.Errno.{Errno}
+use Rattle.device_core.specs.declared.errno.Errno.TheVariants.{NoEntry}
 use Rattle.device_core.specs.declared.request.Request.{Request}
 use Rattle.device_core.specs.declared.request.Request.TheVariants as request
 use Rattle.device_core.specs.theorem.Wrapping.{unwrapped}
@@ -163,11 +163,11 @@ file-made w h r file sound is not made k =
 merged-some : (name : Text) (o p : Option FileState) (x y : FileState) → o ≡ Some x → p ≡ Some y → is_some (merged_files name o p) ≡ true
 merged-some name o p x y left right = rw (left, right) refl
 
-export-some : (timelines : ℕ → Option Timeline) (u : Result Usage Refusal) (o : Option BufferState) (b : BufferState) → cause_after u None ≡ None → o ≡ Some b → is_some (export_of timelines u o) ≡ true
+export-some : (timelines : ℕ → Option Timeline) (u : Result Usage Errno) (o : Option BufferState) (b : BufferState) → cause_after u None ≡ None → o ≡ Some b → is_some (export_of timelines u o) ≡ true
 export-some timelines (Err e) o b none there = None≢Some e (sym none)
 export-some timelines (Ok usage) o b none there = rw there refl
 
-import-some : (timelines : ℕ → Option Timeline) (u : Result Usage Refusal) (f : Option FileState) (o : Option BufferState) → is_some (import_of timelines u f o) ≡ is_some o
+import-some : (timelines : ℕ → Option Timeline) (u : Result Usage Errno) (f : Option FileState) (o : Option BufferState) → is_some (import_of timelines u f o) ≡ is_some o
 import-some timelines (Err e) f o = refl
 import-some timelines (Ok usage) None o = refl
 import-some timelines (Ok usage) (Some f) o = some-map _ o

@@ -4,8 +4,8 @@ use Rattle.std.proofs.lemmas.Bool.{false≢true}
 use Rattle.point_core.specs.declared.entry.Usage.TheVariants.{Write, Read}
 use Rattle.point_core.specs.Reach.{GREATEST}
 use Rattle.device_core.specs.declared.fence.Timeline.{Timeline}
-use Rattle.device_core.specs.declared.refusal.Refusal.{Refusal}
-use Rattle.device_core.specs.declared.refusal.Refusal.TheVariants.{NoEntry, WrongKind, NoNumber, Invalid}
+use Rattle.device_core.specs.declared.errno.Errno.{Errno}
+use Rattle.device_core.specs.declared.errno.Errno.TheVariants.{NoEntry, WrongKind, NoNumber, Invalid}
 use Rattle.device_core.specs.declared.request.Request.{Request}
 use Rattle.device_core.specs.declared.request.Request.TheVariants as request
 use Rattle.device_core.specs.theorem.Wrapping.{unwrapped}
@@ -18,39 +18,39 @@ use Rattle.device_core.proofs.Reporting.{HasSums}
 use Rattle.device_core.proofs.OpenKinds.{HasKinds, IsOfAt}
 
 -- an object of the kind that is wanted, or why there is none
-unless-timeline : (k : Option Kind) (c : Option Refusal) (rest : List (Bool × Refusal)) → (is_timeline k ≡ true → c ≡ first_cause rest) → cond (is_timeline k) c (Some (cond (is_file k || is_buffer k) WrongKind NoEntry)) ≡ first_cause (unless_open is_timeline k ++ rest)
+unless-timeline : (k : Option Kind) (c : Option Errno) (rest : List (Bool × Errno)) → (is_timeline k ≡ true → c ≡ first_cause rest) → cond (is_timeline k) c (Some (cond (is_file k || is_buffer k) WrongKind NoEntry)) ≡ first_cause (unless_open is_timeline k ++ rest)
 unless-timeline None c rest same = refl
 unless-timeline (Some TimelineKind) c rest same = same refl
 unless-timeline (Some FileKind) c rest same = refl
 unless-timeline (Some BufferKind) c rest same = refl
 
-unless-file : (k : Option Kind) (c : Option Refusal) (rest : List (Bool × Refusal)) → (is_file k ≡ true → c ≡ first_cause rest) → cond (is_file k) c (Some (cond (is_timeline k || is_buffer k) WrongKind NoEntry)) ≡ first_cause (unless_open is_file k ++ rest)
+unless-file : (k : Option Kind) (c : Option Errno) (rest : List (Bool × Errno)) → (is_file k ≡ true → c ≡ first_cause rest) → cond (is_file k) c (Some (cond (is_timeline k || is_buffer k) WrongKind NoEntry)) ≡ first_cause (unless_open is_file k ++ rest)
 unless-file None c rest same = refl
 unless-file (Some TimelineKind) c rest same = refl
 unless-file (Some FileKind) c rest same = same refl
 unless-file (Some BufferKind) c rest same = refl
 
-unless-buffer : (k : Option Kind) (c : Option Refusal) (rest : List (Bool × Refusal)) → (is_buffer k ≡ true → c ≡ first_cause rest) → cond (is_buffer k) c (Some (cond (is_timeline k || is_file k) WrongKind NoEntry)) ≡ first_cause (unless_open is_buffer k ++ rest)
+unless-buffer : (k : Option Kind) (c : Option Errno) (rest : List (Bool × Errno)) → (is_buffer k ≡ true → c ≡ first_cause rest) → cond (is_buffer k) c (Some (cond (is_timeline k || is_file k) WrongKind NoEntry)) ≡ first_cause (unless_open is_buffer k ++ rest)
 unless-buffer None c rest same = refl
 unless-buffer (Some TimelineKind) c rest same = refl
 unless-buffer (Some FileKind) c rest same = refl
 unless-buffer (Some BufferKind) c rest same = same refl
 
-at-timeline : (d : Objects) (k : Option Kind) (n : ℕ) (c : Option Refusal) (rest : List (Bool × Refusal)) → IsOfAt k d n → (is_timeline k ≡ true → c ≡ first_cause rest) → cause_at_timeline d n c ≡ first_cause (unless_open is_timeline k ++ rest)
+at-timeline : (d : Objects) (k : Option Kind) (n : ℕ) (c : Option Errno) (rest : List (Bool × Errno)) → IsOfAt k d n → (is_timeline k ≡ true → c ≡ first_cause rest) → cause_at_timeline d n c ≡ first_cause (unless_open is_timeline k ++ rest)
 at-timeline d k n c rest is same =
     ap (λ b. cond b c (Some (cond (is_some (d.files n) || is_some (d.buffers n)) WrongKind NoEntry))) is.timeline
     ∙ ap (λ b. cond (is_timeline k) c (Some (cond (b || is_some (d.buffers n)) WrongKind NoEntry))) is.file
     ∙ ap (λ b. cond (is_timeline k) c (Some (cond (is_file k || b) WrongKind NoEntry))) is.buffer
     ∙ unless-timeline k c rest same
 
-at-file : (d : Objects) (k : Option Kind) (n : ℕ) (c : Option Refusal) (rest : List (Bool × Refusal)) → IsOfAt k d n → (is_file k ≡ true → c ≡ first_cause rest) → cause_at_file d n c ≡ first_cause (unless_open is_file k ++ rest)
+at-file : (d : Objects) (k : Option Kind) (n : ℕ) (c : Option Errno) (rest : List (Bool × Errno)) → IsOfAt k d n → (is_file k ≡ true → c ≡ first_cause rest) → cause_at_file d n c ≡ first_cause (unless_open is_file k ++ rest)
 at-file d k n c rest is same =
     ap (λ b. cond b c (Some (cond (is_some (d.timelines n) || is_some (d.buffers n)) WrongKind NoEntry))) is.file
     ∙ ap (λ b. cond (is_file k) c (Some (cond (b || is_some (d.buffers n)) WrongKind NoEntry))) is.timeline
     ∙ ap (λ b. cond (is_file k) c (Some (cond (is_timeline k || b) WrongKind NoEntry))) is.buffer
     ∙ unless-file k c rest same
 
-at-buffer : (d : Objects) (k : Option Kind) (n : ℕ) (c : Option Refusal) (rest : List (Bool × Refusal)) → IsOfAt k d n → (is_buffer k ≡ true → c ≡ first_cause rest) → cause_at_buffer d n c ≡ first_cause (unless_open is_buffer k ++ rest)
+at-buffer : (d : Objects) (k : Option Kind) (n : ℕ) (c : Option Errno) (rest : List (Bool × Errno)) → IsOfAt k d n → (is_buffer k ≡ true → c ≡ first_cause rest) → cause_at_buffer d n c ≡ first_cause (unless_open is_buffer k ++ rest)
 at-buffer d k n c rest is same =
     ap (λ b. cond b c (Some (cond (is_some (d.timelines n) || is_some (d.files n)) WrongKind NoEntry))) is.buffer
     ∙ ap (λ b. cond (is_buffer k) c (Some (cond (b || is_some (d.files n)) WrongKind NoEntry))) is.timeline
@@ -65,7 +65,7 @@ only-buffer : (k : Option Kind) → first_cause (unless_open is_buffer k ++ []) 
 only-buffer k = refl
 
 -- a number for another object
-if-numbered : (d : Objects) (h : List Request) (c : Option Refusal) (rest : List (Bool × Refusal)) → HasKinds d h → c ≡ first_cause rest → cause_if_numbered d c ≡ first_cause (unless_numbered h ++ rest)
+if-numbered : (d : Objects) (h : List Request) (c : Option Errno) (rest : List (Bool × Errno)) → HasKinds d h → c ≡ first_cause rest → cause_if_numbered d c ≡ first_cause (unless_numbered h ++ rest)
 if-numbered d h c rest k same =
     ap (λ n. cond (nat_le GREATEST n) (Some NoNumber) c) k.next
     ∙ ap (cond (nat_le GREATEST (length (kinds h) + 1)) (Some NoNumber)) same
@@ -79,20 +79,20 @@ value-told w h t sums there = go (w.objects.timelines t) refl there
     go (Some k) is there = sums.values t k is
 
 -- flags
-export-flags : (a b c : Bool) (rest : List (Bool × Refusal)) (o : Option Refusal) → o ≡ first_cause rest → cause_after (cond a (Ok Write) (cond (b || c) (Ok Read) (Err Invalid))) o ≡ first_cause (cause (not (a || b || c)) Invalid ∷ rest)
+export-flags : (a b c : Bool) (rest : List (Bool × Errno)) (o : Option Errno) → o ≡ first_cause rest → cause_after (cond a (Ok Write) (cond (b || c) (Ok Read) (Err Invalid))) o ≡ first_cause (cause (not (a || b || c)) Invalid ∷ rest)
 export-flags true b c rest o same = same
 export-flags false true c rest o same = same
 export-flags false false true rest o same = same
 export-flags false false false rest o same = refl
 
-import-flags : (a b c : Bool) (rest : List (Bool × Refusal)) (o : Option Refusal) → o ≡ first_cause rest → cause_after (cond a (Ok Read) (cond (b || c) (Ok Write) (Err Invalid))) o ≡ first_cause (cause (not (a || b || c)) Invalid ∷ rest)
+import-flags : (a b c : Bool) (rest : List (Bool × Errno)) (o : Option Errno) → o ≡ first_cause rest → cause_after (cond a (Ok Read) (cond (b || c) (Ok Write) (Err Invalid))) o ≡ first_cause (cause (not (a || b || c)) Invalid ∷ rest)
 import-flags true b c rest o same = same
 import-flags false true c rest o same = same
 import-flags false false true rest o same = same
 import-flags false false false rest o same = refl
 
 -- another object that has to be a file
-or-no_file : (d : Objects) (k : Option Kind) (n : ℕ) (e : Refusal) → IsOfAt k d n → cond (is_some (d.files n)) None (Some e) ≡ first_cause (cause (not (is_file k)) e ∷ [])
+or-no_file : (d : Objects) (k : Option Kind) (n : ℕ) (e : Errno) → IsOfAt k d n → cond (is_some (d.files n)) None (Some e) ≡ first_cause (cause (not (is_file k)) e ∷ [])
 or-no_file d k n e is = ap (λ b. cond b None (Some e)) is.file ∙ turned (is_file k)
   where
     turned : (b : Bool) → cond b None (Some e) ≡ cond (not b) (Some e) None

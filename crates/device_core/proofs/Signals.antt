@@ -9,9 +9,9 @@ use Rattle.point_core.specs.declared.status.Status.TheVariants.{Active, Signalle
 use Rattle.point_core.specs.Reach.{GREATEST, is_reached, value_at}
 use Rattle.device_core.specs.declared.fence.Fence.{Fence}
 use Rattle.device_core.specs.declared.fence.Signal.{Signal}
-use Rattle.device_core.specs.declared.fence.Text.{Text}
+use Rattle.device_core.specs.declared.text.Text.{Text}
 use Rattle.device_core.specs.declared.fence.Timeline.{Timeline}
-use Rattle.device_core.specs.declared.refusal.Refusal.{Refusal}
+use Rattle.device_core.specs.declared.errno.Errno.{Errno}
 use Rattle.device_core.specs.declared.request.Request.{Request}
 use Rattle.device_core.specs.declared.request.Request.TheVariants as request
 use Rattle.device_core.specs.theorem.Wrapping.{unwrapped}
@@ -325,7 +325,7 @@ merge-pending name None p f is = None≢Some f is
 merge-pending name (Some a) None f is = None≢Some f is
 merge-pending name (Some a) (Some b) f is = subst (All (λ (g : Fence). is_pending g ≡ true)) (ap (λ (x : FileState). x.fences) (same_Some is)) (merged-pending a.fences b.fences)
 
-export-waits : (timelines : ℕ → Option Timeline) (u : Result Usage Refusal) (o : Option BufferState) (f : FileState) → export_of timelines u o ≡ Some f → All (λ (g : Fence). is_pending g ≡ true) f.fences
+export-waits : (timelines : ℕ → Option Timeline) (u : Result Usage Errno) (o : Option BufferState) (f : FileState) → export_of timelines u o ≡ Some f → All (λ (g : Fence). is_pending g ≡ true) f.fences
 export-waits timelines (Err e) o f is = None≢Some f is
 export-waits timelines (Ok usage) None f is = None≢Some f is
 export-waits timelines (Ok usage) (Some b) f is = subst (All (λ (g : Fence). is_pending g ≡ true)) (ap (λ (x : FileState). x.fences) (same_Some is)) (exported-pending timelines usage b.fences)

@@ -8,11 +8,11 @@ use Rattle.point_core.specs.declared.entry.Usage.{Usage}
 use Rattle.point_core.specs.Agreement.{AgreesAbove}
 use Rattle.point_core.specs.Reach.{GREATEST, IsAtLeast}
 use Rattle.point_core.proofs.Agreement.{AgreesAbove-refl, AgreesAbove-trans, AgreesAbove-append, AgreesAbove-later}
-use Rattle.device_core.specs.declared.fence.Text.{Text}
+use Rattle.device_core.specs.declared.text.Text.{Text}
 use Rattle.device_core.specs.declared.fence.Signal.{Signal}
 use Rattle.device_core.specs.declared.fence.Timeline.{Timeline}
-use Rattle.device_core.specs.declared.refusal.Refusal.{Refusal}
-use Rattle.device_core.specs.declared.refusal.Refusal.TheVariants.{Invalid, NoNumber, Overflow}
+use Rattle.device_core.specs.declared.errno.Errno.{Errno}
+use Rattle.device_core.specs.declared.errno.Errno.TheVariants.{Invalid, NoNumber, Overflow}
 use Rattle.device_core.specs.declared.request.Request.{Request}
 use Rattle.device_core.specs.declared.request.Request.TheVariants as request
 use Rattle.device_core.specs.theorem.Wrapping.{unwrapped}
@@ -339,11 +339,11 @@ IsSound-dropped w file h =
     }
 
 -- no cause
-pub no_cause : {X : Type 0} (o : Option X) (c : Option Refusal) (e : Refusal) → cond (is_some o) c (Some e) ≡ None → (x : X) × (o ≡ Some x) × (c ≡ None)
+pub no_cause : {X : Type 0} (o : Option X) (c : Option Errno) (e : Errno) → cond (is_some o) c (Some e) ≡ None → (x : X) × (o ≡ Some x) × (c ≡ None)
 no_cause None c e is = None≢Some e (sym is)
 no_cause (Some x) c e is = (x, refl, is)
 
-pub numbered : (d : Objects) (cause : Option Refusal) → cause_if_numbered d cause ≡ None → cause ≡ None
+pub numbered : (d : Objects) (cause : Option Errno) → cause_if_numbered d cause ≡ None → cause ≡ None
 numbered d cause is = elim (cases_lt d.next GREATEST) [
   | inl low ↦ sym (ap (λ b. cond b (Some NoNumber) cause) (lt-leb GREATEST d.next low)) ∙ is
   | inr past ↦ None≢Some NoNumber (sym is ∙ ap (λ b. cond b (Some NoNumber) cause) (le-leb GREATEST d.next past))
@@ -396,7 +396,7 @@ IsSound-merged w name a b (Some g) (Some k) h left right f is =
     )
 
 -- the export of an open buffer
-pub IsSound-exported : (w : World) (buffer : ℕ) (u : Result Usage Refusal) (o : Option BufferState) → IsSound w → w.objects.buffers buffer ≡ o
+pub IsSound-exported : (w : World) (buffer : ℕ) (u : Result Usage Errno) (o : Option BufferState) → IsSound w → w.objects.buffers buffer ≡ o
     → (f : FileState) → export_of w.objects.timelines u o ≡ Some f → AreFences w.objects f.fences × AgreesAbove (reach_of w.objects) (entries_in f.fences) (put_by_export u (w.put buffer))
 IsSound-exported w buffer (Err e) o h its f is = None≢Some f is
 IsSound-exported w buffer (Ok usage) None h its f is = None≢Some f is
@@ -409,7 +409,7 @@ IsSound-exported w buffer (Ok usage) (Some b) h its f is =
     )
 
 -- a buffer before and after an import
-IsSound-imported : (w : World) (buffer file : ℕ) (b : BufferState) (u : Result Usage Refusal) (o : Option FileState) → IsSound w
+IsSound-imported : (w : World) (buffer file : ℕ) (b : BufferState) (u : Result Usage Errno) (o : Option FileState) → IsSound w
     → w.objects.buffers buffer ≡ Some b → w.objects.files file ≡ o → cause_after u (cond (is_some o) None (Some Invalid)) ≡ None
     → IsSound (world (with_buffer w.objects buffer (import_of w.objects.timelines u o (w.objects.buffers buffer))) (with_at w.put buffer (put_by_import u (w.put buffer) (w.put file))))
 IsSound-imported w buffer file b (Err e) o h there its none = None≢Some e (sym none)

@@ -18,7 +18,7 @@ use Rattle.device_core.specs.declared.buffer.TheConstants.{GROWTH, UNTRIMMED}
 use Rattle.device_core.specs.declared.buffer_fence.BufferFence.{BufferFence}
 use Rattle.device_core.specs.declared.fence.Fence.{Fence}
 use Rattle.device_core.specs.declared.fence.Timeline.{Timeline}
-use Rattle.device_core.specs.declared.refusal.Refusal.{Refusal}
+use Rattle.device_core.specs.declared.errno.Errno.{Errno}
 use Rattle.device_core.specs.declared.request.Request.{Request}
 use Rattle.device_core.specs.declared.request.Request.TheVariants as request
 use Rattle.device_core.specs.theorem.Buffers.{BufferState, empty_buffer, entry_of, has_grown, import_into, import_usage, imported, is_waiting, put_as, waits_in, with_buffer_fence}
@@ -243,7 +243,7 @@ new-table w v most number time same h n b is = elim (cases_eq number n) [
   | inr apart ↦ IsTable-more (most n) (max (most n) (pending_put v n)) b (omega arith) (h n b (sym (with_at-other w.objects.buffers number (Some (empty_buffer time)) n apart) ∙ sym (ap (λ bs. bs n) same) ∙ is))
 ]
 
-imported-table : (d : Objects) (u : Result Usage Refusal) (o : Option FileState) (p : Option BufferState) (b : BufferState) (put : List Entry) (most : ℕ) → HasGivenTimelines d → ((f : FileState) → o ≡ Some f → All (IsFence d) f.fences) → ((c : BufferState) → p ≡ Some c → IsTable most c) → AreAmong put b.fences → import_of d.timelines u o p ≡ Some b
+imported-table : (d : Objects) (u : Result Usage Errno) (o : Option FileState) (p : Option BufferState) (b : BufferState) (put : List Entry) (most : ℕ) → HasGivenTimelines d → ((f : FileState) → o ≡ Some f → All (IsFence d) f.fences) → ((c : BufferState) → p ≡ Some c → IsTable most c) → AreAmong put b.fences → import_of d.timelines u o p ≡ Some b
     → IsTable (max most (length (unique_keys is_same_entry (filter (λ e. not (is_reached (reach_of d) e.point)) put)))) b
 imported-table d (Err e) o p b put most given file was among is = IsTable-more most _ b (omega arith) (was b is)
 imported-table d (Ok usage) None p b put most given file was among is = IsTable-more most _ b (omega arith) (was b is)

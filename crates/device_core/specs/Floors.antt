@@ -3,24 +3,24 @@ use Rattle.std.specs.Prelude.{◌≡◌, ℕ, ◌+◌, ◌<◌, ◌≤◌, ◌^�
 use Rattle.device_core.specs.declared.fence.Fence.{Fence}
 use Rattle.device_core.specs.declared.fence.Timeline.{Timeline}
 use Rattle.device_core.specs.declared.timelines.OpenTimeline.{OpenTimeline}
-use Rattle.device_core.specs.declared.waiting.Waiting.{Waiting}
+use Rattle.device_core.specs.declared.waiting_files.Waiter.{Waiter}
 use Rattle.device_core.specs.theorem.Fences.{is_pending}
 use Rattle.device_core.specs.theorem.State.{AreInOrder, at, holds, is_due_at, raised}
 
 -- the open timelines by number, and the points at which files wait, in order
 pub record TimelinesState : Type 0 where
   pub entries : List (ℕ × Timeline)
-  pub index : List Waiting
+  pub index : List Waiter
 
 abbrev pub timelines_in : List (ℕ × OpenTimeline) → List (ℕ × Timeline)
 timelines_in es = map (λ e. (e.0, e.1.timeline)) es
 
-abbrev pub timelines_state : List (ℕ × OpenTimeline) → List Waiting → TimelinesState
+abbrev pub timelines_state : List (ℕ × OpenTimeline) → List Waiter → TimelinesState
 timelines_state es index = record { entries = timelines_in es; index = index }
 
 -- no file waits for an open timeline below its floor, and the index is in order
-pub record HasFloors (es : List (ℕ × OpenTimeline)) (index : List Waiting) : Type 0 where
-  pub floors : (k : Waiting) → holds index k ≡ true → IfSome (at es k.timeline) (λ o. o.floor ≤ k.value)
+pub record HasFloors (es : List (ℕ × OpenTimeline)) (index : List Waiter) : Type 0 where
+  pub floors : (k : Waiter) → holds index k ≡ true → IfSome (at es k.timeline) (λ o. o.floor ≤ k.value)
   pub ordered : AreInOrder index
 
 -- an open timeline at this value, with this floor
@@ -43,5 +43,5 @@ pub record HasRisenQuietly (old new : TimelinesState) (number n : ℕ) : Type 0 
   pub rises : IfSome (at old.entries number) (λ t. (q : ℕ) →
       at new.entries q ≡ (if nat_eq number q then Some (raised t n) else at old.entries q))
   pub same : new.index ≡ old.index
-  pub none : IfSome (at old.entries number) (λ t. (k : Waiting) →
+  pub none : IfSome (at old.entries number) (λ t. (k : Waiter) →
       is_due_at number (t.value + n) k ≡ true → holds old.index k ≡ false)

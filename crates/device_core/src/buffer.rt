@@ -3,17 +3,17 @@
 ghost use Rattle.std.specs.Prelude.{◌≡◌, ◌+◌, ◌≤◌, ◌<◌, ◌∷◌, [], filter, fold, if◌then◌else◌, length, option_to_list, vec_len, IfErr, IfOk, OnErr, OnOk};
 ghost use Rattle.std.specs.List.{filter_map};
 ghost use Rattle.std.specs.Vec.{vec_capacity};
-ghost use Rattle.device_core.specs.declared.refusal.Refusal.TheVariants.{NoMemory};
+ghost use Rattle.device_core.specs.declared.errno.Errno.TheVariants.{NoMemory};
 ghost use Rattle.device_core.specs.theorem.Fences.{with_fence};
 ghost use Rattle.device_core.specs.theorem.Buffers.{empty_buffer, exported, has_grown, import_into, imported, is_waiting, none_waits as none_waits_of, waiting_fence, with_buffer_fence};
 ghost use Rattle.device_core.specs.theorem.State.{at};
 
 use crate::buffer_fence::BufferFence;
+use crate::errno::Errno;
 use crate::fence::Fence;
 use crate::file::all_signalled;
 use crate::merging::put as put_later;
-use crate::refusal::Refusal;
-use crate::timelines::Timelines;
+use crate::timelines::OpenTimelines;
 use point_core::Usage;
 use std::alloc::Global;
 use std::marker::Model;
@@ -65,10 +65,10 @@ impl Buffer {
     /// Fails only with `NoMemory`, and then leaves the buffer as it was.
     pub(crate) fn import(
         &mut self,
-        timelines: &Timelines,
+        timelines: &OpenTimelines,
         fences: &[Fence],
         usage: Usage,
-    ) -> Result<(), Refusal>
+    ) -> Result<(), Errno>
         ensures imported { OnOk result (self.new ≡ import_into (at timelines.now.entries) usage fences.now self.old) }
         ensures memory { IfErr result (λ e. e ≡ NoMemory) }
         ensures unchanged { OnErr result (self.new ≡ self.old) }
@@ -77,7 +77,7 @@ impl Buffer {
             return Ok(());
         }
         let Ok(_room) = self.fences.reserve(fences.len()) else {
-            return Err(Refusal::NoMemory);
+            return Err(Errno::NoMemory);
         };
         let trimmed = trim_grown(&mut self.fences, self.left, fences.len(), timelines);
         put_pending(&mut self.fences, fences, usage);
@@ -94,9 +94,9 @@ impl Buffer {
     pub(crate) fn export(
         &self,
         alloc: Global,
-        timelines: &Timelines,
+        timelines: &OpenTimelines,
         usage: Usage,
-    ) -> Result<Vec<Fence>, Refusal>
+    ) -> Result<Vec<Fence>, Errno>
         ensures exported { IfOk result (λ fs. fs.items ≡ exported (at timelines.now.entries) usage self.now.fences) }
         ensures memory { IfErr result (λ e. e ≡ NoMemory) }
     {
@@ -107,7 +107,7 @@ impl Buffer {
 
     /// Whether every fence of the usage or a stronger one has signalled, as Linux's `dma_resv_test_signaled`. Does not
     /// allocate.
-    pub(crate) fn test(&self, timelines: &Timelines, usage: Usage) -> bool
+    pub(crate) fn test(&self, timelines: &OpenTimelines, usage: Usage) -> bool
         ensures { result ≡ none_waits_of (at timelines.now.entries) usage self.now.fences }
     {
         none_waits(self.fences.as_slice(), timelines, usage)
@@ -122,7 +122,7 @@ impl Buffer {
     }
 }
 
-fn none_waits(fences: &[BufferFence], timelines: &Timelines, usage: Usage) -> bool
+fn none_waits(fences: &[BufferFence], timelines: &OpenTimelines, usage: Usage) -> bool
     ensures { result ≡ none_waits_of (at timelines.now.entries) usage fences.now }
 {
     for fence in fences {
@@ -136,9 +136,9 @@ fn none_waits(fences: &[BufferFence], timelines: &Timelines, usage: Usage) -> bo
 fn list_waiting(
     listed: &mut Vec<Fence>,
     fences: &[BufferFence],
-    timelines: &Timelines,
+    timelines: &OpenTimelines,
     usage: Usage,
-) -> Result<(), Refusal>
+) -> Result<(), Errno>
     ensures listed { OnOk result (listed.new.items ≡
         fold with_fence listed.old.items (filter_map (waiting_fence (at timelines.now.entries) usage) fences.now)) }
     ensures memory { IfErr result (λ e. e ≡ NoMemory) }
@@ -149,7 +149,7 @@ fn list_waiting(
     Ok(())
 }
 
-fn put_option(listed: &mut Vec<Fence>, fence: Option<Fence>) -> Result<(), Refusal>
+fn put_option(listed: &mut Vec<Fence>, fence: Option<Fence>) -> Result<(), Errno>
     ensures put { OnOk result (listed.new.items ≡ fold with_fence listed.old.items (option_to_list fence)) }
     ensures memory { IfErr result (λ e. e ≡ NoMemory) }
 {
@@ -165,7 +165,7 @@ fn trim_grown(
     fences: &mut Vec<BufferFence>,
     left: usize,
     more: usize,
-    timelines: &Timelines,
+    timelines: &OpenTimelines,
 ) -> bool
     requires room { vec_len fences.old + more ≤ vec_capacity fences.old }
     ensures grown { result ≡ has_grown left more fences.old.items }

@@ -5,7 +5,7 @@ ghost use Rattle.device_core.specs.theorem.Buffers.{entry_of, fence_waiting, is_
 ghost use Rattle.device_core.specs.theorem.State.{at};
 
 use crate::fence::{Fence, Timeline};
-use crate::timelines::Timelines;
+use crate::timelines::OpenTimelines;
 use point_core::Usage;
 
 /// A fence that was put into a buffer: its timeline, its point, and its usage. It has signalled once the timeline has
@@ -40,7 +40,7 @@ impl BufferFence {
     }
 
     /// Whether its timeline is open, and has not reached the point.
-    pub(crate) fn is_waiting(&self, timelines: &Timelines) -> bool
+    pub(crate) fn is_waiting(&self, timelines: &OpenTimelines) -> bool
         ensures { result ≡ is_waiting (at timelines.now.entries) self.now }
     {
         match timelines.get(&self.timeline) {
@@ -50,7 +50,7 @@ impl BufferFence {
     }
 
     /// The fence as a file has it, if it waits and is of the usage or a stronger one.
-    pub(crate) fn waiting(&self, timelines: &Timelines, usage: Usage) -> Option<Fence>
+    pub(crate) fn waiting(&self, timelines: &OpenTimelines, usage: Usage) -> Option<Fence>
         ensures { result ≡ waiting_fence (at timelines.now.entries) usage self.now }
     {
         if self.usage.number() > usage.number() {

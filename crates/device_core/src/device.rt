@@ -2,13 +2,13 @@
 //! causes of refusal first, and changes nothing if one holds.
 ghost use Rattle.std.specs.Prelude.{◌≡◌, ◌⊎◌, ℕ, ◌+◌, ◌^◌, ◌≤◌, nat_eq, if◌then◌else◌, Some, None, is_some, option_map, ◌||◌, IsSome, IfSome, IfNone, OnOk, OnErr, IfOk, IfErr, MatchOption, Ok, Err, true, false, ◌<◌, ◌↔◌, Contains, length, ok_or, slice_get};
 ghost use Rattle.std.specs.List.Sorted.{IsStrictlyIncreasing};
-ghost use Rattle.device_core.specs.declared.refusal.Refusal.TheVariants.{Invalid, NoEntry, NoMemory, NoNumber, Overflow};
-ghost use Rattle.device_core.specs.declared.fence.Text.{Text as Name};
+ghost use Rattle.device_core.specs.declared.errno.Errno.TheVariants.{Invalid, NoEntry, NoMemory, NoNumber, Overflow};
+ghost use Rattle.device_core.specs.declared.text.Text.{Text as Name};
 ghost use Rattle.point_core.specs.Reach.{GREATEST};
 ghost use Rattle.device_core.specs.Due.{IsDueAnswer};
 ghost use Rattle.device_core.specs.theorem.Fences.{are_signalled, signal_at, status_of};
 ghost use Rattle.device_core.specs.theorem.Info.{IsInfo};
-ghost use Rattle.device_core.specs.theorem.Memory.{KeepsWhatIsAlive, kept_of};
+ghost use Rattle.device_core.specs.theorem.Memory.{KeepsWhatIsAlive, table_sizes_of};
 ghost use Rattle.device_core.specs.Woken.{file_wakes};
 ghost use Rattle.device_core.specs.theorem.Wrapping.{unwrapped as unwrapped_of};
 ghost use Rattle.device_core.specs.theorem.State.{nothing, at, timeline_at, file_at, file_of, new_timeline, raised, merged_files, one_fence_file, missing_timeline, missing_file, buffer_at, objects_of, AreSignalled};
@@ -18,25 +18,35 @@ ghost use Rattle.device_core.specs.theorem.Request.{AreWoken, IsCause, cause_of,
 mod buffers;
 
 use crate::buffer::Buffer;
-use crate::fence::{Fence, Signal, Text, Timeline, one_fence};
+use crate::errno::Errno;
+use crate::fence::{Fence, Signal, Timeline, one_fence};
 use crate::file::File;
 use crate::info::{FileInfo, info as info_of};
-use crate::kept::Kept;
 use crate::merging::{merged, merged_time};
-use crate::refusal::Refusal;
 use crate::room::give_room_back;
-use crate::timelines::Timelines;
+use crate::text::Text;
+use crate::timelines::OpenTimelines;
 use point_core::Status;
 use std::alloc::Global;
 use std::collections::HashMap;
 use std::marker::Model;
+
+/// The sizes of a device's tables: their entries, and the points for which files wait. Tests and laws say by them that
+/// memory follows what is alive.
+#[derive(Clone, Copy, Debug)]
+pub struct TableSizes {
+    pub timelines: usize,
+    pub files: usize,
+    pub buffers: usize,
+    pub waiting: usize,
+}
 
 /// Timelines, sync files and buffers by number. Numbers rise from 1, and none is given twice.
 #[derive(Drop)]
 pub struct Device {
     alloc: Global,
     next: u64,
-    timelines: Timelines,
+    timelines: OpenTimelines,
     files: HashMap<u64, File>,
     buffers: HashMap<u64, Buffer>,
 }
@@ -66,7 +76,7 @@ impl Device {
         Device {
             alloc,
             next: 1,
-            timelines: Timelines::new(alloc),
+            timelines: OpenTimelines::new(alloc),
             files: HashMap::new(alloc),
             buffers: HashMap::new(alloc),
         }
@@ -75,7 +85,7 @@ impl Device {
     /// Opens a timeline at 0, as opening `sync/sw_sync` does; the name is the task's.
     ///
     /// Fails with `NoNumber`, then with `NoMemory`; nothing is opened then.
-    pub fn open(&mut self, name: Text) -> Result<u64, Refusal>
+    pub fn open(&mut self, name: Text) -> Result<u64, Errno>
         ensures number { IfOk result (λ n. (n ≡ self.old.next) × (self.new.next ≡ n + 1)) }
         ensures opened { IfOk result (λ n. (q : ℕ) →
             timeline_at self.new q ≡ (if nat_eq n q then Some (new_timeline name) else timeline_at self.old q)) }
@@ -93,7 +103,7 @@ impl Device {
                 self.next = number + 1;
                 Ok(number)
             }
-            Err(_) => Err(Refusal::NoMemory),
+            Err(_) => Err(Errno::NoMemory),
         }
     }
 
@@ -102,7 +112,7 @@ impl Device {
     ///
     /// Fails with `NoNumber`, then with `NoEntry`, or with `WrongKind` at a file or a buffer, then with `Overflow`, then
     /// with `NoMemory`; nothing is made then.
-    pub fn fence(&mut self, timeline: u64, point: u32, now: u64) -> Result<u64, Refusal>
+    pub fn fence(&mut self, timeline: u64, point: u32, now: u64) -> Result<u64, Errno>
         ensures known { OnOk result
             (cause_of (objects_of self.old) (request.Fence timeline point now) ≡ None) }
         ensures number { IfOk result (λ n. (n ≡ self.old.next) × (self.new.next ≡ n + 1)) }
@@ -128,7 +138,7 @@ impl Device {
     ///
     /// Fails with `NoEntry`, or with `WrongKind` at a file or a buffer, then with `Overflow`, then, if it wakes a file,
     /// with `NoMemory`; nothing has changed then.
-    pub fn inc(&mut self, timeline: u64, n: u32, now: u64) -> Result<Vec<u64>, Refusal>
+    pub fn inc(&mut self, timeline: u64, n: u32, now: u64) -> Result<Vec<u64>, Errno>
         ensures woken { IfOk result (λ found. IfSome (timeline_at self.old timeline) (λ t. (f : ℕ) →
             (Contains found.items f ↔ (file_wakes timeline (t.value + n) (file_at self.old f) ≡ true)))) }
         ensures rising { IfOk result (λ found. IsStrictlyIncreasing found.items) }
@@ -153,13 +163,13 @@ impl Device {
         }
         let known = self.timeline(timeline)?;
         let Some(value) = known.value.checked_add(u64::from(n)) else {
-            return Err(Refusal::Overflow);
+            return Err(Errno::Overflow);
         };
         let Ok(woken) = self
             .timelines
             .woken_by(self.alloc, &self.files, timeline, value)
         else {
-            return Err(Refusal::NoMemory);
+            return Err(Errno::NoMemory);
         };
         let signal = Signal {
             at: now,
@@ -176,7 +186,7 @@ impl Device {
     /// this signals, by rising number. Nothing waits for a closed file any more. Closing a buffer wakes nothing.
     ///
     /// Fails with `NoEntry`, then, if it wakes a file, with `NoMemory`; nothing has changed then.
-    pub fn close(&mut self, number: u64, now: u64) -> Result<Vec<u64>, Refusal>
+    pub fn close(&mut self, number: u64, now: u64) -> Result<Vec<u64>, Errno>
         ensures woken { IfOk result (λ found. AreWoken (objects_of self.old) (objects_of self.new) found.items) }
         ensures closed { OnOk result (objects_of self.new ≡ closed (objects_of self.old) number now) }
         ensures known { OnOk result (cause_of (objects_of self.old) (request.Close number now) ≡ None) }
@@ -194,7 +204,7 @@ impl Device {
     }
 
     // Fails with `NoEntry`, or with `WrongKind` at a file or a buffer, then with `NoMemory`; nothing has changed then.
-    fn close_timeline(&mut self, timeline: u64, now: u64) -> Result<Vec<u64>, Refusal>
+    fn close_timeline(&mut self, timeline: u64, now: u64) -> Result<Vec<u64>, Errno>
         ensures woken { IfOk result (λ found. (f : ℕ) →
             (Contains found.items f ↔ (file_wakes timeline GREATEST (file_at self.old f) ≡ true))) }
         ensures rising { IfOk result (λ found. IsStrictlyIncreasing found.items) }
@@ -216,7 +226,7 @@ impl Device {
             .timelines
             .woken_by(self.alloc, &self.files, timeline, u64::MAX)
         else {
-            return Err(Refusal::NoMemory);
+            return Err(Errno::NoMemory);
         };
         let signal = Signal {
             at: now,
@@ -227,7 +237,7 @@ impl Device {
     }
 
     // Removes the file or buffer with this number. Fails with `NoEntry`; nothing has changed then. Does not allocate.
-    fn drop_number(&mut self, number: u64) -> Result<(), Refusal>
+    fn drop_number(&mut self, number: u64) -> Result<(), Errno>
         ensures files { OnOk result ((q : ℕ) →
             file_at self.new q ≡ (if nat_eq number q then None else file_at self.old q)) }
         ensures buffers { OnOk result ((q : ℕ) →
@@ -246,7 +256,7 @@ impl Device {
             return Ok(());
         }
         let Some(_closed) = self.buffers.remove(&number) else {
-            return Err(Refusal::NoEntry);
+            return Err(Errno::NoEntry);
         };
         give_room_back(&mut self.buffers);
         Ok(())
@@ -257,7 +267,7 @@ impl Device {
     ///
     /// Fails with `NoNumber`, then with `NoEntry`, or with `WrongKind` at a timeline or a buffer in place of the first,
     /// then with `NoEntry` if the second is no file, then with `NoMemory`; nothing is made then.
-    pub fn merge(&mut self, a: u64, b: u64, name: Text) -> Result<u64, Refusal>
+    pub fn merge(&mut self, a: u64, b: u64, name: Text) -> Result<u64, Errno>
         ensures number { IfOk result (λ n. (n ≡ self.old.next) × (self.new.next ≡ n + 1)) }
         ensures made { IfOk result (λ n. (q : ℕ) → file_at self.new q ≡
             (if nat_eq n q then merged_files name (file_at self.old a) (file_at self.old b) else file_at self.old q)) }
@@ -273,7 +283,7 @@ impl Device {
         self.add_file(name, fences, stub_at)
     }
 
-    fn merge_of(&self, a: u64, b: u64) -> Result<(Vec<Fence>, u64), Refusal>
+    fn merge_of(&self, a: u64, b: u64) -> Result<(Vec<Fence>, u64), Errno>
         ensures merged { IfOk result (λ r. (name : Name) →
             Some (file_of name r.0.items r.1) ≡ merged_files name (file_at self.now a) (file_at self.now b)) }
         ensures known { OnOk result (IsSome (file_at self.now a) × IsSome (file_at self.now b)) }
@@ -286,7 +296,7 @@ impl Device {
             return Err(self.unknown_file(a));
         };
         let Some(right) = self.files.get(&b) else {
-            return Err(Refusal::NoEntry);
+            return Err(Errno::NoEntry);
         };
         let fences = merged(self.alloc, left.fences.as_slice(), right.fences.as_slice())?;
         let stub_at = if fences.is_empty() {
@@ -300,7 +310,7 @@ impl Device {
     /// Whether each fence of a file has signalled.
     ///
     /// Fails with `NoEntry`, or with `WrongKind` at a timeline or a buffer. Does not allocate.
-    pub fn is_signalled(&self, file: u64) -> Result<bool, Refusal>
+    pub fn is_signalled(&self, file: u64) -> Result<bool, Errno>
         ensures known { MatchOption (file_at self.now file)
             (result ≡ Err (missing_file (objects_of self.now) file))
             (λ f. result ≡ Ok (are_signalled f.fences)) }
@@ -314,7 +324,7 @@ impl Device {
     /// The status of a file, in the kernel's order.
     ///
     /// Fails with `NoEntry`, or with `WrongKind` at a timeline or a buffer. Does not allocate.
-    pub fn status(&self, file: u64) -> Result<Status, Refusal>
+    pub fn status(&self, file: u64) -> Result<Status, Errno>
         ensures known { MatchOption (file_at self.now file)
             (result ≡ Err (missing_file (objects_of self.now) file))
             (λ f. result ≡ Ok (status_of f.fences)) }
@@ -328,7 +338,7 @@ impl Device {
     /// The information that `SYNC_IOC_FILE_INFO` reports on a file: its name, its status, and each of its fences.
     ///
     /// Fails with `NoEntry`, or with `WrongKind` at a timeline or a buffer, then with `NoMemory`.
-    pub fn info(&self, file: u64) -> Result<FileInfo, Refusal>
+    pub fn info(&self, file: u64) -> Result<FileInfo, Errno>
         ensures reported { IfOk result (λ info. IfSome (file_at self.now file) (λ f. IsInfo file f info)) }
         ensures known { OnOk result (IsSome (file_at self.now file)) }
         ensures refused { IfNone (file_at self.now file) (result ≡ Err (missing_file (objects_of self.now) file)) }
@@ -344,13 +354,13 @@ impl Device {
     ///
     /// Fails with `NoEntry`, or with `WrongKind` at a timeline or a buffer, then with `Invalid` past the last fence. Takes
     /// no memory.
-    pub fn fence_of(&self, file: u64, index: usize) -> Result<Fence, Refusal>
+    pub fn fence_of(&self, file: u64, index: usize) -> Result<Fence, Errno>
         ensures known { MatchOption (file_at self.now file)
             (result ≡ Err (missing_file (objects_of self.now) file))
             (λ f. result ≡ ok_or (slice_get f.fences index) Invalid) }
     {
         match self.files.get(&file) {
-            Some(known) => known.fence(index).ok_or(Refusal::Invalid),
+            Some(known) => known.fence(index).ok_or(Errno::Invalid),
             None => Err(self.unknown_file(file)),
         }
     }
@@ -379,7 +389,7 @@ impl Device {
     /// The value of a timeline.
     ///
     /// Fails with `NoEntry`, or with `WrongKind` at a file or a buffer. Takes no memory.
-    pub fn value(&self, timeline: u64) -> Result<u64, Refusal>
+    pub fn value(&self, timeline: u64) -> Result<u64, Errno>
         ensures known { MatchOption (timeline_at self.now timeline)
             (result ≡ Err (missing_timeline (objects_of self.now) timeline))
             (λ t. result ≡ Ok t.value) }
@@ -394,7 +404,7 @@ impl Device {
     /// clock only for signals asks this before. By the greatest n it is the least point of the timeline that is pending.
     ///
     /// Fails with `NoEntry`, or with `WrongKind` at a file or a buffer. Takes no memory.
-    pub fn first_due(&self, timeline: u64, n: u64) -> Result<Option<u64>, Refusal>
+    pub fn first_due(&self, timeline: u64, n: u64) -> Result<Option<u64>, Errno>
         ensures { IsDueAnswer (objects_of self.now) timeline n result }
     {
         let known = self.timeline(timeline)?;
@@ -405,7 +415,7 @@ impl Device {
     /// Whether an increment needs no memory to report the files that it wakes. Does not allocate.
     ///
     /// Fails with the increment's own error: `NoMemory` if it wakes a file, unless another cause holds.
-    pub fn inc_without_memory(&self, timeline: u64, n: u32) -> Result<(), Refusal>
+    pub fn inc_without_memory(&self, timeline: u64, n: u32) -> Result<(), Errno>
         ensures none { OnOk result ((now : ℕ) →
             takes_memory (objects_of self.now) (request.Inc timeline n now) ≡ false) }
         ensures refused { IfErr result (λ e. (now : ℕ) →
@@ -414,12 +424,12 @@ impl Device {
     {
         let known = self.timeline(timeline)?;
         let Some(value) = known.value.checked_add(u64::from(n)) else {
-            return Err(Refusal::Overflow);
+            return Err(Errno::Overflow);
         };
         // for the proof: no file has a number past the next one
         let _next = self.next;
         if self.timelines.wakes_some(&self.files, timeline, value) {
-            return Err(Refusal::NoMemory);
+            return Err(Errno::NoMemory);
         }
         Ok(())
     }
@@ -427,7 +437,7 @@ impl Device {
     /// Whether a closing needs no memory to report the files that it wakes. Does not allocate.
     ///
     /// Fails with `NoMemory` if it closes a timeline and wakes a file.
-    pub fn close_without_memory(&self, number: u64) -> Result<(), Refusal>
+    pub fn close_without_memory(&self, number: u64) -> Result<(), Errno>
         ensures none { OnOk result ((now : ℕ) →
             takes_memory (objects_of self.now) (request.Close number now) ≡ false) }
         ensures refused { IfErr result (λ e. (now : ℕ) →
@@ -440,17 +450,17 @@ impl Device {
         // for the proof: no file has a number past the next one
         let _next = self.next;
         if self.timelines.wakes_some(&self.files, number, u64::MAX) {
-            return Err(Refusal::NoMemory);
+            return Err(Errno::NoMemory);
         }
         Ok(())
     }
 
     /// The sizes of its tables, which follow what is alive. Does not allocate.
-    pub fn kept(&self) -> Kept
-        ensures counts { result ≡ kept_of self.now }
+    pub fn table_sizes(&self) -> TableSizes
+        ensures counts { result ≡ table_sizes_of self.now }
         ensures alive { KeepsWhatIsAlive self.now }
     {
-        Kept {
+        TableSizes {
             timelines: self.timelines.len(),
             files: self.files.len(),
             buffers: self.buffers.len(),
@@ -459,7 +469,7 @@ impl Device {
     }
 
     // The timeline with this number.
-    fn timeline(&self, number: u64) -> Result<Timeline, Refusal>
+    fn timeline(&self, number: u64) -> Result<Timeline, Errno>
         ensures found { IfOk result (λ t. timeline_at self.now number ≡ Some t) }
         ensures refused { IfErr result (λ e.
             (timeline_at self.now number ≡ None) × (e ≡ missing_timeline (objects_of self.now) number)) }
@@ -471,29 +481,29 @@ impl Device {
     }
 
     // The error for a number without a timeline.
-    fn unknown_timeline(&self, number: u64) -> Refusal
+    fn unknown_timeline(&self, number: u64) -> Errno
         ensures { result ≡ missing_timeline (objects_of self.now) number }
     {
         if self.files.contains_key(&number) || self.buffers.contains_key(&number) {
-            Refusal::WrongKind
+            Errno::WrongKind
         } else {
-            Refusal::NoEntry
+            Errno::NoEntry
         }
     }
 
     // The number of the next object. Fails only with `NoNumber`, once each number has been given.
-    fn next_number(&self) -> Result<u64, Refusal>
+    fn next_number(&self) -> Result<u64, Errno>
         ensures next { IfOk result (λ n. (n ≡ self.now.next) × (n < GREATEST)) }
         ensures none { IfErr result (λ e. (e ≡ NoNumber) × (GREATEST ≤ self.now.next)) }
     {
         if self.next == u64::MAX {
-            return Err(Refusal::NoNumber);
+            return Err(Errno::NoNumber);
         }
         Ok(self.next)
     }
 
     // Makes a file of fences that rise by timeline.
-    fn add_file(&mut self, name: Text, fences: Vec<Fence>, stub_at: u64) -> Result<u64, Refusal>
+    fn add_file(&mut self, name: Text, fences: Vec<Fence>, stub_at: u64) -> Result<u64, Errno>
         requires left { self.old.next < GREATEST }
         ensures number { IfOk result (λ n. (n ≡ self.old.next) × (self.new.next ≡ n + 1)) }
         ensures made { IfOk result (λ n. (q : ℕ) →
@@ -519,19 +529,19 @@ impl Device {
             Err(failed) => {
                 self.timelines
                     .take_all(number, failed.value.1.fences.as_slice());
-                Err(Refusal::NoMemory)
+                Err(Errno::NoMemory)
             }
         }
     }
 
     // The error for a number without a file.
-    fn unknown_file(&self, number: u64) -> Refusal
+    fn unknown_file(&self, number: u64) -> Errno
         ensures { result ≡ missing_file (objects_of self.now) number }
     {
         if self.timelines.contains_key(&number) || self.buffers.contains_key(&number) {
-            Refusal::WrongKind
+            Errno::WrongKind
         } else {
-            Refusal::NoEntry
+            Errno::NoEntry
         }
     }
 }

@@ -1,32 +1,33 @@
 //! Information on a file and its fences, as `SYNC_IOC_FILE_INFO` reports it.
 ghost use Rattle.std.specs.Prelude.{◌≡◌, ◌∷◌, [], map, IfErr, IfOk};
-ghost use Rattle.device_core.specs.declared.refusal.Refusal.TheVariants.{NoMemory};
+ghost use Rattle.device_core.specs.declared.errno.Errno.TheVariants.{NoMemory};
 ghost use Rattle.device_core.specs.theorem.Fences.{status_of};
 ghost use Rattle.device_core.specs.theorem.Info.{driver_name, fence_info as fence_info_of, fence_infos as fence_infos_of, stub_info as stub_info_of};
 ghost use Rattle.device_core.specs.theorem.Names.{as_text, file_name};
 
-use crate::fence::{Fence, Text};
+use crate::errno::Errno;
+use crate::fence::Fence;
 use crate::file::File;
 use crate::naming::name_of;
-use crate::refusal::Refusal;
+use crate::text::Text;
 use point_core::Status;
 use std::alloc::Global;
 
 /// The driver of a fence.
 #[derive(Clone, Copy, Debug, PartialEq, Eq, Hash)]
-pub enum Driver {
+pub enum FenceDriver {
     SwSync,
     Stub,
 }
 
-impl Driver {
+impl FenceDriver {
     /// Its name, as the kernel reports it.
     pub fn name(self) -> &'static [u8]
         ensures { result.now ≡ driver_name self }
     {
         match self {
-            Driver::SwSync => b"sw_sync",
-            Driver::Stub => b"stub",
+            FenceDriver::SwSync => b"sw_sync",
+            FenceDriver::Stub => b"stub",
         }
     }
 }
@@ -36,7 +37,7 @@ impl Driver {
 #[derive(Clone, Copy, Debug, PartialEq, Eq)]
 pub struct FenceInfo {
     pub timeline: Text,
-    pub driver: Driver,
+    pub driver: FenceDriver,
     pub status: Status,
     pub at: u64,
 }
@@ -53,7 +54,7 @@ pub struct FileInfo {
 /// The information that `SYNC_IOC_FILE_INFO` reports on the file with this number.
 ///
 /// Fails only with `NoMemory`.
-pub(crate) fn info(alloc: Global, number: u64, file: &File) -> Result<FileInfo, Refusal>
+pub(crate) fn info(alloc: Global, number: u64, file: &File) -> Result<FileInfo, Errno>
     ensures name { IfOk result (λ info. info.name ≡ as_text (file_name number file.now)) }
     ensures status { IfOk result (λ info. info.status ≡ status_of file.now.fences) }
     ensures fences { IfOk result (λ info. info.fences.items ≡ fence_infos_of file.now) }
@@ -67,7 +68,7 @@ pub(crate) fn info(alloc: Global, number: u64, file: &File) -> Result<FileInfo, 
     })
 }
 
-fn fence_infos(alloc: Global, file: &File) -> Result<Vec<FenceInfo>, Refusal>
+fn fence_infos(alloc: Global, file: &File) -> Result<Vec<FenceInfo>, Errno>
     ensures fences { IfOk result (λ infos. infos.items ≡ fence_infos_of file.now) }
     ensures memory { IfErr result (λ e. e ≡ NoMemory) }
 {
@@ -77,23 +78,23 @@ fn fence_infos(alloc: Global, file: &File) -> Result<Vec<FenceInfo>, Refusal>
     each(alloc, file.fences.as_slice())
 }
 
-fn one(alloc: Global, info: FenceInfo) -> Result<Vec<FenceInfo>, Refusal>
+fn one(alloc: Global, info: FenceInfo) -> Result<Vec<FenceInfo>, Errno>
     ensures one { IfOk result (λ infos. infos.items ≡ info ∷ []) }
     ensures memory { IfErr result (λ e. e ≡ NoMemory) }
 {
     let Ok(mut infos) = Vec::with_capacity(alloc, 1) else {
-        return Err(Refusal::NoMemory);
+        return Err(Errno::NoMemory);
     };
     infos.push_reserved(info);
     Ok(infos)
 }
 
-fn each(alloc: Global, fences: &[Fence]) -> Result<Vec<FenceInfo>, Refusal>
+fn each(alloc: Global, fences: &[Fence]) -> Result<Vec<FenceInfo>, Errno>
     ensures each { IfOk result (λ infos. infos.items ≡ map fence_info_of fences.now) }
     ensures memory { IfErr result (λ e. e ≡ NoMemory) }
 {
     let Ok(infos) = fences.iter().map(|fence| fence_info(fence)).collect(alloc) else {
-        return Err(Refusal::NoMemory);
+        return Err(Errno::NoMemory);
     };
     Ok(infos)
 }
@@ -108,7 +109,7 @@ fn fence_info(fence: &Fence) -> FenceInfo
     };
     FenceInfo {
         timeline: fence.name,
-        driver: Driver::SwSync,
+        driver: FenceDriver::SwSync,
         status,
         at,
     }
@@ -119,7 +120,7 @@ fn stub_info(at: u64) -> FenceInfo
 {
     FenceInfo {
         timeline: Text::of(b"stub"),
-        driver: Driver::Stub,
+        driver: FenceDriver::Stub,
         status: Status::Signalled,
         at,
     }

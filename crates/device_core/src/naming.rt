@@ -4,9 +4,8 @@ ghost use Rattle.device_core.specs.declared.naming.TheConstants.{NUMBER_BYTES, K
 ghost use Rattle.device_core.specs.declared.text.TheConstants.{TEXT_BYTES};
 ghost use Rattle.device_core.specs.theorem.Names.{as_text, file_name, kernel_name as kernel_name_of};
 
-use crate::fence::Text;
 use crate::file::File;
-use crate::text::TEXT_BYTES;
+use crate::text::{TEXT_BYTES, Text};
 use itoa::write_digits;
 use std::marker::Model;
 
@@ -20,14 +19,14 @@ const _: () = prove!(NUMBER_BYTES == 20);
 
 const _: () = prove!(KERNEL_NAME_BYTES == 106);
 
-/// A name before it is cut. Each part is put before those that are there.
+/// A name before it is cut. Each part is put before the parts that are there.
 #[derive(Drop)]
-struct Line {
+struct UncutName {
     bytes: [u8; KERNEL_NAME_BYTES],
     start: usize,
 }
 
-impl Model for Line {
+impl Model for UncutName {
     ghost use Rattle.std.specs.Prelude.{◌≤◌, List, ℕ, drop};
     ghost use Rattle.device_core.specs.declared.naming.TheConstants.{KERNEL_NAME_BYTES};
 
@@ -38,11 +37,11 @@ impl Model for Line {
     ghost invariant = { λ l. l.start ≤ KERNEL_NAME_BYTES };
 }
 
-impl Line {
-    fn new() -> Line
+impl UncutName {
+    fn new() -> UncutName
         ensures { result ≡ [] }
     {
-        Line {
+        UncutName {
             bytes: [0; KERNEL_NAME_BYTES],
             start: KERNEL_NAME_BYTES,
         }
@@ -79,14 +78,14 @@ fn kernel_name(driver: &[u8], timeline: &[u8], context: u64, point: u64) -> Text
     requires timeline { length timeline.now ≤ TEXT_BYTES }
     ensures { result ≡ as_text (kernel_name_of driver.now timeline.now context point) }
 {
-    let mut line = Line::new();
-    line.put_number(point);
-    line.put_text(b"-");
-    line.put_number(context);
-    line.put_text(timeline);
-    line.put_text(b"-");
-    line.put_text(driver);
-    Text::of(line.as_bytes())
+    let mut name = UncutName::new();
+    name.put_number(point);
+    name.put_text(b"-");
+    name.put_number(context);
+    name.put_text(timeline);
+    name.put_text(b"-");
+    name.put_text(driver);
+    Text::of(name.as_bytes())
 }
 
 /// The name of the file with this number: the name that it was given, or if that is empty its fence's, as Linux's

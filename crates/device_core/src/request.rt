@@ -1,6 +1,6 @@
-//! `Request` and `Answer`: the calls of a device as data, so that theorems can speak of whole runs.
-use crate::fence::Text;
+//! `Request` and `Reply`: the calls of a device as data, so that theorems can speak of whole runs.
 use crate::info::FileInfo;
+use crate::text::Text;
 use point_core::{Status, Usage};
 
 /// A request, with its time in nanoseconds if the kernel would read its clock.
@@ -32,9 +32,9 @@ pub enum Request {
     Test(u64, Usage),
 }
 
-/// The answer to an accepted request.
+/// The reply to an accepted request; a refused request has an `Errno`.
 #[derive(Drop)]
-pub enum Answer {
+pub enum Reply {
     /// The number of the new object.
     Number(u64),
     /// The files that the request signals, by rising number.

@@ -1,14 +1,14 @@
 //! `run`: a list of requests on a new device. Its contract is this crate's main theorem.
 ghost use Rattle.std.specs.Prelude.{◌≡◌, [], IfOk, IfErr};
-ghost use Rattle.device_core.specs.declared.refusal.Refusal.TheVariants.{NoMemory};
+ghost use Rattle.device_core.specs.declared.errno.Errno.TheVariants.{NoMemory};
 ghost use Rattle.device_core.specs.theorem.History.{AreAnswers, HasHistory, history_of};
 ghost use Rattle.device_core.specs.theorem.Memory.{AreTrimmed, KeepsWhatIsAlive};
 ghost use Rattle.device_core.specs.theorem.Answered.{AreAnswered};
 ghost use Rattle.device_core.specs.theorem.Headline.{ReportsSums, ReportsWhatWasPut, ReportsBuffers, ReportsFences, ReportsNumbers, ReportsEachWaking};
 
 use crate::device::Device;
-use crate::refusal::Refusal;
-use crate::request::{Answer, Request};
+use crate::errno::Errno;
+use crate::request::{Reply, Request};
 use std::alloc::Global;
 
 /// Serves the requests one after another on a new device. Returns the device and one answer for each request.
@@ -17,7 +17,7 @@ use std::alloc::Global;
 pub fn run(
     alloc: Global,
     requests: &[Request],
-) -> Result<(Device, Vec<Result<Answer, Refusal>>), Refusal>
+) -> Result<(Device, Vec<Result<Reply, Errno>>), Errno>
     ensures answers { IfOk result (λ r. AreAnswers [] requests.now r.1.items) }
     ensures told { IfOk result (λ r. AreAnswered [] requests.now r.1.items) }
     ensures stands { IfOk result (λ r. HasHistory r.0 (history_of [] requests.now r.1.items)) }
@@ -32,13 +32,13 @@ pub fn run(
     ensures memory { IfErr result (λ e. e ≡ NoMemory) }
 {
     let Ok(mut answers) = Vec::with_capacity(alloc, requests.len()) else {
-        return Err(Refusal::NoMemory);
+        return Err(Errno::NoMemory);
     };
     let mut device = Device::new(alloc);
     for request in requests {
         answers.push_reserved(device.serve(*request));
     }
     // for the proof: what the device keeps
-    let _kept = device.kept();
+    let _sizes = device.table_sizes();
     Ok((device, answers))
 }

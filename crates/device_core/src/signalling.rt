@@ -1,12 +1,12 @@
 //! Signals the fences that a timeline's rise or closing reaches. The index leads to the files that wait there, so no
 //! other file is looked at.
 ghost use Rattle.std.specs.Prelude.{◌≡◌, ℕ, nat_eq, if◌then◌else◌, option_map, true};
-ghost use Rattle.device_core.specs.declared.waiting.Waiting.{Waiting as Key};
+ghost use Rattle.device_core.specs.declared.waiting_files.Waiter.{Waiter as Key};
 ghost use Rattle.device_core.specs.theorem.State.{AreInOrder, AreSignalled, IsIndexed, at, file_signalled, holds};
 
 use crate::fence::Signal;
 use crate::file::File;
-use crate::waiting::WaitingFiles;
+use crate::waiting_files::WaitingFiles;
 use std::collections::HashMap;
 
 /// Signals the pending fences of a timeline up to the value, in each file. Only the files that wait there are looked

@@ -2,7 +2,7 @@
 ghost use Rattle.std.specs.Prelude.{◌≡◌};
 ghost use Rattle.device_core.specs.theorem.Buffers.{export_usage as export_usage_of, import_usage as import_usage_of};
 
-use crate::refusal::Refusal;
+use crate::errno::Errno;
 use point_core::Usage;
 
 /// Linux's `DMA_BUF_SYNC_READ`.
@@ -20,25 +20,25 @@ const _: () = prove!(READ_WRITE == 3);
 /// too.
 ///
 /// Fails with `Invalid` for every other number, as Linux's `DMA_BUF_IOCTL_EXPORT_SYNC_FILE`.
-pub(crate) fn export_usage(flags: u32) -> Result<Usage, Refusal>
+pub(crate) fn export_usage(flags: u32) -> Result<Usage, Errno>
     ensures { result ≡ export_usage_of flags }
 {
     match flags {
         READ => Ok(Usage::Write),
         WRITE | READ_WRITE => Ok(Usage::Read),
-        _ => Err(Refusal::Invalid),
+        _ => Err(Errno::Invalid),
     }
 }
 
 /// The usage of such an access's fences: a reader's if it only reads, else a writer's.
 ///
 /// Fails with `Invalid` for every other number, as Linux's `DMA_BUF_IOCTL_IMPORT_SYNC_FILE`.
-pub(crate) fn import_usage(flags: u32) -> Result<Usage, Refusal>
+pub(crate) fn import_usage(flags: u32) -> Result<Usage, Errno>
     ensures { result ≡ import_usage_of flags }
 {
     match flags {
         READ => Ok(Usage::Read),
         WRITE | READ_WRITE => Ok(Usage::Write),
-        _ => Err(Refusal::Invalid),
+        _ => Err(Errno::Invalid),
     }
 }

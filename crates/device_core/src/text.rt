@@ -2,14 +2,21 @@
 ghost use Rattle.std.specs.Prelude.{◌≡◌, ◌≤◌, length};
 ghost use Rattle.device_core.specs.theorem.Names.{as_text as text_as, text_of};
 
-use crate::fence::Text;
-
 /// The bytes of a text with its terminating NUL, as the names in Linux's `struct sync_file_info`.
 pub const TEXT_BYTES: usize = 32;
 
 const _: () = prove!(TEXT_BYTES == 32);
 
+/// A text of the kernel: its bytes up to the first that is 0.
+#[derive(Clone, Copy, Debug, PartialEq, Eq)]
+pub struct Text {
+    pub bytes: [u8; 32],
+}
+
 impl Text {
+    /// The empty text.
+    pub const EMPTY: Text = Text { bytes: [0; 32] };
+
     /// The text of these bytes, cut to one less than `TEXT_BYTES` as Linux's `snprintf` and `strscpy` cut it, and
     /// padded with zeros.
     pub fn of(bytes: &[u8]) -> Text

@@ -1,4 +1,4 @@
-//! `Timelines`: the open timelines, and the index of the points for which files wait. Each timeline has a floor, at or
+//! `OpenTimelines`: the open timelines, and the index of the points for which files wait. Each timeline has a floor, at or
 //! below every point that is waited for, so most increments compare once.
 ghost use Rattle.std.specs.Prelude.{◌≡◌, ℕ, ◌+◌, ◌<◌, ◌≤◌, ◌^◌, ◌↔◌, not, ◌&&◌, ◌||◌, nat_eq, if◌then◌else◌, length, [], None, Some, is_some, option_copied, option_map, Contains, true, false, IfOk, IfErr, IfSome, OnOk, OnErr};
 ghost use Rattle.std.specs.Bool.{OnTrue, OnFalse};
@@ -6,19 +6,19 @@ ghost use Rattle.std.specs.List.{IsDistinct};
 ghost use Rattle.std.specs.List.Sorted.{IsStrictlyIncreasing};
 ghost use Rattle.std.specs.Map.{keys_of};
 ghost use Rattle.point_core.specs.Reach.{GREATEST};
-ghost use Rattle.device_core.specs.declared.refusal.Refusal.TheVariants.{NoMemory};
-ghost use Rattle.device_core.specs.declared.waiting.Waiting.{Waiting as Key};
+ghost use Rattle.device_core.specs.declared.errno.Errno.TheVariants.{NoMemory};
+ghost use Rattle.device_core.specs.declared.waiting_files.Waiter.{Waiter as Key};
 ghost use Rattle.device_core.specs.Due.{IsFirstHeld};
 ghost use Rattle.device_core.specs.Floors.{HasRisenQuietly, lowered, lowered_by, settled, timelines_in, timelines_state};
 ghost use Rattle.device_core.specs.theorem.State.{AreInOrder, AreSignalled, IsIndexed, at, holds, is_due_at, raised, waits_of};
 ghost use Rattle.device_core.specs.Woken.{WakesSome, file_wakes};
 
+use crate::errno::Errno;
 use crate::fence::{Fence, Signal, Timeline};
 use crate::file::File;
-use crate::refusal::Refusal;
 use crate::room::give_room_back;
 use crate::signalling::signal_due;
-use crate::waiting::WaitingFiles;
+use crate::waiting_files::WaitingFiles;
 use std::alloc::Global;
 use std::collections::HashMap;
 use std::marker::Model;
@@ -60,12 +60,12 @@ impl OpenTimeline {
 
 /// The open timelines by number, and the pending points of all files.
 #[derive(Drop)]
-pub(crate) struct Timelines {
+pub(crate) struct OpenTimelines {
     by_number: HashMap<u64, OpenTimeline>,
     waiting: WaitingFiles,
 }
 
-impl Model for Timelines {
+impl Model for OpenTimelines {
     ghost use Rattle.device_core.specs.Floors.{HasFloors, TimelinesState, timelines_state};
 
     ghost Value = { TimelinesState };
@@ -75,12 +75,12 @@ impl Model for Timelines {
     ghost invariant = { λ t. HasFloors t.by_number.entries t.waiting };
 }
 
-impl Timelines {
+impl OpenTimelines {
     /// None is open. Does not allocate.
-    pub(crate) fn new(alloc: Global) -> Timelines
+    pub(crate) fn new(alloc: Global) -> OpenTimelines
         ensures { result ≡ timelines_state [] [] }
     {
-        Timelines {
+        OpenTimelines {
             by_number: HashMap::new(alloc),
             waiting: WaitingFiles::new(alloc),
         }
@@ -122,7 +122,7 @@ impl Timelines {
     /// Opens a timeline.
     ///
     /// Fails only with `NoMemory`, and then leaves everything as it was.
-    pub(crate) fn insert(&mut self, number: u64, timeline: Timeline) -> Result<(), Refusal>
+    pub(crate) fn insert(&mut self, number: u64, timeline: Timeline) -> Result<(), Errno>
         ensures updates { OnOk result ((q : ℕ) →
             at self.new.entries q ≡ (if nat_eq number q then Some timeline else at self.old.entries q)) }
         ensures index { self.new.index ≡ self.old.index }
@@ -131,7 +131,7 @@ impl Timelines {
     {
         let opened = OpenTimeline { timeline, floor: 0 };
         let Ok(_before) = self.by_number.insert(number, opened) else {
-            return Err(Refusal::NoMemory);
+            return Err(Errno::NoMemory);
         };
         Ok(())
     }
@@ -157,7 +157,7 @@ impl Timelines {
         files: &HashMap<u64, File>,
         number: u64,
         value: u64,
-    ) -> Result<Vec<u64>, Refusal>
+    ) -> Result<Vec<u64>, Errno>
         requires indexed { IsIndexed self.now.index files.now.entries }
         requires below { (n : ℕ) → 2 ^ 64 ≤ n → at files.now.entries n ≡ None }
         ensures woken { IfOk result (λ found. (n : ℕ) →
@@ -236,7 +236,7 @@ impl Timelines {
     /// Enters a file at each of its pending fences.
     ///
     /// Fails only with `NoMemory`, and then leaves everything as it was.
-    pub(crate) fn put_all(&mut self, file: u64, fences: &[Fence]) -> Result<(), Refusal>
+    pub(crate) fn put_all(&mut self, file: u64, fences: &[Fence]) -> Result<(), Errno>
         requires new { (k : Key) → k.file ≡ file → holds self.old.index k ≡ false }
         ensures put { OnOk result ((k : Key) →
             holds self.new.index k ≡ (waits_of file fences.now k || holds self.old.index k)) }

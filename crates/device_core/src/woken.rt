@@ -1,15 +1,15 @@
 //! Collects the files that a request signals, by rising number.
 ghost use Rattle.std.specs.Prelude.{◌≡◌, ℕ, ◌^◌, ◌≤◌, nat_eq, ◌&&◌, ◌||◌, ◌↔◌, true, false, None, OnOk, IfOk, IfErr, Contains};
-ghost use Rattle.device_core.specs.declared.refusal.Refusal.TheVariants.{NoMemory};
+ghost use Rattle.device_core.specs.declared.errno.Errno.TheVariants.{NoMemory};
 ghost use Rattle.device_core.specs.theorem.State.{IsIndexed, at};
 ghost use Rattle.device_core.specs.Woken.{WakesSome, file_wakes, has, is_settled_by, wakes as wakes_of};
 ghost use Rattle.std.specs.List.{list_all};
 ghost use Rattle.std.specs.List.Sorted.{IsStrictlyIncreasing};
 
+use crate::errno::Errno;
 use crate::fence::Fence;
 use crate::file::{File, all_signalled};
-use crate::refusal::Refusal;
-use crate::waiting::Waiting;
+use crate::waiting_files::Waiter;
 use std::alloc::Global;
 use std::collections::{BTreeSet, HashMap};
 
@@ -19,11 +19,11 @@ use std::collections::{BTreeSet, HashMap};
 /// Fails only with `NoMemory`, and only if there is such a file.
 pub(crate) fn woken_by(
     alloc: Global,
-    points: &BTreeSet<Waiting>,
+    points: &BTreeSet<Waiter>,
     files: &HashMap<u64, File>,
     timeline: u64,
     value: u64,
-) -> Result<Vec<u64>, Refusal>
+) -> Result<Vec<u64>, Errno>
     requires indexed { IsIndexed points.now.keys files.now.entries }
     requires below { (n : ℕ) → 2 ^ 64 ≤ n → at files.now.entries n ≡ None }
     ensures woken { IfOk result (λ found. (n : ℕ) →
@@ -38,7 +38,7 @@ pub(crate) fn woken_by(
 
 /// Whether a file signals once a timeline signals up to the value. Does not allocate.
 pub(crate) fn wakes_some(
-    points: &BTreeSet<Waiting>,
+    points: &BTreeSet<Waiter>,
     files: &HashMap<u64, File>,
     timeline: u64,
     value: u64,
@@ -48,8 +48,8 @@ pub(crate) fn wakes_some(
     ensures some { result ≡ true → WakesSome timeline value (at files.now.entries) }
     ensures none { result ≡ false → (n : ℕ) → file_wakes timeline value (at files.now.entries n) ≡ false }
 {
-    let first = Waiting::first(timeline);
-    let last = Waiting::last(timeline, value);
+    let first = Waiter::first(timeline);
+    let last = Waiter::last(timeline, value);
     for due in points.range(first..=last) {
         if file_wakes_at(files, due.file, timeline, value) {
             return true;
@@ -69,19 +69,19 @@ fn put_in_order(numbers: &mut Vec<u64>)
 
 fn gathered(
     alloc: Global,
-    points: &BTreeSet<Waiting>,
+    points: &BTreeSet<Waiter>,
     files: &HashMap<u64, File>,
     timeline: u64,
     value: u64,
-) -> Result<Vec<u64>, Refusal>
+) -> Result<Vec<u64>, Errno>
     requires indexed { IsIndexed points.now.keys files.now.entries }
     requires below { (n : ℕ) → 2 ^ 64 ≤ n → at files.now.entries n ≡ None }
     ensures woken { IfOk result (λ found. (n : ℕ) →
         has found.items n ≡ file_wakes timeline value (at files.now.entries n)) }
     ensures memory { IfErr result (λ e. (e ≡ NoMemory) × WakesSome timeline value (at files.now.entries)) }
 {
-    let first = Waiting::first(timeline);
-    let last = Waiting::last(timeline, value);
+    let first = Waiter::first(timeline);
+    let last = Waiter::last(timeline, value);
     let mut woken = Vec::new(alloc);
     for due in points.range(first..=last) {
         put_if_woken(&mut woken, files, due.file, timeline, value)?;
@@ -95,7 +95,7 @@ fn put_if_woken(
     number: u64,
     timeline: u64,
     value: u64,
-) -> Result<(), Refusal>
+) -> Result<(), Errno>
     ensures put { OnOk result ((n : ℕ) → has woken.new.items n ≡
         ((nat_eq number n && file_wakes timeline value (at files.now.entries number)) || has woken.old.items n)) }
     ensures memory { IfErr result (λ e.
@@ -107,12 +107,12 @@ fn put_if_woken(
     put(woken, number)
 }
 
-fn put(woken: &mut Vec<u64>, number: u64) -> Result<(), Refusal>
+fn put(woken: &mut Vec<u64>, number: u64) -> Result<(), Errno>
     ensures put { OnOk result ((n : ℕ) → has woken.new.items n ≡ (nat_eq number n || has woken.old.items n)) }
     ensures memory { IfErr result (λ e. e ≡ NoMemory) }
 {
     let Ok(_done) = woken.push(number) else {
-        return Err(Refusal::NoMemory);
+        return Err(Errno::NoMemory);
     };
     Ok(())
 }

@@ -1,6 +1,6 @@
 //! Compares a device's answers with the wanted ones.
 use crate::values::holds;
-use device_core::{Answer, Driver, FenceInfo, FileInfo, Kept, Refusal, Request};
+use device_core::{Errno, FenceDriver, FenceInfo, FileInfo, Reply, Request, TableSizes};
 use point_core::Status;
 use std::process::Abort;
 
@@ -13,16 +13,16 @@ pub(crate) enum Wanted {
     Signalled(bool),
     Info(&'static [u8], Status, &'static [Row]),
     Done,
-    Refused(Refusal),
+    Refused(Errno),
 }
 
 /// Information on a fence: the name of its timeline, its driver and status, and when it signalled.
-pub(crate) type Row = (&'static [u8], Driver, Status, u64);
+pub(crate) type Row = (&'static [u8], FenceDriver, Status, u64);
 
 /// Checks that each answer is the one beside its request.
 pub(crate) fn check(
     rt: &impl Abort,
-    answers: &[Result<Answer, Refusal>],
+    answers: &[Result<Reply, Errno>],
     asked: &[(Request, Wanted)],
 ) {
     let mut left = asked;
@@ -37,26 +37,26 @@ pub(crate) fn check(
 }
 
 /// Checks the numbers of timelines, files and buffers, and the number of points for which files wait.
-pub(crate) fn check_kept(rt: &impl Abort, kept: &Kept, wanted: [usize; 4]) {
-    let counts = [kept.timelines, kept.files, kept.buffers, kept.waiting];
+pub(crate) fn check_table_sizes(rt: &impl Abort, sizes: &TableSizes, wanted: [usize; 4]) {
+    let counts = [sizes.timelines, sizes.files, sizes.buffers, sizes.waiting];
     holds(rt, counts == wanted);
 }
 
-fn is_wanted(given: &Result<Answer, Refusal>, wanted: &Wanted) -> bool {
+fn is_wanted(given: &Result<Reply, Errno>, wanted: &Wanted) -> bool {
     match given {
         Ok(answer) => is_answer(answer, wanted),
         Err(refusal) => *wanted == Wanted::Refused(*refusal),
     }
 }
 
-fn is_answer(answer: &Answer, wanted: &Wanted) -> bool {
+fn is_answer(answer: &Reply, wanted: &Wanted) -> bool {
     match answer {
-        Answer::Number(number) => *wanted == Wanted::Number(*number),
-        Answer::Woken(woken) => is_woken(woken.as_slice(), wanted),
-        Answer::Status(status) => *wanted == Wanted::Status(*status),
-        Answer::Signalled(signalled) => *wanted == Wanted::Signalled(*signalled),
-        Answer::Info(info) => is_info(info, wanted),
-        Answer::Done => *wanted == Wanted::Done,
+        Reply::Number(number) => *wanted == Wanted::Number(*number),
+        Reply::Woken(woken) => is_woken(woken.as_slice(), wanted),
+        Reply::Status(status) => *wanted == Wanted::Status(*status),
+        Reply::Signalled(signalled) => *wanted == Wanted::Signalled(*signalled),
+        Reply::Info(info) => is_info(info, wanted),
+        Reply::Done => *wanted == Wanted::Done,
     }
 }
 

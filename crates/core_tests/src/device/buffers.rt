@@ -1,6 +1,6 @@
 //! Requests about buffers, each with its answer.
-use crate::device::answers::{Wanted, check, check_kept};
-use device_core::{Driver, Refusal, Request, Text, run};
+use crate::device::answers::{Wanted, check, check_table_sizes};
+use device_core::{Errno, FenceDriver, Request, Text, run};
 use point_core::{Status, Usage};
 use std::test::Fail;
 
@@ -22,7 +22,7 @@ static ASKED: [(Request, Wanted); 48] = [
         Wanted::Info(
             b"sw_sync-2-1",
             Status::Active,
-            &[(b"", Driver::SwSync, Status::Active, 0)],
+            &[(b"", FenceDriver::SwSync, Status::Active, 0)],
         ),
     ),
     (Request::Inc(2, 1, 20), Wanted::Woken(&[4, 6])),
@@ -35,20 +35,17 @@ static ASKED: [(Request, Wanted); 48] = [
         Wanted::Info(
             b"stub-stub0-0",
             Status::Signalled,
-            &[(b"stub", Driver::Stub, Status::Signalled, 9)],
+            &[(b"stub", FenceDriver::Stub, Status::Signalled, 9)],
         ),
     ),
     (Request::Inc(1, 1, 30), Wanted::Woken(&[3, 7])),
     (Request::Test(5, Usage::Read), Wanted::Signalled(true)),
     // The buffer is checked first, then the flags, then the file. A refusal takes no number.
-    (
-        Request::Import(3, 3, 0),
-        Wanted::Refused(Refusal::WrongKind),
-    ),
-    (Request::Export(99, 0), Wanted::Refused(Refusal::NoEntry)),
-    (Request::Export(5, 4), Wanted::Refused(Refusal::Invalid)),
-    (Request::Import(5, 3, 0), Wanted::Refused(Refusal::Invalid)),
-    (Request::Import(5, 99, 1), Wanted::Refused(Refusal::Invalid)),
+    (Request::Import(3, 3, 0), Wanted::Refused(Errno::WrongKind)),
+    (Request::Export(99, 0), Wanted::Refused(Errno::NoEntry)),
+    (Request::Export(5, 4), Wanted::Refused(Errno::Invalid)),
+    (Request::Import(5, 3, 0), Wanted::Refused(Errno::Invalid)),
+    (Request::Import(5, 99, 1), Wanted::Refused(Errno::Invalid)),
     // A fence that a closed timeline has cancelled is no longer waited for.
     (Request::Fence(2, 5, 50), Wanted::Number(9)),
     (Request::Import(5, 9, 3), Wanted::Done),
@@ -56,12 +53,12 @@ static ASKED: [(Request, Wanted); 48] = [
     (Request::Close(2, 60), Wanted::Woken(&[9])),
     (Request::Test(5, Usage::Write), Wanted::Signalled(true)),
     // A buffer has no status, and its number is gone once it is closed.
-    (Request::Info(5), Wanted::Refused(Refusal::WrongKind)),
-    (Request::Inc(5, 1, 70), Wanted::Refused(Refusal::WrongKind)),
+    (Request::Info(5), Wanted::Refused(Errno::WrongKind)),
+    (Request::Inc(5, 1, 70), Wanted::Refused(Errno::WrongKind)),
     (Request::Close(5, 80), Wanted::Woken(&[])),
     (
         Request::Test(5, Usage::Read),
-        Wanted::Refused(Refusal::NoEntry),
+        Wanted::Refused(Errno::NoEntry),
     ),
     (Request::Buffer(90), Wanted::Number(10)),
     // An exported fence is waited for even if each file that had it is closed.
@@ -94,6 +91,6 @@ fn buffers_are_waited_for_by_usage(rt: HostRuntime) -> Result<(), Fail> {
     }
     let (device, answers) = run(rt.alloc(), requests.as_slice())?;
     check(&rt, answers.as_slice(), asked());
-    check_kept(&rt, &device.kept(), [2, 9, 1, 1]);
+    check_table_sizes(&rt, &device.table_sizes(), [2, 9, 1, 1]);
     Ok(())
 }

@@ -1,6 +1,6 @@
 //! Requests about timelines and files, each with its answer.
 use crate::device::answers::{Wanted, check};
-use device_core::{Driver, Refusal, Request, Text, run};
+use device_core::{Errno, FenceDriver, Request, Text, run};
 use point_core::Status;
 use std::test::Fail;
 
@@ -32,8 +32,8 @@ static ASKED: [(Request, Wanted); 50] = [
     (Request::Close(8, 3), Wanted::Woken(&[10])),
     (Request::Status(9), Wanted::Status(Status::Signalled)),
     (Request::Status(10), Wanted::Status(Status::Cancelled)),
-    (Request::Inc(8, 1, 4), Wanted::Refused(Refusal::NoEntry)),
-    (Request::Fence(8, 9, 4), Wanted::Refused(Refusal::NoEntry)),
+    (Request::Inc(8, 1, 4), Wanted::Refused(Errno::NoEntry)),
+    (Request::Fence(8, 9, 4), Wanted::Refused(Errno::NoEntry)),
     // The first fence that is pending or has an error gives the status; a merge drops fences that have signalled.
     (Request::Open(Text::EMPTY), Wanted::Number(11)),
     (Request::Open(Text::EMPTY), Wanted::Number(12)),
@@ -46,27 +46,27 @@ static ASKED: [(Request, Wanted); 50] = [
     (Request::IsSignalled(15), Wanted::Signalled(false)),
     (
         Request::Merge(15, 11, Text::EMPTY),
-        Wanted::Refused(Refusal::NoEntry),
+        Wanted::Refused(Errno::NoEntry),
     ),
-    (Request::Inc(13, 1, 2), Wanted::Refused(Refusal::WrongKind)),
+    (Request::Inc(13, 1, 2), Wanted::Refused(Errno::WrongKind)),
     (Request::Merge(15, 14, Text::EMPTY), Wanted::Number(17)),
     (Request::Inc(12, 1, 3), Wanted::Woken(&[14, 15, 16, 17])),
     (Request::Status(16), Wanted::Status(Status::Cancelled)),
     (Request::Status(17), Wanted::Status(Status::Signalled)),
     // A number is gone once it is closed, and a merge of signalled files is a stub.
     (Request::Close(15, 4), Wanted::Woken(&[])),
-    (Request::Status(15), Wanted::Refused(Refusal::NoEntry)),
+    (Request::Status(15), Wanted::Refused(Errno::NoEntry)),
     (Request::Merge(13, 16, Text::EMPTY), Wanted::Number(18)),
     (Request::Status(18), Wanted::Status(Status::Signalled)),
-    (Request::Status(12), Wanted::Refused(Refusal::WrongKind)),
-    (Request::Close(99, 5), Wanted::Refused(Refusal::NoEntry)),
+    (Request::Status(12), Wanted::Refused(Errno::WrongKind)),
+    (Request::Close(99, 5), Wanted::Refused(Errno::NoEntry)),
     // A file has the name of its fence, and a row for each fence with the time of its signal.
     (
         Request::Info(2),
         Wanted::Info(
             b"sw_sync-1-5",
             Status::Signalled,
-            &[(b"", Driver::SwSync, Status::Signalled, 30)],
+            &[(b"", FenceDriver::SwSync, Status::Signalled, 30)],
         ),
     ),
     (
@@ -75,8 +75,8 @@ static ASKED: [(Request, Wanted); 50] = [
             b"dma_fence_array-unbound16-1",
             Status::Cancelled,
             &[
-                (b"", Driver::SwSync, Status::Cancelled, 2),
-                (b"", Driver::SwSync, Status::Signalled, 3),
+                (b"", FenceDriver::SwSync, Status::Cancelled, 2),
+                (b"", FenceDriver::SwSync, Status::Signalled, 3),
             ],
         ),
     ),
@@ -85,7 +85,7 @@ static ASKED: [(Request, Wanted); 50] = [
         Wanted::Info(
             b"stub-stub0-0",
             Status::Signalled,
-            &[(b"stub", Driver::Stub, Status::Signalled, 3)],
+            &[(b"stub", FenceDriver::Stub, Status::Signalled, 3)],
         ),
     ),
 ];

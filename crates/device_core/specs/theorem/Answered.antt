@@ -7,16 +7,16 @@ use Rattle.point_core.specs.declared.status.Status.TheVariants.{Active, Signalle
 use Rattle.point_core.specs.Agreement.{all_reached}
 use Rattle.point_core.specs.Usage.{usage_number}
 use Rattle.point_core.specs.Reach.{GREATEST}
-use Rattle.device_core.specs.declared.fence.Text.{Text}
-use Rattle.device_core.specs.declared.info.Driver.TheVariants.{SwSync}
+use Rattle.device_core.specs.declared.text.Text.{Text}
+use Rattle.device_core.specs.declared.info.FenceDriver.TheVariants.{SwSync}
 use Rattle.device_core.specs.declared.info.FenceInfo.{FenceInfo}
 use Rattle.device_core.specs.declared.info.FileInfo.{FileInfo}
-use Rattle.device_core.specs.declared.refusal.Refusal.{Refusal}
-use Rattle.device_core.specs.declared.refusal.Refusal.TheVariants.{NoMemory}
+use Rattle.device_core.specs.declared.errno.Errno.{Errno}
+use Rattle.device_core.specs.declared.errno.Errno.TheVariants.{NoMemory}
 use Rattle.device_core.specs.declared.request.Request.{Request}
 use Rattle.device_core.specs.declared.request.Request.TheVariants as request
-use Rattle.device_core.specs.declared.request.Answer.{Answer}
-use Rattle.device_core.specs.declared.request.Answer.TheVariants as answer
+use Rattle.device_core.specs.declared.request.Reply.{Reply}
+use Rattle.device_core.specs.declared.request.Reply.TheVariants as answer
 use Rattle.device_core.specs.theorem.Names.{array_name, as_text, kernel_name, stub_name, text_of}
 use Rattle.device_core.specs.theorem.Info.{stub_info}
 use Rattle.device_core.specs.theorem.State.{empty_text}
@@ -117,7 +117,7 @@ pub record IsInfoOf (history : List Request) (number : ℕ) (info : FileInfo) : 
   pub rows : info.fences.items ≡ rows_of history number (made_in history number)
 
 -- the answer is such information
-abbrev pub OnInfoOf : (FileInfo → Type 0) → Answer → Type 0
+abbrev pub OnInfoOf : (FileInfo → Type 0) → Reply → Type 0
 OnInfoOf such (answer.Number n) = ⊥
 OnInfoOf such (answer.Woken woken) = ⊥
 OnInfoOf such (answer.Status status) = ⊥
@@ -126,7 +126,7 @@ OnInfoOf such (answer.Info info) = such info
 OnInfoOf such answer.Done = ⊥
 
 -- the answer to an accepted request
-abbrev pub Answers : List Request → Request → Answer → Type 0
+abbrev pub Answers : List Request → Request → Reply → Type 0
 Answers history (request.Open name) given = given ≡ answer.Number (length (kinds history) + 1)
 Answers history (request.Fence timeline point now) given = given ≡ answer.Number (length (kinds history) + 1)
 Answers history (request.Inc timeline n now) given = OnWoken (AreWokenBy history (request.Inc timeline n now)) given
@@ -142,17 +142,17 @@ Answers history (request.Test buffer usage) given =
     given ≡ answer.Signalled (is_reached_at history (usage_number usage) buffer)
 
 -- the refusal is the first cause, or that memory is short if there is none
-abbrev pub Refuses : Option Refusal → List Request → Request → Refusal → Type 0
+abbrev pub Refuses : Option Errno → List Request → Request → Errno → Type 0
 Refuses (Some cause) history r given = given ≡ cause
 Refuses None history r given = (given ≡ NoMemory) × MayLackMemory history r
 
 -- the answer or refusal of a request after a history
-abbrev pub IsAnswered : List Request → Request → Result Answer Refusal → Type 0
+abbrev pub IsAnswered : List Request → Request → Result Reply Errno → Type 0
 IsAnswered history r (Ok given) = (first_cause (causes history r) ≡ None) × Answers history r given
 IsAnswered history r (Err refusal) = Refuses (first_cause (causes history r)) history r refusal
 
 -- each request is answered so, after the requests accepted before it
-abbrev pub AreAnswered : List Request → List Request → List (Result Answer Refusal) → Type 0
+abbrev pub AreAnswered : List Request → List Request → List (Result Reply Errno) → Type 0
 AreAnswered history [] [] = ⊤
 AreAnswered history [] (a ∷ rest) = ⊥
 AreAnswered history (r ∷ rs) [] = ⊥

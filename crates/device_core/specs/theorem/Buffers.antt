@@ -11,8 +11,8 @@ use Rattle.device_core.specs.declared.fence.Fence.{Fence}
 use Rattle.device_core.specs.declared.fence.Timeline.{Timeline}
 use Rattle.device_core.specs.declared.buffer.TheConstants.{GROWTH, UNTRIMMED}
 use Rattle.device_core.specs.declared.buffer_fence.BufferFence.{BufferFence}
-use Rattle.device_core.specs.declared.refusal.Refusal.{Refusal}
-use Rattle.device_core.specs.declared.refusal.Refusal.TheVariants.{Invalid}
+use Rattle.device_core.specs.declared.errno.Errno.{Errno}
+use Rattle.device_core.specs.declared.errno.Errno.TheVariants.{Invalid}
 use Rattle.device_core.specs.theorem.Fences.{are_signalled, fence_of, pending_of, with_fence}
 
 -- a buffer: its fences, how many it had after the import that trimmed it last, and the time of the stub of an idle buffer
@@ -49,11 +49,11 @@ pub record IsReachOf (timelines : ℕ → Option Timeline) (hs : List BufferFenc
   pub closed : (h : BufferFence) → Contains hs h → timelines h.timeline ≡ None → h.value ≤ value_at reach h.timeline
 
 -- the weakest usage for which an access with these flags waits: writers if it only reads, else readers too
-abbrev pub export_usage : ℕ → Result Usage Refusal
+abbrev pub export_usage : ℕ → Result Usage Errno
 export_usage flags = if flags == 1 then Ok Write else if flags == 2 || flags == 3 then Ok Read else Err Invalid
 
 -- the usage of such an access: reading if it only reads, else writing
-abbrev pub import_usage : ℕ → Result Usage Refusal
+abbrev pub import_usage : ℕ → Result Usage Errno
 import_usage flags = if flags == 1 then Ok Read else if flags == 2 || flags == 3 then Ok Write else Err Invalid
 
 abbrev pub put_as : Usage → Fence → BufferFence

@@ -8,10 +8,10 @@ use Rattle.point_core.specs.declared.status.Status.{Status}
 use Rattle.point_core.specs.declared.status.Status.TheVariants.{Active, Signalled, Cancelled}
 use Rattle.point_core.specs.Agreement.{as_entries, point_of}
 use Rattle.point_core.specs.Reach.{value_at}
-use Rattle.device_core.specs.declared.fence.Text.{Text}
+use Rattle.device_core.specs.declared.text.Text.{Text}
 use Rattle.device_core.specs.declared.fence.Signal.{Signal}
 use Rattle.device_core.specs.declared.fence.Fence.{Fence}
-use Rattle.device_core.specs.declared.waiting.Waiting.{Waiting}
+use Rattle.device_core.specs.declared.waiting_files.Waiter.{Waiter}
 
 abbrev pub signal_at : ℕ → Bool → Signal
 signal_at now cancelled = record { at = now; is_cancelled = cancelled }
@@ -93,11 +93,11 @@ abbrev pub HasRisingTimelines : List Fence → Type 0
 HasRisingTimelines fs = IsStrictlyIncreasing (map (λ (f : Fence). f.timeline) fs)
 
 -- a file's number, at a point for which it waits
-abbrev pub waiting : ℕ → Fence → Waiting
-waiting file f = record { timeline = f.timeline; value = f.value; file = file }
+abbrev pub waiter : ℕ → Fence → Waiter
+waiter file f = record { timeline = f.timeline; value = f.value; file = file }
 
 -- some pending fence is at that point
-abbrev pub waits_at : Waiting → List Fence → Bool
+abbrev pub waits_at : Waiter → List Fence → Bool
 waits_at k fs = list_any (λ f. is_pending f && (nat_eq f.timeline k.timeline && nat_eq f.value k.value)) fs
 
 -- a fence that has signalled is reached

@@ -9,9 +9,9 @@ use Rattle.point_core.specs.declared.status.Status.TheVariants.{Signalled}
 use Rattle.device_core.specs.declared.fence.Fence.{Fence}
 use Rattle.device_core.specs.declared.fence.Signal.{Signal}
 use Rattle.device_core.specs.declared.fence.Timeline.{Timeline}
-use Rattle.device_core.specs.declared.refusal.Refusal.{Refusal}
+use Rattle.device_core.specs.declared.errno.Errno.{Errno}
 use Rattle.device_core.specs.declared.request.Request.{Request}
-use Rattle.device_core.specs.declared.request.Answer.{Answer}
+use Rattle.device_core.specs.declared.request.Reply.{Reply}
 use Rattle.device_core.specs.theorem.Fences.{are_signalled, entries_in, pending_of, point_in, status_before, status_of, HasRisingTimelines}
 use Rattle.device_core.specs.theorem.State.{FileState, DeviceState, file_at, timeline_at, buffer_at}
 use Rattle.device_core.specs.theorem.Buffers.{BufferState, at_usage, entries_of, exported, none_waits}
@@ -105,12 +105,12 @@ pub record ReportsSums (d : DeviceState) (history : List Request) : Type 0 where
   pub values : (n : ℕ) (t : Timeline) → timeline_at d n ≡ Some t → t.value ≡ sum_of n history
 
 -- the objects that are made have the numbers from 1 on, one after another, so none is given twice
-pub record ReportsNumbers (d : DeviceState) (given : List (Result Answer Refusal)) : Type 0 where
+pub record ReportsNumbers (d : DeviceState) (given : List (Result Reply Errno)) : Type 0 where
   pub rising : numbers_given given ≡ range_with_len 1 (d.next - 1)
 
 -- each file that waits when it is made is later woken, or is closed while it waits, or still waits, and only one of
 -- these
-pub record ReportsEachWaking (d : DeviceState) (history : List Request) (given : List (Result Answer Refusal))
+pub record ReportsEachWaking (d : DeviceState) (history : List Request) (given : List (Result Reply Errno))
     : Type 0 where
   pub each : (n : ℕ) →
       times_begun n history ≡ times_woken n given + times_dropped n history + one_if (is_waiting (file_at d n))

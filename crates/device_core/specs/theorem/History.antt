@@ -7,10 +7,10 @@ use Rattle.point_core.specs.declared.entry.Usage.{Usage}
 use Rattle.point_core.specs.Agreement.{as_entry, point_of}
 use Rattle.point_core.specs.Reach.{GREATEST}
 use Rattle.device_core.specs.declared.fence.Timeline.{Timeline}
-use Rattle.device_core.specs.declared.refusal.Refusal.{Refusal}
+use Rattle.device_core.specs.declared.errno.Errno.{Errno}
 use Rattle.device_core.specs.declared.request.Request.{Request}
 use Rattle.device_core.specs.declared.request.Request.TheVariants as request
-use Rattle.device_core.specs.declared.request.Answer.{Answer}
+use Rattle.device_core.specs.declared.request.Reply.{Reply}
 use Rattle.device_core.specs.theorem.Wrapping.{unwrapped}
 use Rattle.device_core.specs.theorem.Buffers.{at_usage, export_usage, import_usage}
 use Rattle.device_core.specs.theorem.BufferWorld.{put_with}
@@ -31,12 +31,12 @@ abbrev pub asked : ℕ → Option Timeline → ℕ → List Entry
 asked number timeline point = as_entry (point_of number (unwrapped (value_in timeline) point)) ∷ []
 
 -- the entries that an export puts into its file, from those put into the buffer
-abbrev pub put_by_export : Result Usage Refusal → List Entry → List Entry
+abbrev pub put_by_export : Result Usage Errno → List Entry → List Entry
 put_by_export (Ok usage) put = at_usage usage put
 put_by_export (Err refusal) put = []
 
 -- the entries in a buffer after an import, from those put into both
-abbrev pub put_by_import : Result Usage Refusal → List Entry → List Entry → List Entry
+abbrev pub put_by_import : Result Usage Errno → List Entry → List Entry → List Entry
 put_by_import (Ok usage) put more = put ++ put_with usage more
 put_by_import (Err refusal) put more = put
 
@@ -80,18 +80,18 @@ pub record HasHistory (d : DeviceState) (history : List Request) : Type 0 where
   pub is : objects_of d ≡ (world_of history).objects
 
 -- the history after a request with this answer
-abbrev pub history_after : List Request → Request → Result Answer Refusal → List Request
+abbrev pub history_after : List Request → Request → Result Reply Errno → List Request
 history_after history r (Ok given) = history ++ r ∷ []
 history_after history r (Err refusal) = history
 
 -- the history after requests with these answers
-abbrev pub history_of : List Request → List Request → List (Result Answer Refusal) → List Request
+abbrev pub history_of : List Request → List Request → List (Result Reply Errno) → List Request
 history_of history [] given = history
 history_of history (r ∷ rs) [] = history
 history_of history (r ∷ rs) (a ∷ rest) = history_of (history_after history r a) rs rest
 
 -- each request has its answer, one after another
-abbrev pub AreAnswers : List Request → List Request → List (Result Answer Refusal) → Type 0
+abbrev pub AreAnswers : List Request → List Request → List (Result Reply Errno) → Type 0
 AreAnswers history [] [] = ⊤
 AreAnswers history [] (a ∷ rest) = ⊥
 AreAnswers history (r ∷ rs) [] = ⊥

@@ -2,8 +2,8 @@
 use Rattle.std.specs.Prelude.{◌≡◌, ℕ, ◌==◌, if◌then◌else◌, List, [], ◌∷◌, length, map, codes}
 use Rattle.point_core.specs.declared.status.Status.TheVariants.{Signalled}
 use Rattle.device_core.specs.declared.fence.Fence.{Fence}
-use Rattle.device_core.specs.declared.info.Driver.{Driver}
-use Rattle.device_core.specs.declared.info.Driver.TheVariants.{SwSync, Stub}
+use Rattle.device_core.specs.declared.info.FenceDriver.{FenceDriver}
+use Rattle.device_core.specs.declared.info.FenceDriver.TheVariants.{SwSync, Stub}
 use Rattle.device_core.specs.declared.info.FenceInfo.{FenceInfo}
 use Rattle.device_core.specs.declared.info.FileInfo.{FileInfo}
 use Rattle.device_core.specs.theorem.Fences.{status_before, status_of, time_of}
@@ -11,7 +11,7 @@ use Rattle.device_core.specs.theorem.Names.{as_text, file_name}
 use Rattle.device_core.specs.theorem.State.{FileState}
 
 -- the kernel's name of a driver
-abbrev pub driver_name : Driver → List ℕ
+abbrev pub driver_name : FenceDriver → List ℕ
 driver_name SwSync = codes "sw_sync"
 driver_name Stub = codes "stub"
 

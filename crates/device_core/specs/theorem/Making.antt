@@ -3,7 +3,7 @@
 use Rattle.std.specs.Prelude.{ℕ, ◌+◌, ◌%◌, ◌^◌, ◌==◌, max, if◌then◌else◌, List, [], ◌∷◌, ◌++◌, length, map, fold, is_some, unwrap_or}
 use Rattle.point_core.specs.declared.entry.Point.{Point}
 use Rattle.point_core.specs.Agreement.{point_of}
-use Rattle.device_core.specs.declared.fence.Text.{Text}
+use Rattle.device_core.specs.declared.text.Text.{Text}
 use Rattle.device_core.specs.declared.request.Request.{Request}
 use Rattle.device_core.specs.declared.request.Request.TheVariants as request
 use Rattle.device_core.specs.theorem.Wrapping.{unwrapped}

@@ -6,7 +6,7 @@ use Rattle.point_core.specs.declared.entry.Entry.{Entry}
 use Rattle.point_core.specs.Agreement.{covers}
 use Rattle.point_core.specs.Reach.{is_reached}
 use Rattle.device_core.specs.declared.buffer.TheConstants.{GROWTH, UNTRIMMED}
-use Rattle.device_core.specs.declared.kept.Kept.{Kept}
+use Rattle.device_core.specs.declared.device.TableSizes.{TableSizes}
 use Rattle.device_core.specs.declared.request.Request.{Request}
 use Rattle.device_core.specs.theorem.Fences.{pending_of}
 use Rattle.device_core.specs.theorem.History.{World, empty_world, reach_of, world_after}
@@ -14,8 +14,8 @@ use Rattle.device_core.specs.theorem.Buffers.{BufferState}
 use Rattle.device_core.specs.theorem.State.{DeviceState, FileState, Objects, objects_of, timeline_at, file_at, buffer_at}
 
 -- the number of entries of its tables, and the length of the index
-abbrev pub kept_of : DeviceState → Kept
-kept_of d = record {
+abbrev pub table_sizes_of : DeviceState → TableSizes
+table_sizes_of d = record {
   timelines = length d.timelines;
   files = length d.files;
   buffers = length d.buffers;

@@ -1,6 +1,6 @@
 -- The names of a file and of its fences as the kernel reports them, to the byte.
 use Rattle.std.specs.Prelude.{ℕ, ◌==◌, ◌-◌, if◌then◌else◌, List, [], ◌∷◌, ◌++◌, length, take, replicate, codes, decimal}
-use Rattle.device_core.specs.declared.fence.Text.{Text}
+use Rattle.device_core.specs.declared.text.Text.{Text}
 use Rattle.device_core.specs.declared.fence.Fence.{Fence}
 use Rattle.device_core.specs.declared.text.TheConstants.{TEXT_BYTES}
 use Rattle.device_core.specs.theorem.State.{FileState}

@@ -4,15 +4,15 @@ use Rattle.std.specs.List.{list_any, range_with_len}
 use Rattle.std.specs.List.Sorted.{IsStrictlyIncreasing}
 use Rattle.point_core.specs.Reach.{GREATEST}
 use Rattle.point_core.specs.declared.entry.Usage.{Usage}
-use Rattle.device_core.specs.declared.fence.Text.{Text}
+use Rattle.device_core.specs.declared.text.Text.{Text}
 use Rattle.device_core.specs.declared.fence.Signal.{Signal}
 use Rattle.device_core.specs.declared.fence.Timeline.{Timeline}
-use Rattle.device_core.specs.declared.refusal.Refusal.{Refusal}
-use Rattle.device_core.specs.declared.refusal.Refusal.TheVariants.{NoEntry, NoMemory, NoNumber, Invalid, Overflow}
+use Rattle.device_core.specs.declared.errno.Errno.{Errno}
+use Rattle.device_core.specs.declared.errno.Errno.TheVariants.{NoEntry, NoMemory, NoNumber, Invalid, Overflow}
 use Rattle.device_core.specs.declared.request.Request.{Request}
 use Rattle.device_core.specs.declared.request.Request.TheVariants as request
-use Rattle.device_core.specs.declared.request.Answer.{Answer}
-use Rattle.device_core.specs.declared.request.Answer.TheVariants as answer
+use Rattle.device_core.specs.declared.request.Reply.{Reply}
+use Rattle.device_core.specs.declared.request.Reply.TheVariants as answer
 use Rattle.device_core.specs.theorem.Wrapping.{unwrapped}
 use Rattle.device_core.specs.theorem.Fences.{signal_at, are_signalled, status_of}
 use Rattle.device_core.specs.theorem.Buffers.{BufferState, empty_buffer, export_usage, import_usage, none_waits}
@@ -83,23 +83,23 @@ after d (request.Import buffer file flags) =
 after d (request.Test buffer usage) = d
 
 -- it does not fit 64 bits
-abbrev pub overflow : ℕ → Option Refusal
+abbrev pub overflow : ℕ → Option Errno
 overflow value = if nat_le (2 ^ 64) value then Some Overflow else None
 
 -- the cause at an open timeline, or the error for a number without one
-abbrev pub cause_at_timeline : Objects → ℕ → Option Refusal → Option Refusal
+abbrev pub cause_at_timeline : Objects → ℕ → Option Errno → Option Errno
 cause_at_timeline d number cause = if is_some (d.timelines number) then cause else Some (missing_timeline d number)
 
 -- the cause at a file, or the error for a number without one
-abbrev pub cause_at_file : Objects → ℕ → Option Refusal → Option Refusal
+abbrev pub cause_at_file : Objects → ℕ → Option Errno → Option Errno
 cause_at_file d number cause = if is_some (d.files number) then cause else Some (missing_file d number)
 
 -- the cause at a buffer, or the error for a number without one
-abbrev pub cause_at_buffer : Objects → ℕ → Option Refusal → Option Refusal
+abbrev pub cause_at_buffer : Objects → ℕ → Option Errno → Option Errno
 cause_at_buffer d number cause = if is_some (d.buffers number) then cause else Some (missing_buffer d number)
 
 -- the cause after valid flags, or the error of the flags
-abbrev pub cause_after : Result Usage Refusal → Option Refusal → Option Refusal
+abbrev pub cause_after : Result Usage Errno → Option Errno → Option Errno
 cause_after (Ok usage) cause = cause
 cause_after (Err refusal) cause = Some refusal
 
@@ -108,11 +108,11 @@ abbrev pub is_there : Objects → ℕ → Bool
 is_there d number = is_some (d.timelines number) || (is_some (d.files number) || is_some (d.buffers number))
 
 -- the cause for a request that makes an object, after there is a number for it
-abbrev pub cause_if_numbered : Objects → Option Refusal → Option Refusal
+abbrev pub cause_if_numbered : Objects → Option Errno → Option Errno
 cause_if_numbered d cause = if nat_le GREATEST d.next then Some NoNumber else cause
 
 -- the first cause to refuse a request, other than memory
-abbrev pub cause_of : Objects → Request → Option Refusal
+abbrev pub cause_of : Objects → Request → Option Errno
 cause_of d (request.Open name) = cause_if_numbered d None
 cause_of d (request.Fence timeline point now) =
     cause_if_numbered d
@@ -165,7 +165,7 @@ pub record AreWoken (old new : Objects) (woken : List ℕ) : Type 0 where
   pub rising : IsStrictlyIncreasing woken
 
 -- the answer has such a list
-abbrev pub OnWoken : (List ℕ → Type 0) → Answer → Type 0
+abbrev pub OnWoken : (List ℕ → Type 0) → Reply → Type 0
 OnWoken such (answer.Number n) = ⊥
 OnWoken such (answer.Woken woken) = such woken.items
 OnWoken such (answer.Status status) = ⊥
@@ -174,12 +174,12 @@ OnWoken such (answer.Info info) = ⊥
 OnWoken such answer.Done = ⊥
 
 -- the answer reports on an object that is there
-abbrev pub OnObject : {X : Type 0} → Option X → (X → Answer) → Answer → Type 0
+abbrev pub OnObject : {X : Type 0} → Option X → (X → Reply) → Reply → Type 0
 OnObject None told given = ⊥
 OnObject (Some x) told given = given ≡ told x
 
 -- the answer is the information on the file with this number
-abbrev pub OnInfo : ℕ → Option FileState → Answer → Type 0
+abbrev pub OnInfo : ℕ → Option FileState → Reply → Type 0
 OnInfo number None given = ⊥
 OnInfo number (Some f) (answer.Number n) = ⊥
 OnInfo number (Some f) (answer.Woken woken) = ⊥
@@ -189,7 +189,7 @@ OnInfo number (Some f) (answer.Info info) = IsInfo number f info
 OnInfo number (Some f) answer.Done = ⊥
 
 -- the answer to an accepted request
-abbrev pub Reports : Objects → Request → Answer → Type 0
+abbrev pub Reports : Objects → Request → Reply → Type 0
 Reports d (request.Open name) given = given ≡ answer.Number d.next
 Reports d (request.Fence timeline point now) given = given ≡ answer.Number d.next
 Reports d (request.Inc timeline n now) given = OnWoken (AreWoken d (risen d timeline n now)) given
@@ -206,11 +206,11 @@ Reports d (request.Test buffer usage) given =
     OnObject (d.buffers buffer) (λ b. answer.Signalled (none_waits d.timelines usage b.fences)) given
 
 -- the refusal is the first cause, or that memory is short if there is none
-abbrev pub IsCause : Option Refusal → Bool → Refusal → Type 0
+abbrev pub IsCause : Option Errno → Bool → Errno → Type 0
 IsCause (Some cause) takes given = given ≡ cause
 IsCause None takes given = (given ≡ NoMemory) × (takes ≡ true)
 
 -- the answer of a device to a request
-abbrev pub IsAnswer : Objects → Request → Result Answer Refusal → Type 0
+abbrev pub IsAnswer : Objects → Request → Result Reply Errno → Type 0
 IsAnswer d asked (Ok given) = (cause_of d asked ≡ None) × Reports d asked given
 IsAnswer d asked (Err refusal) = IsCause (cause_of d asked) (takes_memory d asked) refusal

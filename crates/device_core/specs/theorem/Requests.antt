@@ -3,8 +3,8 @@
 use Rattle.std.specs.Prelude.{ℕ, zero, suc, ◌+◌, ◌^◌, ◌==◌, nat_eq, nat_le, Bool, true, false, not, ◌&&◌, ◌||◌, if◌then◌else◌, List, [], ◌∷◌, ◌++◌, length, slice_get, Option, None, Some, is_some, ⊤, ◌<◌, All}
 use Rattle.std.specs.List.{filter_map, list_any}
 use Rattle.point_core.specs.Reach.{GREATEST}
-use Rattle.device_core.specs.declared.refusal.Refusal.{Refusal}
-use Rattle.device_core.specs.declared.refusal.Refusal.TheVariants.{NoEntry, WrongKind, NoNumber, Invalid, Overflow}
+use Rattle.device_core.specs.declared.errno.Errno.{Errno}
+use Rattle.device_core.specs.declared.errno.Errno.TheVariants.{NoEntry, WrongKind, NoNumber, Invalid, Overflow}
 use Rattle.device_core.specs.declared.request.Request.{Request}
 use Rattle.device_core.specs.declared.request.Request.TheVariants as request
 use Rattle.device_core.specs.theorem.Wrapping.{unwrapped}
@@ -79,34 +79,34 @@ is_buffer (Some TimelineKind) = false
 is_buffer (Some FileKind) = false
 is_buffer (Some BufferKind) = true
 
-abbrev pub cause : Bool → Refusal → Bool × Refusal
+abbrev pub cause : Bool → Errno → Bool × Errno
 cause holds refusal = (holds, refusal)
 
 -- the first refusal whose cause holds
-abbrev pub first_cause : List (Bool × Refusal) → Option Refusal
+abbrev pub first_cause : List (Bool × Errno) → Option Errno
 first_cause [] = None
 first_cause (c ∷ cs) = if c.0 then Some c.1 else first_cause cs
 
 -- the number's object is open, but of another kind than wanted, or no object with the number is open
-abbrev pub unless_open : (Option Kind → Bool) → Option Kind → List (Bool × Refusal)
+abbrev pub unless_open : (Option Kind → Bool) → Option Kind → List (Bool × Errno)
 unless_open is_wanted kind =
     cause (is_some kind && not (is_wanted kind)) WrongKind ∷ cause (not (is_some kind)) NoEntry ∷ []
 
 -- no number is left for another object
-abbrev pub unless_numbered : List Request → List (Bool × Refusal)
+abbrev pub unless_numbered : List Request → List (Bool × Errno)
 unless_numbered history = cause (nat_le GREATEST (length (kinds history) + 1)) NoNumber ∷ []
 
 -- the value doesn't fit 64 bits
-abbrev pub unless_fitting : ℕ → List (Bool × Refusal)
+abbrev pub unless_fitting : ℕ → List (Bool × Errno)
 unless_fitting value = cause (nat_le (2 ^ 64) value) Overflow ∷ []
 
 -- the flags of an export or an import are none of reading, writing and both
-abbrev pub unless_flags : ℕ → List (Bool × Refusal)
+abbrev pub unless_flags : ℕ → List (Bool × Errno)
 unless_flags flags = cause (not (flags == 1 || flags == 2 || flags == 3)) Invalid ∷ []
 
 -- the causes to refuse a request after a history, in the order in which they are reported. A request without these may
 -- only lack memory
-abbrev pub causes : List Request → Request → List (Bool × Refusal)
+abbrev pub causes : List Request → Request → List (Bool × Errno)
 causes history (request.Open name) = unless_numbered history
 causes history (request.Fence timeline point now) =
     unless_numbered history ++ unless_open is_timeline (open_kind history timeline)

@@ -4,7 +4,7 @@ use Rattle.point_core.specs.declared.entry.Point.{Point}
 use Rattle.point_core.specs.declared.status.Status.{Status}
 use Rattle.point_core.specs.declared.status.Status.TheVariants.{Active, Signalled, Cancelled}
 use Rattle.point_core.specs.Reach.{is_reached}
-use Rattle.device_core.specs.declared.fence.Text.{Text}
+use Rattle.device_core.specs.declared.text.Text.{Text}
 use Rattle.device_core.specs.declared.fence.Timeline.{Timeline}
 use Rattle.device_core.specs.declared.request.Request.{Request}
 use Rattle.device_core.specs.declared.request.Request.TheVariants as request

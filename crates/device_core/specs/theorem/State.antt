@@ -6,13 +6,13 @@ use Rattle.std.specs.declared.cmp.Ordering.{Ordering}
 use Rattle.std.specs.Ordering.{nat_cmp, ordering_then}
 use Rattle.std.specs.Map.{lookup}
 use Rattle.point_core.specs.declared.entry.Usage.{Usage}
-use Rattle.device_core.specs.declared.fence.Text.{Text}
+use Rattle.device_core.specs.declared.text.Text.{Text}
 use Rattle.device_core.specs.declared.fence.Signal.{Signal}
 use Rattle.device_core.specs.declared.fence.Fence.{Fence}
 use Rattle.device_core.specs.declared.fence.Timeline.{Timeline}
-use Rattle.device_core.specs.declared.waiting.Waiting.{Waiting}
-use Rattle.device_core.specs.declared.refusal.Refusal.{Refusal}
-use Rattle.device_core.specs.declared.refusal.Refusal.TheVariants.{NoEntry, WrongKind}
+use Rattle.device_core.specs.declared.waiting_files.Waiter.{Waiter}
+use Rattle.device_core.specs.declared.errno.Errno.{Errno}
+use Rattle.device_core.specs.declared.errno.Errno.TheVariants.{NoEntry, WrongKind}
 use Rattle.device_core.specs.theorem.Wrapping.{unwrapped}
 use Rattle.device_core.specs.theorem.Fences.{latest_time, merged, waits_at, all_signalled_by, fence_of, signal_at}
 use Rattle.device_core.specs.theorem.Buffers.{BufferState, exported, import_into}
@@ -33,7 +33,7 @@ pub record DeviceState : Type 0 where
   pub files : List (ℕ × FileState)
   pub buffers : List (ℕ × BufferState)
   -- the points for which files wait, in order
-  pub index : List Waiting
+  pub index : List Waiter
 
 abbrev pub nothing : DeviceState
 nothing = record { next = 1; timelines = []; files = []; buffers = []; index = [] }
@@ -105,61 +105,61 @@ exported_file timelines usage b =
     file_of empty_text fences (if length fences == 0 then b.stub_at else 0)
 
 -- the export of an open buffer, at a valid usage
-abbrev pub export_of : (ℕ → Option Timeline) → Result Usage Refusal → Option BufferState → Option FileState
+abbrev pub export_of : (ℕ → Option Timeline) → Result Usage Errno → Option BufferState → Option FileState
 export_of timelines (Ok usage) buffer = option_map (exported_file timelines usage) buffer
 export_of timelines (Err refusal) buffer = None
 
 -- the buffer after the import of an open file, at a valid usage
 abbrev pub import_of :
-    (ℕ → Option Timeline) → Result Usage Refusal → Option FileState → Option BufferState → Option BufferState
+    (ℕ → Option Timeline) → Result Usage Errno → Option FileState → Option BufferState → Option BufferState
 import_of timelines (Ok usage) (Some f) buffer = option_map (import_into timelines usage f.fences) buffer
 import_of timelines (Ok usage) None buffer = buffer
 import_of timelines (Err refusal) file buffer = buffer
 
 -- the error for a number without a timeline, file or buffer
-abbrev pub missing_timeline : Objects → ℕ → Refusal
+abbrev pub missing_timeline : Objects → ℕ → Errno
 missing_timeline d number = if is_some (d.files number) || is_some (d.buffers number) then WrongKind else NoEntry
 
-abbrev pub missing_file : Objects → ℕ → Refusal
+abbrev pub missing_file : Objects → ℕ → Errno
 missing_file d number = if is_some (d.timelines number) || is_some (d.buffers number) then WrongKind else NoEntry
 
-abbrev pub missing_buffer : Objects → ℕ → Refusal
+abbrev pub missing_buffer : Objects → ℕ → Errno
 missing_buffer d number = if is_some (d.timelines number) || is_some (d.files number) then WrongKind else NoEntry
 
 -- the file after a timeline has signalled every pending point up to the value
 abbrev pub file_signalled : ℕ → ℕ → Signal → FileState → FileState
 file_signalled timeline value signal f = record f { fences = all_signalled_by timeline value signal f.fences }
 
-abbrev pub is_same : Waiting → Waiting → Bool
+abbrev pub is_same : Waiter → Waiter → Bool
 is_same a b = nat_eq a.timeline b.timeline && (nat_eq a.value b.value && nat_eq a.file b.file)
 
-abbrev pub holds : List Waiting → Waiting → Bool
+abbrev pub holds : List Waiter → Waiter → Bool
 holds ks k = list_any (is_same k) ks
 
 -- by timeline, then by value, then by file
-abbrev pub order : Waiting → Waiting → Ordering
+abbrev pub order : Waiter → Waiter → Ordering
 order a b =
     ordering_then (nat_cmp a.timeline b.timeline) (ordering_then (nat_cmp a.value b.value) (nat_cmp a.file b.file))
 
-abbrev pub AreInOrder : List Waiting → Type 0
+abbrev pub AreInOrder : List Waiter → Type 0
 AreInOrder ks = IsStrictlySortedBy order ks
 
 -- it is of that timeline, at or below the value
-abbrev pub is_due_at : ℕ → ℕ → Waiting → Bool
+abbrev pub is_due_at : ℕ → ℕ → Waiter → Bool
 is_due_at timeline value k = nat_eq k.timeline timeline && nat_le k.value value
 
 -- a file with these fences waits at that point
-abbrev pub waits_of : ℕ → List Fence → Waiting → Bool
+abbrev pub waits_of : ℕ → List Fence → Waiter → Bool
 waits_of file fs k = nat_eq k.file file && waits_at k fs
 
 -- an open file waits at that point
-abbrev pub file_waits : Waiting → Option FileState → Bool
+abbrev pub file_waits : Waiter → Option FileState → Bool
 file_waits k None = false
 file_waits k (Some f) = waits_at k f.fences
 
 -- the index has the pending points of the open files, and no others
-abbrev pub IsIndexed : List Waiting → List (ℕ × FileState) → Type 0
-IsIndexed index files = (k : Waiting) → holds index k ≡ file_waits k (at files k.file)
+abbrev pub IsIndexed : List Waiter → List (ℕ × FileState) → Type 0
+IsIndexed index files = (k : Waiter) → holds index k ≡ file_waits k (at files k.file)
 
 -- the files after a timeline has signalled every pending point up to the value
 abbrev pub AreSignalled : ℕ → ℕ → Signal → List (ℕ × FileState) → List (ℕ × FileState) → Type 0
@@ -168,7 +168,7 @@ AreSignalled timeline value signal old new =
 
 -- the invariant: no object has a number that was not given, no number is of two objects, and the index is the files'
 pub record IsKept (next : ℕ) (timelines : List (ℕ × Timeline)) (files : List (ℕ × FileState))
-    (buffers : List (ℕ × BufferState)) (index : List Waiting)
+    (buffers : List (ℕ × BufferState)) (index : List Waiter)
     : Type 0 where
   pub first : 1 ≤ next
   pub timelines_given : (n : ℕ) → next ≤ n → at timelines n ≡ None

@@ -1,16 +1,16 @@
 -- The numbers that a run gives, and how often each file begins to wait, is woken, and is closed while it waits.
 use Rattle.std.specs.Prelude.{ℕ, ◌+◌, nat_eq, Bool, not, ◌&&◌, if◌then◌else◌, List, [], ◌∷◌, count_by, is_some, Result, Ok, Err}
 use Rattle.std.specs.List.{flat_map}
-use Rattle.device_core.specs.declared.refusal.Refusal.{Refusal}
+use Rattle.device_core.specs.declared.errno.Errno.{Errno}
 use Rattle.device_core.specs.declared.request.Request.{Request}
-use Rattle.device_core.specs.declared.request.Answer.{Answer}
-use Rattle.device_core.specs.declared.request.Answer.TheVariants as answer
+use Rattle.device_core.specs.declared.request.Reply.{Reply}
+use Rattle.device_core.specs.declared.request.Reply.TheVariants as answer
 use Rattle.device_core.specs.theorem.State.{Objects}
 use Rattle.device_core.specs.theorem.Request.{is_waiting}
 use Rattle.device_core.specs.theorem.History.{World, world_after, empty_world}
 
 -- the number of the new object
-abbrev pub number_in : Answer → List ℕ
+abbrev pub number_in : Reply → List ℕ
 number_in (answer.Number n) = n ∷ []
 number_in (answer.Woken woken) = []
 number_in (answer.Status status) = []
@@ -19,7 +19,7 @@ number_in (answer.Info info) = []
 number_in answer.Done = []
 
 -- the files that are reported as signalled
-abbrev pub woken_in : Answer → List ℕ
+abbrev pub woken_in : Reply → List ℕ
 woken_in (answer.Number n) = []
 woken_in (answer.Woken woken) = woken.items
 woken_in (answer.Status status) = []
@@ -28,16 +28,16 @@ woken_in (answer.Info info) = []
 woken_in answer.Done = []
 
 -- for an accepted request
-abbrev pub in_accepted : (Answer → List ℕ) → Result Answer Refusal → List ℕ
+abbrev pub in_accepted : (Reply → List ℕ) → Result Reply Errno → List ℕ
 in_accepted told (Ok given) = told given
 in_accepted told (Err refusal) = []
 
 -- the numbers that are given, in their order
-abbrev pub numbers_given : List (Result Answer Refusal) → List ℕ
+abbrev pub numbers_given : List (Result Reply Errno) → List ℕ
 numbers_given given = flat_map (in_accepted number_in) given
 
 -- how often a file is reported as signalled
-abbrev pub times_woken : ℕ → List (Result Answer Refusal) → ℕ
+abbrev pub times_woken : ℕ → List (Result Reply Errno) → ℕ
 times_woken n given = count_by (nat_eq n) (flat_map (in_accepted woken_in) given)
 
 -- 1 if it holds, and else 0

@@ -1,6 +1,6 @@
 //! The requests about buffers. As in `device.rt`, each finds its causes of refusal first.
 ghost use Rattle.std.specs.Prelude.{◌≡◌, ℕ, ◌+◌, nat_eq, if◌then◌else◌, Some, None, option_map, OnOk, OnErr, IfOk, IfErr, MatchOption, Ok, Err, true};
-ghost use Rattle.device_core.specs.declared.refusal.Refusal.TheVariants.{NoMemory};
+ghost use Rattle.device_core.specs.declared.errno.Errno.TheVariants.{NoMemory};
 ghost use Rattle.device_core.specs.theorem.Buffers.{empty_buffer, export_usage as export_usage_of, import_usage as import_usage_of, import_into as imported_into, none_waits};
 ghost use Rattle.device_core.specs.theorem.State.{at, timeline_at, file_at, buffer_at, file_of, empty_text, missing_buffer, export_of, import_of, objects_of};
 ghost use Rattle.device_core.specs.declared.request.Request.TheVariants as request;
@@ -8,10 +8,11 @@ ghost use Rattle.device_core.specs.theorem.Request.{IsCause, cause_after, cause_
 
 use super::Device;
 use crate::buffer::Buffer;
-use crate::fence::{Fence, Text};
-use crate::refusal::Refusal;
+use crate::errno::Errno;
+use crate::fence::Fence;
 use crate::sync_flags::{export_usage, import_usage};
-use crate::timelines::Timelines;
+use crate::text::Text;
+use crate::timelines::OpenTimelines;
 use point_core::Usage;
 use std::collections::HashMap;
 
@@ -19,7 +20,7 @@ impl Device {
     /// Makes a buffer without fences, whose exports are stubs of that time.
     ///
     /// Fails with `NoNumber`, then with `NoMemory`; nothing is made then.
-    pub fn buffer(&mut self, now: u64) -> Result<u64, Refusal>
+    pub fn buffer(&mut self, now: u64) -> Result<u64, Errno>
         ensures number { IfOk result (λ n. (n ≡ self.old.next) × (self.new.next ≡ n + 1)) }
         ensures made { IfOk result (λ n. (q : ℕ) →
             buffer_at self.new q ≡ (if nat_eq n q then Some (empty_buffer now) else buffer_at self.old q)) }
@@ -36,7 +37,7 @@ impl Device {
                 self.next = number + 1;
                 Ok(number)
             }
-            Err(_) => Err(Refusal::NoMemory),
+            Err(_) => Err(Errno::NoMemory),
         }
     }
 
@@ -46,7 +47,7 @@ impl Device {
     ///
     /// Fails with `NoNumber`, then with `NoEntry`, or with `WrongKind` at a timeline or a file, then with `Invalid` for
     /// flags that are none, then with `NoMemory`; nothing is made then.
-    pub fn export(&mut self, buffer: u64, flags: u32) -> Result<u64, Refusal>
+    pub fn export(&mut self, buffer: u64, flags: u32) -> Result<u64, Errno>
         ensures number { IfOk result (λ n. (n ≡ self.old.next) × (self.new.next ≡ n + 1)) }
         ensures made { IfOk result (λ n. (q : ℕ) → file_at self.new q ≡
             (if nat_eq n q
@@ -64,7 +65,7 @@ impl Device {
         self.add_file(Text::EMPTY, fences, stub_at)
     }
 
-    fn export_of(&self, buffer: u64, flags: u32) -> Result<(Vec<Fence>, u64), Refusal>
+    fn export_of(&self, buffer: u64, flags: u32) -> Result<(Vec<Fence>, u64), Errno>
         ensures exported { IfOk result (λ r. Some (file_of empty_text r.0.items r.1)
             ≡ export_of (timeline_at self.now) (export_usage_of flags) (buffer_at self.now buffer)) }
         ensures known { OnOk result
@@ -90,7 +91,7 @@ impl Device {
     ///
     /// Fails with `NoEntry`, or with `WrongKind` at a timeline or a file in place of the buffer, then with `Invalid` for
     /// flags that are none or if there is no such file, then with `NoMemory`; nothing has changed then.
-    pub fn import(&mut self, buffer: u64, file: u64, flags: u32) -> Result<(), Refusal>
+    pub fn import(&mut self, buffer: u64, file: u64, flags: u32) -> Result<(), Errno>
         ensures imported { OnOk result ((q : ℕ) → buffer_at self.new q ≡
             (if nat_eq buffer q
             then import_of (timeline_at self.old) (import_usage_of flags) (file_at self.old file)
@@ -109,7 +110,7 @@ impl Device {
         }
         let usage = import_usage(flags)?;
         let Some(known) = self.files.get(&file) else {
-            return Err(Refusal::Invalid);
+            return Err(Errno::Invalid);
         };
         let fences = known.fences.as_slice();
         import_into(&mut self.buffers, buffer, &self.timelines, fences, usage)
@@ -119,7 +120,7 @@ impl Device {
     /// read, and the readers too before a write.
     ///
     /// Fails with `NoEntry`, or with `WrongKind` at a timeline or a file. Does not allocate.
-    pub fn test(&self, buffer: u64, usage: Usage) -> Result<bool, Refusal>
+    pub fn test(&self, buffer: u64, usage: Usage) -> Result<bool, Errno>
         ensures known { MatchOption (buffer_at self.now buffer)
             (result ≡ Err (missing_buffer (objects_of self.now) buffer))
             (λ b. result ≡ Ok (none_waits (timeline_at self.now) usage b.fences)) }
@@ -131,13 +132,13 @@ impl Device {
     }
 
     // The error for a number without a buffer.
-    fn unknown_buffer(&self, number: u64) -> Refusal
+    fn unknown_buffer(&self, number: u64) -> Errno
         ensures { result ≡ missing_buffer (objects_of self.now) number }
     {
         if self.timelines.contains_key(&number) || self.files.contains_key(&number) {
-            Refusal::WrongKind
+            Errno::WrongKind
         } else {
-            Refusal::NoEntry
+            Errno::NoEntry
         }
     }
 }
@@ -145,10 +146,10 @@ impl Device {
 fn import_into(
     buffers: &mut HashMap<u64, Buffer>,
     number: u64,
-    timelines: &Timelines,
+    timelines: &OpenTimelines,
     fences: &[Fence],
     usage: Usage,
-) -> Result<(), Refusal>
+) -> Result<(), Errno>
     ensures imported { OnOk result ((q : ℕ) → at buffers.new.entries q ≡
         (if nat_eq number q
         then option_map (imported_into (at timelines.now.entries) usage fences.now) (at buffers.old.entries number)

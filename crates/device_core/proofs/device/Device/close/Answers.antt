@@ -1,5 +1,5 @@
 use Rattle.std.proofs.Common.{sym, subst, rules, IfErr, Result, Vec, Global, ℕ}
-use Rattle.device_core.specs.declared.refusal.Refusal.{Refusal}
+use Rattle.device_core.specs.declared.errno.Errno.{Errno}
 use Rattle.device_core.specs.declared.request.Request.TheVariants as request
 use Rattle.device_core.specs.theorem.Request.{IsCause, cause_of, takes_memory}
 use Rattle.device_core.specs.theorem.State.{objects_of}
@@ -22,7 +22,7 @@ pub returns-clause-refused : goal.returns-clause-refused
 returns-clause-refused c =
     let d = objects_of c.args.self.now in
     let r = request.Close c.args.number c.args.now in
-    let P : Result (Vec ℕ Global) Refusal → Type 0 = λ given. IfErr given (λ e. IsCause (cause_of d r) (takes_memory d r) e) in
+    let P : Result (Vec ℕ Global) Errno → Type 0 = λ given. IfErr given (λ e. IsCause (cause_of d r) (takes_memory d r) e) in
     elim c.match-drop_number.branch [
       | in-Ok w ↦ subst P (sym w.result-is) tt
       | in-Err w ↦ subst P (sym w.result-is) (close-missing d c.args.number c.args.now w.in-Err.refusal (search rules) w.in-Err.ensures.refused.1 w.in-Err.ensures.refused.2 w.in-Err.ensures.refused.0)

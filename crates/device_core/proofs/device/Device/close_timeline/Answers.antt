@@ -1,6 +1,6 @@
 use Rattle.std.proofs.Common.{◌≡◌, ◌∙◌, true, refl, sym, ap, subst, Some, is_some}
 use Rattle.std.specs.Prelude.{IfSome}
-use Rattle.device_core.specs.declared.refusal.Refusal.TheVariants.{NoMemory}
+use Rattle.device_core.specs.declared.errno.Errno.TheVariants.{NoMemory}
 use Rattle.device_core.specs.declared.request.Request.TheVariants as request
 use Rattle.device_core.specs.theorem.Request.{takes_memory}
 use Rattle.device_core.specs.theorem.State.{DeviceState, at, objects_of, timeline_at}

@@ -1,5 +1,5 @@
 use Rattle.std.proofs.Common.{◌≡◌, ◌∙◌, true, false, is_some, refl, sym, subst}
-use Rattle.device_core.specs.declared.refusal.Refusal.TheVariants.{NoMemory}
+use Rattle.device_core.specs.declared.errno.Errno.TheVariants.{NoMemory}
 use Rattle.device_core.specs.declared.request.Request.TheVariants as request
 use Rattle.device_core.specs.theorem.Request.{IsCause, cause_of, takes_memory}
 use Rattle.device_core.specs.theorem.State.{DeviceState, at, objects_of}

@@ -1,7 +1,7 @@
 use Rattle.std.proofs.Common.{◌≡◌, ◌↔◌, ◌⊎◌, ◌^◌, ◌<◌, ◌≤◌, ℕ, ◌+◌, true, false, inl, refl, sym, subst, Contains, Option, Some, arith, rules}
 use Rattle.std.specs.Prelude.{IfSome}
 use Rattle.device_core.specs.declared.fence.Timeline.{Timeline}
-use Rattle.device_core.specs.declared.refusal.Refusal.TheVariants.{NoMemory, Overflow}
+use Rattle.device_core.specs.declared.errno.Errno.TheVariants.{NoMemory, Overflow}
 use Rattle.device_core.specs.declared.request.Request.TheVariants as request
 use Rattle.device_core.specs.theorem.Request.{takes_memory}
 use Rattle.device_core.specs.theorem.Fences.{signal_at}
