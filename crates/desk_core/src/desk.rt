@@ -7,7 +7,7 @@ use crate::{info, report};
 use command_core::{Answer, Command, Info, Report, ShowRow};
 use dmabuf_core::Buffers;
 use fence_core::Watches;
-use point_core::{Context, Items, Name, Point, Refusal, Status, Usage};
+use point_core::{Context, Items, Name, Point, Refusal, Status, TimelineRow, TopRow, Usage};
 use std::alloc::Global;
 use std::marker::Model;
 use syncfile_core::Files;
@@ -40,11 +40,12 @@ impl Model for Desk {
 impl Desk {
     ghost use Rattle.desk_core.specs.theorem.Answer.{OnRefused, takes_memory};
     ghost use Rattle.point_core.specs.Clocks.{status_at};
-    ghost use Rattle.timeline_core.specs.Timeline.{has_timeline, name_at, clocks_of, value_of};
+    ghost use Rattle.timeline_core.specs.Timeline.{has_timeline, name_at, clocks_of, reach_of, value_of, rows_of as timeline_rows};
+    ghost use Rattle.resv_core.specs.Resv.{rows_of as table_rows};
     ghost use Rattle.syncfile_core.specs.SyncFile.{File};
     ghost use Rattle.point_core.specs.Refusal.{IsRefusedFor};
-    ghost use Rattle.syncfile_core.specs.Files.{file_at};
-    ghost use Rattle.dmabuf_core.specs.Buffers.{has_buffer};
+    ghost use Rattle.syncfile_core.specs.Files.{file_at, names_of as file_names, HasDistinctNames};
+    ghost use Rattle.dmabuf_core.specs.Buffers.{has_buffer, cause_without, entries_of, names_of as buffer_names};
     ghost use Rattle.fence_core.specs.Watches.{has_watch};
     ghost use Rattle.desk_core.specs.theorem.History.{history_after};
     ghost use Rattle.desk_core.specs.theorem.Desk.{HasHistory, Answers};
@@ -181,6 +182,48 @@ impl Desk {
         ensures { result ≡ has_buffer self.now.buffers buffer.now }
     {
         self.buffers.has(buffer)
+    }
+
+    /// A row for each timeline, by context.
+    ///
+    /// Fails with `Memory` only.
+    pub fn timeline_rows(&self) -> Result<Vec<TimelineRow>, Refusal>
+        ensures rows { IfOk result (λ rows. rows.items ≡ timeline_rows self.now.timelines) }
+        ensures memory { IfErr result (λ e. e ≡ Refusal.Memory) }
+    {
+        self.timelines.rows()
+    }
+
+    /// The names of the files, in order of making.
+    ///
+    /// Fails with `Memory` only.
+    pub fn file_names(&self) -> Result<Vec<Name>, Refusal>
+        ensures names { IfOk result (λ names. names.items ≡ file_names self.now.files) }
+        ensures distinct { HasDistinctNames self.now.files }
+        ensures memory { IfErr result (λ e. e ≡ Refusal.Memory) }
+    {
+        self.files.names()
+    }
+
+    /// The names of the buffers, in order of making.
+    ///
+    /// Fails with `Memory` only.
+    pub fn buffer_names(&self) -> Result<Vec<Name>, Refusal>
+        ensures names { IfOk result (λ names. names.items ≡ buffer_names self.now.buffers) }
+        ensures memory { IfErr result (λ e. e ≡ Refusal.Memory) }
+    {
+        self.buffers.names()
+    }
+
+    /// The pending tops of a buffer, as `show` lists them, with the numbers of their contexts.
+    ///
+    /// Fails with `NoEntry`, then with `Memory`.
+    pub fn buffer_rows(&self, buffer: &Name) -> Result<Vec<TopRow>, Refusal>
+        ensures refused { IsRefusedFor (cause_without self.now.buffers buffer.now) result }
+        ensures rows { IfOk result (λ rows.
+            rows.items ≡ table_rows (entries_of self.now.buffers buffer.now) (reach_of self.now.timelines)) }
+    {
+        self.buffers.table(buffer, self.timelines.as_reach())
     }
 
     /// Whether a watch of that cookie is pending.
