@@ -1,0 +1,327 @@
+-- What a visit finds: answers, states, and a schedule that gets stuck.
+use Rattle.std.proofs.Common.{◌≡◌, ◌⊎◌, ℕ, zero, suc, ◌+◌, ◌<◌, ◌≤◌, true, refl, sym, ap, ◌∙◌, subst, List, [], ◌∷◌, ◌++◌, length, take, Option, None, Some, option_map, unwrap_or, if◌then◌else◌, slice_get, get_or, arith, inl, inr, Contains}
+use Rattle.std.specs.Prelude.{All, IsSome, Vec}
+use Rattle.std.specs.Global.{Global}
+use Rattle.std.proofs.lemmas.Bool.{cases_lt, false≢true}
+use Rattle.std.proofs.lemmas.List.Elements.{All-get_or, All-nil, All-push, All-append, All-weaker, All-contains, Contains-append_left, Contains-append_right}
+use Rattle.std.proofs.lemmas.List.{append-nil, append_assoc, take_more}
+use Rattle.std.proofs.lemmas.Option.{same_Some, none-some}
+use Rattle.command_core.specs.declared.answer.Answer.{Answer}
+use Rattle.command_core.specs.declared.command.Command.{Command}
+use Rattle.explore_core.specs.declared.plan.Step.{Step}
+use Rattle.explore_core.specs.declared.found.Found.{Found}
+use Rattle.explore_core.specs.declared.found.Given.{Given}
+use Rattle.explore_core.specs.declared.state.State.{State}
+use Rattle.explore_core.specs.declared.search.Move.{Move}
+use Rattle.explore_core.specs.declared.search.Move.TheVariants as move
+use Rattle.explore_core.specs.Found.{CanBeExplored, Lists, stuck_of}
+use Rattle.explore_core.specs.Schedule.{Lines, Standing, Schedule, answer_now, history_along, beginning, lines_of, next_line, made_by, after_line, made_line, after_one, ComesTo, IsStuck, IsAnswered, IsEndAnswered}
+use Rattle.explore_core.specs.Search.{standing_of, standing_at, Answers, HasLike, Grows, Extends, IsState, Keeps, Records, IsGiven, IsVisited, IsFollowed, IsTried, AreTried, IsMove, AreMoves, together, HasEnds, EndsAre, IsEnd, AreEndsListed}
+use Rattle.explore_core.proofs.Levels.{go-on-refl, Extends-refl}
+use Rattle.explore_core.proofs.Scheduling.{Leads-is, Leads-push}
+use Rattle.explore_core.proofs.Showing.{same-state}
+
+-- the elements of a list, one after another
+
+pub All-item : {X : Type 0} (P : X → Type 0) (xs : List X) (i : ℕ) (x : X) → i < length xs → x ≡ get_or xs i x → All P xs → P x
+All-item P xs i x low at all = subst P (sym at) (All-get_or P xs i x low all)
+
+pub All-next : {X : Type 0} (P : X → Type 0) (xs : List X) (i : ℕ) (x : X) → i < length xs → x ≡ get_or xs i x → All P (take i xs) → P x → All P (take (i + 1) xs)
+All-next P xs i x low at before here =
+    subst (All P) (sym (take_more xs i x low ∙ ap (λ d. take i xs ++ d ∷ []) (sym at))) (All-push P (take i xs) x before here)
+
+pub Contains-item : {X : Type 0} (xs : List X) (i : ℕ) (x : X) → i < length xs → x ≡ get_or xs i x → Contains xs x
+Contains-item xs i x low at = (i, low, sym at)
+
+-- an answer that is recorded
+
+Lists-grow : {old new : List Given} {client place : ℕ} {answer : Answer} {schedule : Schedule} → Records old new client place answer schedule → (c p : ℕ) (a : Answer) → Lists old c p a → Lists new c p a
+Lists-grow {old} {new} records c p a lists = elim records [
+  | inl same ↦ subst (λ gs. Lists gs c p a) (sym same) lists
+  | inr more ↦ subst (λ gs. Lists gs c p a) (sym more.1) (lists.0, Contains-append_left old (more.0 ∷ []) lists.0 lists.1, lists.2, lists.3, lists.4)
+]
+
+All-grow : {old new : List Given} {client place : ℕ} {answer : Answer} {schedule : Schedule} (P : Given → Type 0) → Records old new client place answer schedule → ((g : Given) → IsGiven client place answer schedule g → P g) → All P old → All P new
+All-grow {old} P records is all = elim records [
+  | inl same ↦ subst (All P) (sym same) all
+  | inr more ↦ subst (All P) (sym more.1) (All-push P old more.0 all (is more.0 more.2))
+]
+
+pub Grows-given : (plan : Lines) (depth : ℕ) (old new : Found) (client place : ℕ) (answer : Answer) (schedule : Schedule) → Records old.given.items new.given.items client place answer schedule
+    → IsAnswered plan schedule client place answer → new.ended ≡ old.ended → new.stuck ≡ old.stuck → Grows plan depth old new
+Grows-given plan depth old new client place answer schedule records comes ended stuck = record {
+  shown = λ t. record {
+    given = All-grow (λ (g : Given). IsAnswered plan g.schedule.items g.client g.place g.answer) records
+        (λ g is. rw (is.schedule_is, is.client_is, is.place_is, is.answer_is) comes) t.given;
+    ended = rw ended t.ended;
+    stuck = rw stuck t.stuck;
+  };
+  given = Lists-grow records;
+  ended = λ c p a lists. rw ended lists;
+  stuck = λ shown is. ap (option_map (λ (v : Vec ℕ Global). v.items)) stuck ∙ is;
+  soon = λ soon shown is. soon shown (sym (ap (option_map (λ (v : Vec ℕ Global). v.items)) stuck) ∙ is);
+}
+
+-- a state that is kept
+
+pub Extends-kept : {plan : Lines} {depth : ℕ} {old new : List State} {state : State} → Keeps old state new → IsState plan depth state → Extends plan depth old new
+Extends-kept {plan} {depth} {old} {new} {state} keeps is = elim keeps [
+  | inl same ↦ record { states = λ all. subst (All (IsState plan depth)) (sym same.0) all; alike = λ now has. subst (λ states. HasLike plan states now) (sym same.0) has }
+  | inr more ↦ record {
+    states = λ all. subst (All (IsState plan depth)) (sym more) (All-push (IsState plan depth) old state all is);
+    alike = λ now has. subst (λ states. HasLike plan states now) (sym more) (has.0, Contains-append_left old (state ∷ []) has.0 has.1, has.2);
+  }
+]
+
+pub HasLike-kept : {plan : Lines} {depth : ℕ} {old new : List State} {state : State} → CanBeExplored plan → All (IsState plan depth) old → Keeps old state new → IsState plan depth state → HasLike plan new (standing_at plan state)
+HasLike-kept {plan} {depth} {old} {new} {state} can all keeps is = elim keeps [
+  | inl same ↦ (
+      let other = same.1 in
+      let other_is = All-contains (IsState plan depth) old other all same.2 in
+      (other, subst (λ states. Contains states other) (sym same.0) same.2, same-state can state other is other_is same.3))
+  | inr more ↦ (state, subst (λ states. Contains states state) (sym more) (Contains-append_right old (state ∷ []) state (0, omega arith, refl)), go-on-refl (λ name. true) (standing_at plan state))
+]
+
+-- what a client does
+
+pub none-next : (plan : Lines) (now : Standing) (client : ℕ) → next_line plan now client ≡ None → after_one plan now client ≡ None
+none-next plan now client none = ap (made_line now client) none
+
+pub after-answers : {plan : Lines} {now : Standing} {client place : ℕ} {given : Answer} (a : Answers plan now client place given) → after_one plan now client ≡ Some (after_line now client a.step)
+after-answers {plan} {now} {client} a = ap (made_line now client) a.next ∙ ap (λ b. if b then Some (after_line now client a.step) else None) a.made
+
+-- where the schedule comes to with one more client
+pub comes-more : (plan : Lines) (schedule : Schedule) (client : ℕ) (to : Standing) → ComesTo plan schedule (standing_of plan schedule) → after_one plan (standing_of plan schedule) client ≡ Some to
+    → (to ≡ standing_of plan (schedule ++ client ∷ [])) × ComesTo plan (schedule ++ client ∷ []) (standing_of plan (schedule ++ client ∷ []))
+comes-more plan schedule client to comes goes =
+    let leads = Leads-push plan (beginning plan) schedule (standing_of plan schedule) client to comes goes in
+    let is = Leads-is plan (beginning plan) (schedule ++ client ∷ []) to leads in
+    (is, subst (ComesTo plan (schedule ++ client ∷ [])) is leads)
+
+pub IsFollowed-none : (plan : Lines) (found : Found) (next : List State) (now : Standing) (client : ℕ) → after_one plan now client ≡ None → IsFollowed plan found next now client
+IsFollowed-none plan found next now client none = record {
+  listed = λ place answer a. absurd (none-some _ (sym none ∙ after-answers a));
+  kept = λ later goes. absurd (none-some later (sym none ∙ goes));
+}
+
+pub IsFollowed-made : (plan : Lines) (found : Found) (next : List State) (now : Standing) (client place : ℕ) (given : Answer) (after : Standing)
+    → Answers plan now client place given → after_one plan now client ≡ Some after → Lists found.given.items client place given → HasLike plan next after → IsFollowed plan found next now client
+IsFollowed-made plan found next now client place given after a goes lists has = record {
+  listed = λ place' answer' b.
+      let step : a.step ≡ b.step = same_Some a.step b.step (sym a.next ∙ b.next) in
+      let same : given ≡ answer' = a.answer ∙ ap (λ (s : Step). answer_now now.history s.command) step ∙ sym b.answer in
+      subst (λ p. Lists found.given.items client p answer') (sym a.at ∙ b.at) (subst (λ g. Lists found.given.items client place g) same lists);
+  kept = λ later is. subst (HasLike plan next) (same_Some after later (sym goes ∙ is)) has;
+}
+
+pub IsFollowed-grows : {plan : Lines} {depth deeper : ℕ} {old new : Found} {next more : List State} (now : Standing) (client : ℕ) → Grows plan depth old new → Extends plan deeper next more → IsFollowed plan old next now client → IsFollowed plan new more now client
+IsFollowed-grows now client g x f = record {
+  listed = λ place answer a. g.given client place answer (f.listed place answer a);
+  kept = λ later goes. x.alike later (f.kept later goes);
+}
+
+-- what the first clients do
+
+pub AreTried-none : (plan : Lines) (found : Found) (next : List State) (state : State) → AreTried plan found next state 0 move.Done
+AreTried-none plan found next state = record {
+  followed = λ client few. absurd (omega (arith, few));
+  are = λ client few. absurd (omega (arith, few));
+}
+
+below : (client n : ℕ) → client < n + 1 → (client < n) ⊎ (client ≡ n)
+below client n few = elim (cases_lt client n) [
+  | inl less ↦ inl less
+  | inr not_less ↦ inr (omega (arith, few, not_less))
+]
+
+module _ (plan : Lines) (now : Standing) (n : ℕ) where
+  nobody : ((client : ℕ) → client < n → after_one plan now client ≡ None) → after_one plan now n ≡ None → (client : ℕ) → client < n + 1 → after_one plan now client ≡ None
+  nobody before last client few = elim (below client n few) [
+    | inl less ↦ before client less
+    | inr is ↦ subst (λ c. after_one plan now c ≡ None) (sym is) last
+  ]
+
+  moves-push : (moves one : Move) → AreMoves plan now n moves → IsMove plan now n one → AreMoves plan now (n + 1) (together moves one)
+  moves-push move.Goes one are is = are
+  moves-push move.Waits move.Goes are is = (n, is.0, is.1)
+  moves-push move.Waits move.Done are is = (nobody are.0 (none-next plan now n is), are.1, are.2)
+  moves-push move.Waits move.Waits are is = (nobody are.0 is.0, are.1, are.2)
+  moves-push move.Done move.Goes are is = (n, is.0, is.1)
+  moves-push move.Done move.Waits are is = (nobody (λ client few. none-next plan now client (are client few)) is.0, n, is.1)
+  moves-push move.Done move.Done are is = λ client few. elim (below client n few) [
+    | inl less ↦ are client less
+    | inr same ↦ subst (λ c. next_line plan now c ≡ None) (sym same) is
+  ]
+
+pub AreTried-push : {plan : Lines} {depth deeper : ℕ} {old new : Found} {next more : List State} {state : State} {n : ℕ} {moves one : Move}
+    → AreTried plan old next state n moves → Grows plan depth old new → Extends plan deeper next more → IsTried plan new more state n one → AreTried plan new more state (n + 1) (together moves one)
+AreTried-push {plan} {depth} {deeper} {old} {new} {next} {more} {state} {n} {moves} {one} before g x last = record {
+  followed = λ client few. elim (below client n few) [
+    | inl less ↦ IsFollowed-grows (standing_at plan state) client g x (before.followed client less)
+    | inr is ↦ subst (IsFollowed plan new more (standing_at plan state)) (sym is) last.followed
+  ];
+  are = moves-push plan (standing_at plan state) n moves one before.are last.is;
+}
+
+-- a visit
+
+no-lines : (plan : Lines) (client : ℕ) → length plan.clients ≤ client → lines_of plan client ≡ []
+no-lines plan client past = ap (λ o. unwrap_or o []) (past-get plan.clients client past)
+  where
+    past-get : {X : Type 0} (xs : List X) (k : ℕ) → length xs ≤ k → slice_get xs k ≡ None
+    past-get [] k past = refl
+    past-get (x ∷ xs) zero past = absurd (omega (arith, past))
+    past-get (x ∷ xs) (suc k) past = past-get xs k (omega (arith, past))
+
+no-next : (plan : Lines) (now : Standing) (client : ℕ) → length plan.clients ≤ client → next_line plan now client ≡ None
+no-next plan now client past = ap (λ lines. slice_get lines (made_by now client)) (no-lines plan client past)
+
+some-none : (o : Option Step) → IsSome o → o ≡ None → ⊥
+some-none None some is = false≢true some
+some-none (Some step) some is = absurd (cc)
+
+module _ (plan : Lines) (found : Found) (next : List State) (state : State) where
+  abbrev here : Standing
+  here = standing_at plan state
+
+  followed-all : {moves : Move} → AreTried plan found next state (length plan.clients) moves → (client : ℕ) → IsFollowed plan found next here client
+  followed-all tried client = elim (cases_lt client (length plan.clients)) [
+    | inl less ↦ tried.followed client less
+    | inr not_less ↦ IsFollowed-none plan found next here client (none-next plan here client (no-next plan here client (omega (arith, not_less))))
+  ]
+
+  some-next : (client : ℕ) (later : Standing) → after_one plan here client ≡ Some later → next_line plan here client ≡ None → ⊥
+  some-next client later goes none = none-some later (sym (none-next plan here client none) ∙ goes)
+
+  pub stuck-waits : AreTried plan found next state (length plan.clients) move.Waits → IsStuck plan here
+  stuck-waits tried = record {
+    nobody = λ client. elim (cases_lt client (length plan.clients)) [
+      | inl less ↦ tried.are.0 client less
+      | inr not_less ↦ none-next plan here client (no-next plan here client (omega (arith, not_less)))
+    ];
+    waiting = (tried.are.1, tried.are.2);
+  }
+
+  pub done-all : AreTried plan found next state (length plan.clients) move.Done → (client : ℕ) → next_line plan here client ≡ None
+  done-all tried client = elim (cases_lt client (length plan.clients)) [
+    | inl less ↦ tried.are client less
+    | inr not_less ↦ no-next plan here client (omega (arith, not_less))
+  ]
+
+  pub IsVisited-goes : AreTried plan found next state (length plan.clients) move.Goes → IsVisited plan found next state
+  IsVisited-goes tried = record {
+    listed = record {
+      given = λ client place answer a. (followed-all tried client).listed place answer a;
+      ended = λ place answer e. absurd (some-next tried.are.0 tried.are.1 tried.are.2 (e.done tried.are.0));
+      stuck = λ stuck. absurd (none-some tried.are.1 (sym (stuck.nobody tried.are.0) ∙ tried.are.2));
+    };
+    expanded = λ client later goes. (followed-all tried client).kept later goes;
+  }
+
+module _ (plan : Lines) (depth : ℕ) (old found : Found) (next : List State) (state : State) (g : Grows plan depth old found) where
+  abbrev there : Standing
+  there = standing_at plan state
+
+  grown : (client : ℕ) → IsFollowed plan old next there client → IsFollowed plan found next there client
+  grown client f = IsFollowed-grows {deeper = depth} there client g (Extends-refl plan depth next) f
+
+  pub IsVisited-waits : AreTried plan old next state (length plan.clients) move.Waits → (shown : List ℕ) → stuck_of found ≡ Some shown → IsVisited plan found next state
+  IsVisited-waits tried shown is = record {
+    listed = record {
+      given = λ client place answer a. (grown client (followed-all plan old next state tried client)).listed place answer a;
+      ended = λ place answer e. absurd (some-none (next_line plan there tried.are.1) tried.are.2 (e.done tried.are.1));
+      stuck = λ stuck. (shown, is);
+    };
+    expanded = λ client later goes. (followed-all plan old next state tried client).kept later goes;
+  }
+
+  pub IsVisited-done : AreTried plan old next state (length plan.clients) move.Done → HasEnds plan found there → IsVisited plan found next state
+  IsVisited-done tried ends = record {
+    listed = record {
+      given = λ client place answer a. (grown client (followed-all plan old next state tried client)).listed place answer a;
+      ended = ends;
+      stuck = λ stuck. absurd (some-none (next_line plan there stuck.waiting.0) stuck.waiting.1 (done-all plan old next state tried stuck.waiting.0));
+    };
+    expanded = λ client later goes. (followed-all plan old next state tried client).kept later goes;
+  }
+
+-- a schedule that gets stuck is shown
+
+pub Grows-stuck : (plan : Lines) (depth : ℕ) (old new : Found) (shown : Vec ℕ Global) (now : Standing) → old.stuck ≡ None → new.stuck ≡ Some shown → new.given ≡ old.given → new.ended ≡ old.ended
+    → ComesTo plan shown.items now → IsStuck plan now → length shown.items ≡ depth → Grows plan depth old new
+Grows-stuck plan depth old new shown now none is given ended comes stuck deep =
+    let items : Option (Vec ℕ Global) → Option (List ℕ) = option_map (λ (v : Vec ℕ Global). v.items) in
+    record {
+      shown = λ t. record { given = rw given t.given; ended = rw ended t.ended; stuck = rw is (now, comes, stuck) };
+      given = λ c p a lists. rw given lists;
+      ended = λ c p a lists. rw ended lists;
+      stuck = λ s was. absurd (none-some s (sym (ap items none) ∙ was));
+      soon = λ soon s now_is. let same : shown.items ≡ s = same_Some shown.items s (sym (ap items is) ∙ now_is) in omega (arith, ap length same, deep);
+    }
+
+-- the commands at the end
+
+abbrev EndAt : Lines → List Command → ℕ → Command → Answer
+EndAt plan history place command = answer_now (history_along history (take place plan.last)) command
+
+pub EndsAre-refl : (plan : Lines) (history : List Command) (schedule : Schedule) (ended : List Given) → EndsAre plan history schedule ended ended
+EndsAre-refl plan history schedule ended = record { added = []; is = sym (append-nil ended); ends = All-nil (IsEnd plan history schedule) }
+
+pub EndsAre-push : {plan : Lines} {history : List Command} {schedule : Schedule} {first old new : List Given} {client place : ℕ} {answer : Answer} (command : Command)
+    → EndsAre plan history schedule first old → Records old new client place answer schedule → slice_get plan.last place ≡ Some command → answer ≡ EndAt plan history place command → EndsAre plan history schedule first new
+EndsAre-push {plan} {history} {schedule} {first} {old} {new} {client} {place} {answer} command before records at is = elim records [
+  | inl same ↦ record { added = before.added; is = same ∙ before.is; ends = before.ends }
+  | inr more ↦ (
+      let g = more.0 in
+      let given = more.2 in
+      record {
+        added = before.added ++ g ∷ [];
+        is = more.1 ∙ ap (λ gs. gs ++ g ∷ []) before.is ∙ append_assoc first before.added (g ∷ []);
+        ends = All-push (IsEnd plan history schedule) before.added g before.ends (record {
+          schedule_is = given.schedule_is;
+          command = command;
+          at = ap (slice_get plan.last) given.place_is ∙ at;
+          answer = given.answer_is ∙ is ∙ ap (λ p. EndAt plan history p command) (sym given.place_is);
+        });
+      })
+]
+
+pub AreEndsListed-push : (plan : Lines) {history : List Command} {old new : List Given} {place : ℕ} {answer : Answer} {schedule : Schedule} (command : Command)
+    → AreEndsListed plan history old place → Records old new (length plan.clients) place answer schedule → Lists new (length plan.clients) place answer
+    → slice_get plan.last place ≡ Some command → answer ≡ EndAt plan history place command → AreEndsListed plan history new (place + 1)
+AreEndsListed-push plan {history} {old} {new} {place} {answer} command before records lists at is = λ p c few there. elim (below p place few) [
+  | inl less ↦ Lists-grow records (length plan.clients) p (EndAt plan history p c) (before p c less there)
+  | inr same ↦ (
+      let command_is : command ≡ c = same_Some command c (sym at ∙ ap (slice_get plan.last) (sym same) ∙ there) in
+      let answer_is : answer ≡ EndAt plan history p c = is ∙ ap (EndAt plan history place) command_is ∙ ap (λ q. EndAt plan history q c) (sym same) in
+      subst (λ q. Lists new (length plan.clients) q (EndAt plan history p c)) (sym same) (subst (Lists new (length plan.clients) place) answer_is lists))
+]
+
+pub Grows-ended : (plan : Lines) (depth : ℕ) (old new : Found) (now : Standing) (schedule : Schedule) → EndsAre plan now.history schedule old.ended.items new.ended.items
+    → ComesTo plan schedule now → ((client : ℕ) → next_line plan now client ≡ None) → new.given ≡ old.given → new.stuck ≡ old.stuck → Grows plan depth old new
+Grows-ended plan depth old new now schedule ends comes done given stuck = record {
+  shown = λ t. record {
+    given = rw given t.given;
+    ended =
+        let P : Given → Type 0 = λ g. IsEndAnswered plan g.schedule.items g.place g.answer in
+        subst (All P) (sym ends.is)
+        (All-append P old.ended.items ends.added t.ended
+        (All-weaker (IsEnd plan now.history schedule) P
+        (λ g end. rw end.schedule_is (record { now = now; comes = comes; done = done; command = end.command; at = end.at; answer = end.answer }))
+        ends.added ends.ends));
+    stuck = rw stuck t.stuck;
+  };
+  given = λ c p a lists. rw given lists;
+  ended = λ c p a lists. subst (λ gs. Lists gs c p a) (sym ends.is) (lists.0, Contains-append_left old.ended.items ends.added lists.0 lists.1, lists.2, lists.3, lists.4);
+  stuck = λ shown is. ap (option_map (λ (v : Vec ℕ Global). v.items)) stuck ∙ is;
+  soon = λ soon shown is. soon shown (sym (ap (option_map (λ (v : Vec ℕ Global). v.items)) stuck) ∙ is);
+}
+
+past-within : {X : Type 0} (xs : List X) (k : ℕ) (x : X) → slice_get xs k ≡ Some x → k < length xs
+past-within [] k x at = absurd (none-some x at)
+past-within (y ∷ xs) zero x at = omega arith
+past-within (y ∷ xs) (suc k) x at = let rest = past-within xs k x at in omega (arith, rest)
+
+pub HasEnds-listed : (plan : Lines) (found : Found) (now : Standing) → AreEndsListed plan now.history found.ended.items (length plan.last) → HasEnds plan found now
+HasEnds-listed plan found now lists = λ place answer e.
+    subst (Lists found.ended.items (length plan.clients) place) (sym e.answer) (lists place e.command (past-within plan.last place e.command e.at) e.at)

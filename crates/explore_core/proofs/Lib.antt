@@ -1,0 +1,13 @@
+pub mod Answering
+pub mod Naming
+pub mod Staying
+pub mod Covering
+pub mod Looking
+pub mod Scheduling
+pub mod Levels
+pub mod Showing
+pub mod Finding
+pub mod Same
+pub mod Trying
+pub mod Positions
+pub mod SameAnswers

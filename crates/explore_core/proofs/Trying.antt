@@ -1,0 +1,149 @@
+-- What a client does at a state, and what the search keeps of it.
+use Rattle.std.proofs.Common.{◌≡◌, ℕ, ◌+◌, ◌<◌, ◌≤◌, Bool, true, false, refl, sym, ap, ◌∙◌, subst, List, [], ◌∷◌, ◌++◌, length, length-append, map, take, Option, None, Some, is_some, option_map, unwrap_or, if◌then◌else◌, get_or, inl, inr, Contains, arith}
+use Rattle.std.specs.Prelude.{All, IsSome, IsOk, OnOk, Vec, Result, Ok, Err}
+use Rattle.std.specs.Global.{Global}
+use Rattle.std.proofs.lemmas.Bool.{false≢true}
+use Rattle.std.proofs.lemmas.List.{take_more, length-map}
+use Rattle.std.proofs.lemmas.List.Elements.{All-nil}
+use Rattle.command_core.specs.declared.answer.Answer.{Answer}
+use Rattle.command_core.specs.declared.command.Command.{Command}
+use Rattle.explore_core.specs.declared.plan.Step.{Step}
+use Rattle.explore_core.specs.declared.found.Found.{Found}
+use Rattle.explore_core.specs.declared.position.Position.{Position}
+use Rattle.explore_core.specs.declared.position.Turn.TheVariants.{Waits}
+use Rattle.explore_core.specs.declared.state.State.{State}
+use Rattle.explore_core.specs.declared.search.Move.{Move}
+use Rattle.explore_core.specs.declared.search.Move.TheVariants as move
+use Rattle.explore_core.specs.declared.search.Reached.TheVariants as reached
+use Rattle.explore_core.specs.declared.search.Stop.{Stop}
+use Rattle.explore_core.specs.Found.{CanBeExplored, IsTrue, IsAll, Lists}
+use Rattle.explore_core.specs.Schedule.{Lines, Standing, Schedule, history_with, history_along, next_line, after_line, made_line, after_one, ComesTo, IsAnswered}
+use Rattle.explore_core.specs.Search.{standing_of, standing_at, standing_after, Answers, Grows, IsAt, IsTurn, IsReached, IsState, IsTried, AreTried, AreMoves, Keeps, Records}
+use Rattle.explore_core.proofs.Scheduling.{history_along-push}
+use Rattle.explore_core.proofs.Finding.{Grows-given, HasLike-kept, IsFollowed-none, IsFollowed-made, none-next, after-answers, comes-more}
+
+-- the first state
+
+pub first-state : {plan : Lines} {schedule : Schedule} {state : State} {position : Position} → schedule ≡ []
+    → ((p : Lines) → ComesTo p schedule (standing_of p schedule) → IsAt position (standing_of p schedule) → IsState p (length schedule) state)
+    → IsAt position (standing_of plan []) → IsState plan 0 state
+first-state {plan} {schedule} {state} {position} none make at =
+    let comes : ComesTo plan schedule (standing_of plan schedule) = subst (λ (s : Schedule). ComesTo plan s (standing_of plan s)) (sym none) refl in
+    let there : IsAt position (standing_of plan schedule) = subst (λ (s : Schedule). IsAt position (standing_of plan s)) (sym none) at in
+    subst (λ (s : Schedule). IsState plan (length s) state) none (make plan comes there)
+
+pub Keeps-first : {old new : List State} {state : State} → old ≡ [] → Keeps old state new → new ≡ state ∷ []
+Keeps-first {old} {new} {state} none keeps = elim keeps [
+  | inl same ↦ let there = subst (λ (states : List State). Contains states same.1) none same.2 in absurd (omega (arith, there.1))
+  | inr more ↦ more ∙ ap (λ (states : List State). states ++ state ∷ []) none
+]
+
+pub none-kept : (plan : Lines) (depth : ℕ) (states : List State) → states ≡ [] → All (IsState plan depth) states
+none-kept plan depth states none = subst (All (IsState plan depth)) (sym none) (All-nil (IsState plan depth))
+
+-- what a client does, from its turn
+
+pub reached-waits : (plan : Lines) (now : Standing) (client : ℕ) → IsTurn plan now client Waits → (after_one plan now client ≡ None) × IsSome (next_line plan now client)
+reached-waits plan now client w = (
+  ap (made_line now client) w.1 ∙ ap (λ (b : Bool). if b then Some (after_line now client w.0) else None) w.2,
+  ap is_some w.1,
+)
+
+pub reached-made : (plan : Lines) (schedule : Schedule) {more : Schedule} {client place : ℕ} {given : Answer} {state : State} {position : Position}
+    → ComesTo plan schedule (standing_of plan schedule) → Answers plan (standing_of plan schedule) client place given
+    → IsAt position (standing_after plan (standing_of plan schedule) client) → more ≡ schedule ++ client ∷ [] → state.schedule.items ≡ more
+    → ((p : Lines) → ComesTo p more (standing_of p more) → IsAt position (standing_of p more) → IsState p (length more) state)
+    → IsReached plan schedule client (reached.Made place given state)
+reached-made plan schedule {more} {client} {place} {given} {state} {position} comes a at is kept make =
+    let now = standing_of plan schedule in
+    let goes = after-answers a in
+    let next = comes-more plan schedule client (after_line now client a.step) comes goes in
+    let to : standing_after plan now client ≡ standing_of plan more = ap (λ (o : Option Standing). unwrap_or o now) goes ∙ next.0 ∙ ap (standing_of plan) (sym is) in
+    let there = subst (λ (s : Schedule). ComesTo plan s (standing_of plan s)) (sym is) next.1 in
+    let size : length more ≡ length schedule + 1 = ap length is ∙ length-append schedule (client ∷ []) in
+    (a, goes ∙ ap Some (next.0 ∙ ap (standing_of plan) (sym (kept ∙ is))), subst (λ n. IsState plan n state) size (make plan there (subst (IsAt position) to at)))
+
+-- what is listed and kept of it
+
+module _ {plan : Lines} {state : State} {schedule : Schedule} {client : ℕ} (is : schedule ≡ state.schedule.items) where
+  pub tried-done : (found : Found) (next : List State) → IsReached plan schedule client reached.Done → IsTried plan found next state client move.Done
+  tried-done found next r =
+      let now = standing_at plan state in
+      let none : next_line plan now client ≡ None = subst (λ (s : Schedule). next_line plan (standing_of plan s) client ≡ None) is r in
+      record { followed = IsFollowed-none plan found next now client (none-next plan now client none); is = none }
+
+  pub tried-waits : (found : Found) (next : List State) → IsReached plan schedule client reached.Waits → IsTried plan found next state client move.Waits
+  tried-waits found next r =
+      let waits = subst (λ (s : Schedule). IsReached plan s client reached.Waits) is r in
+      record { followed = IsFollowed-none plan found next (standing_at plan state) client waits.0; is = waits }
+
+  module _ {depth place : ℕ} {given : Answer} {later : State} (from : IsState plan depth state) (r : IsReached plan schedule client (reached.Made place given later)) where
+    pub later-state : IsState plan (depth + 1) later
+    later-state = subst (λ n. IsState plan (n + 1) later) (ap length is ∙ from.deep) r.2
+
+    pub tried-made : {found : Found} {old new : List State} → CanBeExplored plan → All (IsState plan (depth + 1)) old → Lists found.given.items client place given → Keeps old later new
+        → IsTried plan found new state client move.Goes
+    tried-made {found} {old} {new} can all lists keeps =
+        let made = subst (λ (s : Schedule). IsReached plan s client (reached.Made place given later)) is r in
+        record {
+          followed = IsFollowed-made plan found new (standing_at plan state) client place given (standing_at plan later) made.0 made.1 lists (HasLike-kept can all keeps later-state);
+          is = (standing_at plan later, made.1);
+        }
+
+    pub Grows-reached : (old new : Found) → Records old.given.items new.given.items client place given schedule → new.ended ≡ old.ended → new.stuck ≡ old.stuck → Grows plan depth old new
+    Grows-reached old new records ended stuck =
+        let comes = subst (λ (s : Schedule). ComesTo plan s (standing_of plan s)) (sym is) from.comes in
+        let answered : IsAnswered plan schedule client place given =
+        record { now = standing_of plan schedule; comes = comes; at = r.0.at; step = r.0.step; next = r.0.next; made = r.0.made; answer = r.0.answer } in
+        Grows-given plan depth old new client place given schedule records answered ended stuck
+
+-- of some clients, the first of them
+
+fewer : (plan : Lines) (now : Standing) (n m : ℕ) (moves : Move) → m ≤ n → AreMoves plan now n moves → AreMoves plan now m moves
+fewer plan now n m move.Done less are = λ client few. are client (omega (arith, few, less))
+fewer plan now n m move.Waits less are = (λ client few. are.0 client (omega (arith, few, less)), are.1, are.2)
+fewer plan now n m move.Goes less are = are
+
+pub AreTried-fewer : {plan : Lines} {found : Found} {next : List State} {state : State} {n m : ℕ} {moves : Move} → m ≤ n → AreTried plan found next state n moves → AreTried plan found next state m moves
+AreTried-fewer {plan} {found} {next} {state} {n} {m} {moves} less tried = record {
+  followed = λ client few. tried.followed client (omega (arith, few, less));
+  are = fewer plan (standing_at plan state) n m moves less tried.are;
+}
+
+-- the schedule that is shown
+
+pub some-stuck : (o : Option (Vec ℕ Global)) → is_some o ≡ true → (shown : List ℕ) × (option_map (λ (v : Vec ℕ Global). v.items) o ≡ Some shown)
+some-stuck None is = absurd (false≢true is)
+some-stuck (Some v) is = (v.items, refl)
+
+pub not-stuck : (o : Option (Vec ℕ Global)) → is_some o ≡ false → o ≡ None
+not-stuck None is = refl
+not-stuck (Some v) is = absurd (false≢true (sym is))
+
+-- how many clients a plan has
+
+pub clients-count : (plan : Lines) (clients : List (Vec Step Global)) → map (λ (steps : Vec Step Global). steps.items) clients ≡ plan.clients → length clients ≡ length plan.clients
+clients-count plan clients is = sym (length-map clients (λ (steps : Vec Step Global). steps.items)) ∙ ap length is
+
+-- the next command of a list
+
+pub history_along-next : (history commands : List Command) (i : ℕ) (command : Command) → i < length commands → command ≡ get_or commands i command
+    → history_along history (take (i + 1) commands) ≡ history_with (history_along history (take i commands)) command
+history_along-next history commands i command low at =
+    ap (history_along history) (take_more commands i command low ∙ ap (λ (d : Command). take i commands ++ d ∷ []) (sym at)) ∙ history_along-push history (take i commands) command
+
+-- a search that ended well
+
+pub when-ok : {X : Type 0} (r : Result (Unit {0}) Stop) → OnOk r X → IsOk r → X
+when-ok (Ok v) x ok = x
+when-ok (Err e) x ok = absurd (false≢true ok)
+
+pub IsTrue-same : (plan : Lines) (found new : Found) → new.given ≡ found.given → new.ended ≡ found.ended → new.stuck ≡ found.stuck → IsTrue plan found → IsTrue plan new
+IsTrue-same plan found new given ended stuck t = record { given = rw given t.given; ended = rw ended t.ended; stuck = rw stuck t.stuck }
+
+pub IsAll-same : (plan : Lines) (found new : Found) → new.given ≡ found.given → new.ended ≡ found.ended → new.stuck ≡ found.stuck → IsAll plan found → IsAll plan new
+IsAll-same plan found new given ended stuck a = record {
+  given = λ schedule client place answer is. rw given (a.given schedule client place answer is);
+  ended = λ schedule place answer is. rw ended (a.ended schedule place answer is);
+  stuck = λ schedule now comes is. rw stuck (a.stuck schedule now comes is);
+}

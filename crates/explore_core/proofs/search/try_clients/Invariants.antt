@@ -1,0 +1,10 @@
+use Rattle.std.proofs.Common.{◌+◌}
+use Rattle.explore_core.specs.Search.{Grows, Extends, AreTried}
+use Rattle.explore_core.proofs.search.try_clients.Given as goal
+
+abbrev pub invariant-loop-client : goal.invariant-loop-client
+invariant-loop-client l = record {
+  grows : Grows l.plan l.depth l.initial.found l.found;
+  extends : Extends l.plan (l.depth + 1) l.initial.next l.next;
+  tried : AreTried l.plan l.found l.next l.state l.client l.moves;
+}

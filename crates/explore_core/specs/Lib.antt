@@ -1,0 +1,6 @@
+pub mod Alike
+pub mod Covering
+pub mod Found
+pub mod Looks
+pub mod Schedule
+pub mod Search

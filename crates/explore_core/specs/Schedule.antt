@@ -1,0 +1,100 @@
+-- The schedules of a plan.
+use Rattle.std.specs.Prelude.{◌≡◌, ℕ, ◌+◌, Bool, true, not, ◌&&◌, if◌then◌else◌, List, [], ◌∷◌, length, replicate, get_or, set, slice_get, take, unwrap_or, Option, None, Some, IsSome}
+use Rattle.command_core.specs.declared.command.Command.{Command}
+use Rattle.command_core.specs.declared.answer.Answer.{Answer}
+use Rattle.explore_core.specs.declared.plan.Step.{Step}
+use Rattle.desk_core.specs.theorem.Answer.{answer_to, is_refused}
+use Rattle.desk_core.specs.theorem.History.{world_of, history_after}
+
+-- the commands that come first, the lines of each client, and the commands at the end
+pub record Lines : Type 0 where
+  pub first : List Command
+  pub clients : List (List Step)
+  pub last : List Command
+
+-- how many lines each client has made, and the commands accepted so far
+pub record Standing : Type 0 where
+  pub made : List ℕ
+  pub history : List Command
+
+-- what a command is answered now. Memory is the machine's matter, and not the plan's
+abbrev pub answer_now : List Command → Command → Answer
+answer_now history command = answer_to (world_of history) command
+
+-- the history after a command
+abbrev pub history_with : List Command → Command → List Command
+history_with history command = history_after history command (answer_now history command)
+
+-- the history after commands, one after another
+abbrev pub history_along : List Command → List Command → List Command
+history_along history [] = history
+history_along history (c ∷ cs) = history_along (history_with history c) cs
+
+-- the first commands are made, and no line of a client
+abbrev pub beginning : Lines → Standing
+beginning plan = record { made = replicate (length plan.clients) 0; history = history_along [] plan.first }
+
+abbrev pub lines_of : Lines → ℕ → List Step
+lines_of plan client = unwrap_or (slice_get plan.clients client) []
+
+abbrev pub made_by : Standing → ℕ → ℕ
+made_by now client = get_or now.made client 0
+
+-- the line that a client comes to, unless it is done
+abbrev pub next_line : Lines → Standing → ℕ → Option Step
+next_line plan now client = slice_get (lines_of plan client) (made_by now client)
+
+-- a line that waits can be made once it would be accepted, any other at any time
+abbrev pub can_be_made : Standing → Step → Bool
+can_be_made now step = not (step.waits && is_refused (answer_now now.history step.command))
+
+abbrev pub after_line : Standing → ℕ → Step → Standing
+after_line now client step = record {
+  made = set now.made client (made_by now client + 1);
+  history = history_with now.history step.command;
+}
+
+abbrev pub made_line : Standing → ℕ → Option Step → Option Standing
+made_line now client None = None
+made_line now client (Some step) = if can_be_made now step then Some (after_line now client step) else None
+
+-- the client makes its next line, if it can
+abbrev pub after_one : Lines → Standing → ℕ → Option Standing
+after_one plan now client = made_line now client (next_line plan now client)
+
+-- a schedule says which client goes, one after another
+abbrev pub Schedule : Type 0
+Schedule = List ℕ
+
+-- the plan can be scheduled so from here on, and comes there
+abbrev pub Leads : Lines → Standing → Schedule → Standing → Type 0
+Leads plan from [] to = from ≡ to
+Leads plan from (client ∷ clients) to = (next : Standing) × (after_one plan from client ≡ Some next) × Leads plan next clients to
+
+-- so scheduled from its beginning, the plan comes there
+abbrev pub ComesTo : Lines → Schedule → Standing → Type 0
+ComesTo plan schedule to = Leads plan (beginning plan) schedule to
+
+-- nobody can go on, though somebody is not done
+pub record IsStuck (plan : Lines) (now : Standing) : Type 0 where
+  pub nobody : (client : ℕ) → after_one plan now client ≡ None
+  pub waiting : (client : ℕ) × IsSome (next_line plan now client)
+
+-- after that schedule the client makes its line of that place, which is answered so
+pub record IsAnswered (plan : Lines) (schedule : Schedule) (client place : ℕ) (given : Answer) : Type 0 where
+  pub now : Standing
+  pub comes : ComesTo plan schedule now
+  pub at : made_by now client ≡ place
+  pub step : Step
+  pub next : next_line plan now client ≡ Some step
+  pub made : can_be_made now step ≡ true
+  pub answer : given ≡ answer_now now.history step.command
+
+-- after that schedule every client is done, and the command of that place at the end is answered so
+pub record IsEndAnswered (plan : Lines) (schedule : Schedule) (place : ℕ) (given : Answer) : Type 0 where
+  pub now : Standing
+  pub comes : ComesTo plan schedule now
+  pub done : (client : ℕ) → next_line plan now client ≡ None
+  pub command : Command
+  pub at : slice_get plan.last place ≡ Some command
+  pub answer : given ≡ answer_now (history_along now.history (take place plan.last)) command

@@ -1,0 +1,245 @@
+-- A search by levels: the states of a level are those that schedules of one length come to.
+use Rattle.std.specs.Prelude.{◌≡◌, ◌⊎◌, ℕ, ◌+◌, ◌<◌, ◌≤◌, true, false, List, [], ◌∷◌, ◌++◌, length, map, take, All, Contains, None, Some, IsSome, slice_get, unwrap_or}
+use Rattle.command_core.specs.declared.command.Command.{Command}
+use Rattle.command_core.specs.declared.answer.Answer.{Answer}
+use Rattle.timeline_core.specs.Timeline.{reach_of, rows_of as timeline_rows}
+use Rattle.syncfile_core.specs.Files.{HasDistinctNames, names_of as file_names}
+use Rattle.dmabuf_core.specs.Buffers.{names_of as buffer_names, entries_of}
+use Rattle.resv_core.specs.Resv.{rows_of as table_rows}
+use Rattle.desk_core.specs.theorem.Desk.{DeskState, HasHistory}
+use Rattle.desk_core.specs.Keeping.{points_at}
+use Rattle.explore_core.specs.declared.plan.Step.{Step}
+use Rattle.explore_core.specs.declared.found.Found.{Found}
+use Rattle.explore_core.specs.declared.look.FileLook.{FileLook}
+use Rattle.explore_core.specs.declared.look.BufferLook.{BufferLook}
+use Rattle.explore_core.specs.declared.look.Look.{Look}
+use Rattle.explore_core.specs.declared.position.Position.{Position}
+use Rattle.explore_core.specs.declared.position.Turn.{Turn}
+use Rattle.explore_core.specs.declared.position.Turn.TheVariants.{Done, Waits, Made}
+use Rattle.explore_core.specs.declared.state.State.{State}
+use Rattle.explore_core.specs.declared.search.Reached.{Reached}
+use Rattle.explore_core.specs.declared.search.Reached.TheVariants as reached
+use Rattle.explore_core.specs.declared.search.Move.{Move}
+use Rattle.explore_core.specs.declared.search.Move.TheVariants as move
+use Rattle.explore_core.specs.declared.found.Given.{Given}
+use Rattle.explore_core.specs.Covering.{GoOnAlike}
+use Rattle.explore_core.specs.Found.{IsTrue, Lists, stuck_of}
+use Rattle.explore_core.specs.Schedule.{Lines, Standing, Schedule, answer_now, history_with, history_along, beginning, made_by, next_line, can_be_made, after_one, ComesTo, IsStuck}
+
+-- the standing after the client's next line, or the same standing if it can't make one
+abbrev pub standing_after : Lines → Standing → ℕ → Standing
+standing_after plan now client = unwrap_or (after_one plan now client) now
+
+abbrev pub standing_along : Lines → Standing → Schedule → Standing
+standing_along plan from [] = from
+standing_along plan from (client ∷ clients) = standing_along plan (standing_after plan from client) clients
+
+-- where the plan comes by that schedule
+abbrev pub standing_of : Lines → Schedule → Standing
+standing_of plan schedule = standing_along plan (beginning plan) schedule
+
+-- the command was made, and no memory was missing
+abbrev pub IsMade : DeskState → Command → Answer → DeskState → Type 0
+IsMade old command given new =
+    (history : List Command) → HasHistory old history
+    → (given ≡ answer_now history command) × HasHistory new (history_with history command)
+
+-- the desk has the standing's history, and each client has made as many lines
+pub record IsAt (position : Position) (now : Standing) : Type 0 where
+  pub desk : HasHistory position.desk now.history
+  pub made : position.made.items ≡ now.made
+
+-- at that standing the client makes its line of that place, which is answered so
+pub record Answers (plan : Lines) (now : Standing) (client place : ℕ) (given : Answer) : Type 0 where
+  pub at : made_by now client ≡ place
+  pub step : Step
+  pub next : next_line plan now client ≡ Some step
+  pub made : can_be_made now step ≡ true
+  pub answer : given ≡ answer_now now.history step.command
+
+-- at that standing every client is done, and the command of that place at the end is answered so
+pub record Ends (plan : Lines) (now : Standing) (place : ℕ) (given : Answer) : Type 0 where
+  pub done : (client : ℕ) → next_line plan now client ≡ None
+  pub command : Command
+  pub at : slice_get plan.last place ≡ Some command
+  pub answer : given ≡ answer_now (history_along now.history (take place plan.last)) command
+
+-- the client is done, waits, or makes a line
+abbrev pub IsTurn : Lines → Standing → ℕ → Turn → Type 0
+IsTurn plan now client Done = next_line plan now client ≡ None
+IsTurn plan now client Waits = (step : Step) × (next_line plan now client ≡ Some step) × (can_be_made now step ≡ false)
+IsTurn plan now client (Made place given) = Answers plan now client place given
+
+-- the points that the file of that name lists
+abbrev pub file_look : DeskState → List ℕ → FileLook
+file_look d name = record { name = name; points = points_at d.files name }
+
+-- the pending tops of the buffer of that name
+abbrev pub buffer_look : DeskState → List ℕ → BufferLook
+buffer_look d name = record { name = name; tops = table_rows (entries_of d.buffers name) (reach_of d.timelines) }
+
+-- the look shows what the desk holds, but for its watches
+pub record Shows (look : Look) (d : DeskState) : Type 0 where
+  pub timelines : look.timelines ≡ timeline_rows d.timelines
+  pub files : look.files ≡ map (file_look d) (file_names d.files)
+  pub distinct : HasDistinctNames d.files
+  pub buffers : look.buffers ≡ map (buffer_look d) (buffer_names d.buffers)
+
+-- the same timelines and buffers, in order, and the same files in whatever order
+pub record AreSameLooks (a b : Look) : Type 0 where
+  pub timelines : a.timelines ≡ b.timelines
+  pub buffers : a.buffers ≡ b.buffers
+  pub there : All (λ (f : FileLook). Contains b.files f) a.files
+  pub here : All (λ (f : FileLook). Contains a.files f) b.files
+  pub count : length a.files ≡ length b.files
+
+-- the state is what its schedule, of that length, comes to
+pub record IsState (plan : Lines) (depth : ℕ) (state : State) : Type 0 where
+  pub deep : length state.schedule.items ≡ depth
+  pub comes : ComesTo plan state.schedule.items (standing_of plan state.schedule.items)
+  pub made : state.made.items ≡ (standing_of plan state.schedule.items).made
+  pub desk : DeskState
+  pub history : HasHistory desk (standing_of plan state.schedule.items).history
+  pub look : Shows state.look desk
+
+-- one of the states goes on as that standing does
+abbrev pub HasLike : Lines → List State → Standing → Type 0
+HasLike plan states now =
+    (state : State) × Contains states state × GoOnAlike (λ name. true) now (standing_of plan state.schedule.items)
+
+-- in both, each client has made as many lines, and the desks look the same
+pub record IsSameState (a b : State) : Type 0 where
+  pub made : a.made.items ≡ b.made.items
+  pub look : AreSameLooks a.look b.look
+
+-- the state is kept as the last, or one that is the same was kept before
+abbrev pub Keeps : List State → State → List State → Type 0
+Keeps old state new =
+    ((new ≡ old) × (other : State) × Contains old other × IsSameState state other) ⊎ (new ≡ old ++ state ∷ [])
+
+-- whatever was found is found still, and what is found anew comes about by schedules of that length
+pub record Grows (plan : Lines) (depth : ℕ) (old new : Found) : Type 0 where
+  pub shown : IsTrue plan old → IsTrue plan new
+  pub given : (client place : ℕ) (answer : Answer) → Lists old.given.items client place answer → Lists new.given.items client place answer
+  pub ended : (client place : ℕ) (answer : Answer) → Lists old.ended.items client place answer → Lists new.ended.items client place answer
+  pub stuck : (shown : List ℕ) → stuck_of old ≡ Some shown → stuck_of new ≡ Some shown
+  pub soon : ((shown : List ℕ) → stuck_of old ≡ Some shown → length shown ≤ depth)
+      → (shown : List ℕ) → stuck_of new ≡ Some shown → length shown ≤ depth
+
+-- the answer with that schedule
+pub record IsGiven (client place : ℕ) (answer : Answer) (schedule : Schedule) (g : Given) : Type 0 where
+  pub client_is : g.client ≡ client
+  pub place_is : g.place ≡ place
+  pub answer_is : g.answer ≡ answer
+  pub schedule_is : g.schedule.items ≡ schedule
+
+-- the answer was listed last, with that schedule, or nothing was
+abbrev pub Records : List Given → List Given → ℕ → ℕ → Answer → Schedule → Type 0
+Records old new client place answer schedule =
+    (new ≡ old) ⊎ ((g : Given) × (new ≡ old ++ g ∷ []) × IsGiven client place answer schedule g)
+
+-- the states are states still, and go on as whatever standing one of them did
+pub record Extends (plan : Lines) (depth : ℕ) (old new : List State) : Type 0 where
+  pub states : All (IsState plan depth) old → All (IsState plan depth) new
+  pub alike : (now : Standing) → HasLike plan old now → HasLike plan new now
+
+-- where the state's schedule comes to
+abbrev pub standing_at : Lines → State → Standing
+standing_at plan state = standing_of plan state.schedule.items
+
+-- all that comes about at that standing is listed
+pub record IsListed (plan : Lines) (found : Found) (now : Standing) : Type 0 where
+  pub given : (client place : ℕ) (answer : Answer) → Answers plan now client place answer → Lists found.given.items client place answer
+  pub ended : (place : ℕ) (answer : Answer) → Ends plan now place answer → Lists found.ended.items (length plan.clients) place answer
+  pub stuck : IsStuck plan now → (shown : List ℕ) × (stuck_of found ≡ Some shown)
+
+-- wherever a client comes by its next line, one of the states goes on alike
+abbrev pub IsExpanded : Lines → List State → Standing → Type 0
+IsExpanded plan next now = (client : ℕ) (later : Standing) → after_one plan now client ≡ Some later → HasLike plan next later
+
+-- all that comes about at the state is listed, and what it leads to is kept
+pub record IsVisited (plan : Lines) (found : Found) (next : List State) (state : State) : Type 0 where
+  pub listed : IsListed plan found (standing_at plan state)
+  pub expanded : IsExpanded plan next (standing_at plan state)
+
+-- after that schedule the client is done, waits, or makes a line that leads to that state
+abbrev pub IsReached : Lines → Schedule → ℕ → Reached → Type 0
+IsReached plan schedule client reached.Done = next_line plan (standing_of plan schedule) client ≡ None
+IsReached plan schedule client reached.Waits =
+    (after_one plan (standing_of plan schedule) client ≡ None) × IsSome (next_line plan (standing_of plan schedule) client)
+IsReached plan schedule client (reached.Made place given state) =
+    Answers plan (standing_of plan schedule) client place given
+    × (after_one plan (standing_of plan schedule) client ≡ Some (standing_at plan state))
+    × IsState plan (length schedule + 1) state
+
+-- the client is done, waits, or goes on
+abbrev pub IsMove : Lines → Standing → ℕ → Move → Type 0
+IsMove plan now client move.Done = next_line plan now client ≡ None
+IsMove plan now client move.Waits = (after_one plan now client ≡ None) × IsSome (next_line plan now client)
+IsMove plan now client move.Goes = (later : Standing) × (after_one plan now client ≡ Some later)
+
+-- the client's answer at the state is listed, and what it leads to is kept
+pub record IsFollowed (plan : Lines) (found : Found) (next : List State) (now : Standing) (client : ℕ) : Type 0 where
+  pub listed : (place : ℕ) (answer : Answer) → Answers plan now client place answer → Lists found.given.items client place answer
+  pub kept : (later : Standing) → after_one plan now client ≡ Some later → HasLike plan next later
+
+pub record IsTried (plan : Lines) (found : Found) (next : List State) (state : State) (client : ℕ) (move : Move) : Type 0 where
+  pub followed : IsFollowed plan found next (standing_at plan state) client
+  pub is : IsMove plan (standing_at plan state) client move
+
+-- the first clients are done, wait, or one of them goes on
+abbrev pub AreMoves : Lines → Standing → ℕ → Move → Type 0
+AreMoves plan now clients move.Done = (client : ℕ) → client < clients → next_line plan now client ≡ None
+AreMoves plan now clients move.Waits =
+    ((client : ℕ) → client < clients → after_one plan now client ≡ None) × (client : ℕ) × IsSome (next_line plan now client)
+AreMoves plan now clients move.Goes = (client : ℕ) × (later : Standing) × (after_one plan now client ≡ Some later)
+
+pub record AreTried (plan : Lines) (found : Found) (next : List State) (state : State) (clients : ℕ) (moves : Move) : Type 0 where
+  pub followed : (client : ℕ) → client < clients → IsFollowed plan found next (standing_at plan state) client
+  pub are : AreMoves plan (standing_at plan state) clients moves
+
+-- what some clients do and what one more does
+abbrev pub together : Move → Move → Move
+together move.Goes one = move.Goes
+together move.Waits move.Goes = move.Goes
+together move.Waits move.Done = move.Waits
+together move.Waits move.Waits = move.Waits
+together move.Done one = one
+
+-- the answers of the first commands at the end are listed
+abbrev pub AreEndsListed : Lines → List Command → List Given → ℕ → Type 0
+AreEndsListed plan history ended count =
+    (place : ℕ) (command : Command) → place < count → slice_get plan.last place ≡ Some command
+    → Lists ended (length plan.clients) place (answer_now (history_along history (take place plan.last)) command)
+
+-- the answer is of the command of that place at the end, with that schedule
+pub record IsEnd (plan : Lines) (history : List Command) (schedule : Schedule) (g : Given) : Type 0 where
+  pub schedule_is : g.schedule.items ≡ schedule
+  pub command : Command
+  pub at : slice_get plan.last g.place ≡ Some command
+  pub answer : g.answer ≡ answer_now (history_along history (take g.place plan.last)) command
+
+-- answers at the end were listed last
+pub record EndsAre (plan : Lines) (history : List Command) (schedule : Schedule) (old new : List Given) : Type 0 where
+  pub added : List Given
+  pub is : new ≡ old ++ added
+  pub ends : All (IsEnd plan history schedule) added
+
+-- all answers at the end are listed
+abbrev pub HasEnds : Lines → Found → Standing → Type 0
+HasEnds plan found now = (place : ℕ) (answer : Answer) → Ends plan now place answer → Lists found.ended.items (length plan.clients) place answer
+
+-- nothing is found
+pub record IsEmptyFound (found : Found) : Type 0 where
+  pub given : found.given.items ≡ []
+  pub ended : found.ended.items ≡ []
+  pub stuck : found.stuck ≡ None
+
+-- All schedules of that length come to standings that go on as a state does; whatever comes about by a shorter one is listed.
+pub record IsCovered (plan : Lines) (found : Found) (depth : ℕ) (states : List State) : Type 0 where
+  pub are : All (IsState plan depth) states
+  pub reached : (schedule : Schedule) (now : Standing) → length schedule ≡ depth → ComesTo plan schedule now → HasLike plan states now
+  pub listed : (schedule : Schedule) (now : Standing) → length schedule < depth → ComesTo plan schedule now → IsListed plan found now
+  pub soonest : (schedule : Schedule) (now : Standing) → length schedule < depth → ComesTo plan schedule now → IsStuck plan now
+      → (shown : List ℕ) × (stuck_of found ≡ Some shown) × (length shown ≤ length schedule)
+  pub soon : (shown : List ℕ) → stuck_of found ≡ Some shown → length shown ≤ depth

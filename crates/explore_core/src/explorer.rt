@@ -1,0 +1,47 @@
+//! `explore`: a plan decided over every schedule.
+ghost use Rattle.std.specs.Prelude.{◌≡◌, true, IsOk, IfOk, IfErr};
+ghost use Rattle.explore_core.specs.Found.{CanBeExplored, IsTrue, IsAll};
+
+use crate::found::Found;
+use crate::plan::Plan;
+use crate::search::{Stop, search};
+use point_core::Refusal;
+use std::alloc::Global;
+
+/// The default bound of `explore`: how many states it visits at most.
+pub const STATES: usize = 1_000_000;
+
+/// Decides a plan over every schedule, unless it has more than `bound` states.
+///
+/// Fails with `Memory` only.
+pub fn explore(alloc: Global, plan: &Plan, bound: usize) -> Result<Found, Refusal>
+    requires explorable { CanBeExplored plan.now }
+    ensures shown { IfOk result (λ found. IsTrue plan.now found) }
+    ensures all { IfOk result (λ found. found.covered ≡ true → IsAll plan.now found) }
+    ensures memory { IfErr result (λ e. e ≡ Refusal.Memory) }
+{
+    let mut found = Found {
+        given: Vec::new(alloc),
+        ended: Vec::new(alloc),
+        stuck: None,
+        states: 0,
+        covered: false,
+    };
+    let ended = search(alloc, plan, bound, &mut found);
+    found.covered = is_covered(ended)?;
+    Ok(found)
+}
+
+/// Whether a search that ended so has covered every schedule.
+///
+/// Fails with `Memory` if the search did.
+fn is_covered(ended: Result<(), Stop>) -> Result<bool, Refusal>
+    ensures covered { IfOk result (λ covered. covered ≡ true → IsOk ended) }
+    ensures memory { IfErr result (λ e. e ≡ Refusal.Memory) }
+{
+    match ended {
+        Ok(()) => Ok(true),
+        Err(Stop::Bound) => Ok(false),
+        Err(Stop::Memory) => Err(Refusal::Memory),
+    }
+}

@@ -1,0 +1,29 @@
+//! `Found`: what an exploration of a plan finds. Whoever reports on a plan reads it.
+use command_core::Answer;
+
+/// An answer that a line gives in some schedule.
+#[derive(Debug, Drop)]
+pub struct Given {
+    /// The client whose line it is; of a command at the end, the number of clients.
+    pub client: usize,
+    /// The index of the line among the client's, or of the command among those at the end.
+    pub place: usize,
+    pub answer: Answer,
+    /// The clients that go before the line is made, one after another.
+    pub schedule: Vec<usize>,
+}
+
+/// What is found of a plan.
+#[derive(Debug, Drop)]
+pub struct Found {
+    /// The answers of the clients' lines, each answer of a line once.
+    pub given: Vec<Given>,
+    /// The answers of the commands at the end, each answer of a command once.
+    pub ended: Vec<Given>,
+    /// A schedule that gets stuck; none gets stuck sooner.
+    pub stuck: Option<Vec<usize>>,
+    /// How many states were visited.
+    pub states: usize,
+    /// Whether every schedule was covered.
+    pub covered: bool,
+}

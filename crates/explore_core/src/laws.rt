@@ -1,0 +1,52 @@
+//! What holds of all worlds, of desks that look alike, and of standings that are enough: each law is the contract of a function
+//! with an empty body.
+ghost use Rattle.std.specs.Prelude.{◌≡◌, ℕ, Bool, List, All};
+ghost use Rattle.command_core.specs.declared.command.Command.{Command};
+ghost use Rattle.desk_core.specs.theorem.World.{World};
+ghost use Rattle.desk_core.specs.theorem.Answer.{answer_to};
+ghost use Rattle.desk_core.specs.Sound.{IsSound};
+ghost use Rattle.std.specs.Prelude.{Contains};
+ghost use Rattle.desk_core.specs.theorem.Desk.{DeskState, HasHistory};
+ghost use Rattle.desk_core.specs.theorem.History.{world_of};
+ghost use Rattle.explore_core.specs.Looks.{LooksAlike};
+ghost use Rattle.command_core.specs.declared.answer.Answer.{Answer};
+ghost use Rattle.explore_core.specs.Schedule.{Lines, Standing, Schedule, ComesTo, IsStuck, IsAnswered};
+ghost use Rattle.explore_core.specs.Covering.{MayAsk, AreEnough, HasAlike, AnswersThere, IsStuckThere};
+ghost use Rattle.explore_core.specs.Alike.{AsksOnly, AreAlike, after_answer, answers_along};
+
+/// No command tells worlds apart that are alike, and after it they are alike again: so they answer alike for ever.
+pub fn alike_worlds_answer_alike()
+    ensures now { (asked : List ℕ → Bool) (w v : World) (c : Command) →
+        IsSound w → AreAlike asked w v → AsksOnly asked c → answer_to w c ≡ answer_to v c }
+    ensures then { (asked : List ℕ → Bool) (w v : World) (c : Command) →
+        IsSound w → AreAlike asked w v → AsksOnly asked c →
+        AreAlike asked (after_answer w c) (after_answer v c) }
+    ensures ever { (asked : List ℕ → Bool) (w v : World) (cs : List Command) →
+        IsSound w → AreAlike asked w v → All (AsksOnly asked) cs → answers_along w cs ≡ answers_along v cs }
+{}
+
+/// Desks that look alike answer alike for ever, whatever histories they stand for: one may take the other's place.
+pub fn desks_that_look_alike_answer_alike()
+    ensures alike { (asked : List ℕ → Bool) (d e : DeskState) (history other : List Command) →
+        HasHistory d history → HasHistory e other → LooksAlike asked d e →
+        AreAlike asked (world_of history) (world_of other) }
+    ensures ever { (asked : List ℕ → Bool) (d e : DeskState) (history other cs : List Command) →
+        HasHistory d history → HasHistory e other → LooksAlike asked d e → All (AsksOnly asked) cs →
+        answers_along (world_of history) cs ≡ answers_along (world_of other) cs }
+{}
+
+/// Whoever looks at standings that are enough has seen every schedule: where it leads, what its lines are answered, and
+/// whether it gets stuck.
+pub fn enough_standings_cover_every_schedule()
+    ensures led { (asked : List ℕ → Bool) (plan : Lines) (kept : List Standing) →
+        MayAsk asked plan → AreEnough asked plan kept →
+        (schedule : Schedule) (now : Standing) → ComesTo plan schedule now → HasAlike asked kept now }
+    ensures answered { (asked : List ℕ → Bool) (plan : Lines) (kept : List Standing) →
+        MayAsk asked plan → AreEnough asked plan kept →
+        (schedule : Schedule) (client place : ℕ) (given : Answer) → IsAnswered plan schedule client place given →
+        AnswersThere plan kept client place given }
+    ensures stuck { (asked : List ℕ → Bool) (plan : Lines) (kept : List Standing) →
+        MayAsk asked plan → AreEnough asked plan kept →
+        (schedule : Schedule) (now : Standing) → ComesTo plan schedule now → IsStuck plan now →
+        IsStuckThere plan kept now }
+{}

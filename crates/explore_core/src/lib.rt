@@ -1,0 +1,22 @@
+//! Every schedule of a plan: what its lines may be answered, and whether it may get stuck.
+//!
+//! A plan is a list of lines for each client. A schedule says which client goes, one after another; each line is one
+//! command of a desk. `specs/Schedule.antt` defines the schedules, and `specs/Alike.antt` the worlds that need not be told
+//! apart.
+#![tactic(auto)]
+
+mod explorer;
+mod found;
+pub mod laws;
+mod level;
+mod list;
+mod listing;
+mod look;
+mod plan;
+mod position;
+mod search;
+mod state;
+
+pub use explorer::{STATES, explore};
+pub use found::{Found, Given};
+pub use plan::{Plan, Step};

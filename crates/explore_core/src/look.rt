@@ -1,0 +1,236 @@
+//! `Look`: what can be seen of a desk without watches. Two desks whose looks are the same answer alike for ever
+//! (`laws.rt`), so a state keeps a look and no desk.
+ghost use Rattle.std.specs.Prelude.{◌≡◌, true, length, map, IfOk, IfErr, Contains, All};
+ghost use Rattle.desk_core.specs.Keeping.{points_at};
+ghost use Rattle.explore_core.specs.declared.look.FileLook.{FileLook as SeenFile};
+ghost use Rattle.explore_core.specs.Search.{Shows, AreSameLooks, file_look, buffer_look};
+
+use desk_core::Desk;
+use point_core::{Items, Name, Point, Refusal, TimelineRow, TopRow};
+use std::alloc::Global;
+
+/// A file, with the points that it lists.
+#[derive(Debug, Drop, PartialEq, Eq)]
+pub(crate) struct FileLook {
+    pub(crate) name: Name,
+    pub(crate) points: Items<Point>,
+}
+
+/// A buffer, with its pending tops.
+#[derive(Debug, Drop, PartialEq, Eq)]
+pub(crate) struct BufferLook {
+    pub(crate) name: Name,
+    pub(crate) tops: Items<TopRow>,
+}
+
+/// The timelines, files and buffers of a desk, each by the order of making.
+#[derive(Debug, Drop)]
+pub(crate) struct Look {
+    pub(crate) timelines: Items<TimelineRow>,
+    pub(crate) files: Items<FileLook>,
+    pub(crate) buffers: Items<BufferLook>,
+}
+
+// An odd number whose bits look random: 2^64 divided by the golden ratio.
+const HASH_FACTOR: u64 = 0x9E37_79B9_7F4A_7C15;
+
+impl Look {
+    pub(crate) fn of(alloc: Global, desk: &Desk) -> Result<Look, Refusal>
+        ensures shows { IfOk result (λ look. Shows look desk.now) }
+        ensures memory { IfErr result (λ e. e ≡ Refusal.Memory) }
+    {
+        let timelines = desk.timeline_rows()?;
+        let names = desk.file_names()?;
+        let files = file_looks(alloc, desk, names.as_slice())?;
+        let names = desk.buffer_names()?;
+        let buffers = buffer_looks(alloc, desk, names.as_slice())?;
+        Ok(Look {
+            timelines: Items::of(timelines),
+            files: Items::of(files),
+            buffers: Items::of(buffers),
+        })
+    }
+
+    /// A number by which the look may be found again: looks that are the same have the same number.
+    pub(crate) fn hash(&self) -> u64 {
+        let hash = hash_of_timelines(self.timelines.as_slice());
+        let hash = hash_of_buffers(hash, self.buffers.as_slice());
+        mix(hash, hash_of_files(self.files.as_slice()))
+    }
+
+    /// Whether both show the same, but for the order in which files were made.
+    pub(crate) fn is_same(&self, other: &Look) -> bool
+        ensures { result ≡ true → AreSameLooks self.now other.now }
+    {
+        are_same_rows(&self.timelines, &other.timelines)
+            && are_same_buffers(&self.buffers, &other.buffers)
+            && are_same_files(self.files.as_slice(), other.files.as_slice())
+    }
+}
+
+fn are_same_rows(rows: &Items<TimelineRow>, others: &Items<TimelineRow>) -> bool
+    ensures { result ≡ true → rows.now ≡ others.now }
+{
+    *rows == *others
+}
+
+fn are_same_buffers(buffers: &Items<BufferLook>, others: &Items<BufferLook>) -> bool
+    ensures { result ≡ true → buffers.now ≡ others.now }
+{
+    *buffers == *others
+}
+
+/// Whether both have the same files, in whatever order.
+fn are_same_files(files: &[FileLook], others: &[FileLook]) -> bool
+    ensures count { result ≡ true → length files.now ≡ length others.now }
+    ensures there { result ≡ true → All (λ (f : SeenFile). Contains others.now f) files.now }
+    ensures here { result ≡ true → All (λ (f : SeenFile). Contains files.now f) others.now }
+{
+    files.len() == others.len() && are_among(files, others) && are_among(others, files)
+}
+
+fn is_same_file(file: &FileLook, other: &FileLook) -> bool
+    ensures { result ≡ true → file.now ≡ other.now }
+{
+    *file == *other
+}
+
+/// Whether each file is one of the others.
+fn are_among(files: &[FileLook], others: &[FileLook]) -> bool
+    ensures { result ≡ true → All (λ (f : SeenFile). Contains others.now f) files.now }
+{
+    for file in files {
+        if !is_among(file, others) {
+            return false;
+        }
+    }
+    true
+}
+
+fn is_among(file: &FileLook, others: &[FileLook]) -> bool
+    ensures { result ≡ true → Contains others.now file.now }
+{
+    for other in others {
+        if is_same_file(other, file) {
+            return true;
+        }
+    }
+    false
+}
+
+fn file_looks(alloc: Global, desk: &Desk, names: &[Name]) -> Result<Vec<FileLook>, Refusal>
+    ensures looks { IfOk result (λ looks. looks.items ≡ map (file_look desk.now) names.now) }
+    ensures memory { IfErr result (λ e. e ≡ Refusal.Memory) }
+{
+    let mut looks = Vec::new(alloc);
+    for name in names {
+        let look = file_look(alloc, desk, name)?;
+        looks.push(look).map_err(|_| Refusal::Memory)?;
+    }
+    Ok(looks)
+}
+
+fn file_look(alloc: Global, desk: &Desk, name: &Name) -> Result<FileLook, Refusal>
+    ensures look { IfOk result (λ look. look ≡ file_look desk.now name.now) }
+    ensures memory { IfErr result (λ e. e ≡ Refusal.Memory) }
+{
+    let points = points_of(alloc, desk, name)?;
+    Ok(FileLook {
+        name: *name,
+        points: Items::of(points),
+    })
+}
+
+fn points_of(alloc: Global, desk: &Desk, file: &Name) -> Result<Vec<Point>, Refusal>
+    ensures points { IfOk result (λ points. points.items ≡ points_at desk.now.files file.now) }
+    ensures memory { IfErr result (λ e. e ≡ Refusal.Memory) }
+{
+    let Some(listed) = desk.file_points(file) else {
+        return Ok(Vec::new(alloc));
+    };
+    let mut points = Vec::new(alloc);
+    points.extend_from_slice(listed)?;
+    Ok(points)
+}
+
+fn buffer_looks(alloc: Global, desk: &Desk, names: &[Name]) -> Result<Vec<BufferLook>, Refusal>
+    ensures looks { IfOk result (λ looks. looks.items ≡ map (buffer_look desk.now) names.now) }
+    ensures memory { IfErr result (λ e. e ≡ Refusal.Memory) }
+{
+    let mut looks = Vec::new(alloc);
+    for name in names {
+        let look = buffer_look(desk, name)?;
+        looks.push(look).map_err(|_| Refusal::Memory)?;
+    }
+    Ok(looks)
+}
+
+/// Fails also if there is no such buffer.
+fn buffer_look(desk: &Desk, name: &Name) -> Result<BufferLook, Refusal>
+    ensures look { IfOk result (λ look. look ≡ buffer_look desk.now name.now) }
+    ensures memory { IfErr result (λ e. e ≡ Refusal.Memory) }
+{
+    let Ok(tops) = desk.buffer_rows(name) else {
+        return Err(Refusal::Memory);
+    };
+    Ok(BufferLook {
+        name: *name,
+        tops: Items::of(tops),
+    })
+}
+
+fn hash_of_timelines(rows: &[TimelineRow]) -> u64 {
+    let mut hash = 0;
+    for row in rows {
+        hash = mix(hash, row.value);
+    }
+    hash
+}
+
+fn hash_of_buffers(start: u64, buffers: &[BufferLook]) -> u64 {
+    let mut hash = start;
+    for buffer in buffers {
+        hash = hash_of_tops(hash, buffer.tops.as_slice());
+    }
+    hash
+}
+
+fn hash_of_tops(start: u64, tops: &[TopRow]) -> u64 {
+    let mut hash = start;
+    for top in tops {
+        hash = mix(mix(hash, u64::from(top.ctx.number())), top.point);
+    }
+    mix(hash, tops.len() as u64)
+}
+
+/// A sum, which does not depend on the order of the files.
+fn hash_of_files(files: &[FileLook]) -> u64 {
+    let mut sum: u64 = 0;
+    for file in files {
+        let name = hash_of_name(&file.name);
+        sum = sum.wrapping_add(hash_of_points(name, file.points.as_slice()));
+    }
+    sum
+}
+
+fn hash_of_name(name: &Name) -> u64 {
+    let mut hash = 0;
+    for byte in name.as_bytes() {
+        hash = mix(hash, u64::from(*byte));
+    }
+    hash
+}
+
+fn hash_of_points(start: u64, points: &[Point]) -> u64 {
+    let mut hash = start;
+    for point in points {
+        hash = mix(mix(hash, u64::from(point.ctx.number())), point.value);
+    }
+    hash
+}
+
+/// One number of two.
+pub(crate) fn mix(hash: u64, number: u64) -> u64 {
+    let mixed = (hash ^ number).wrapping_mul(HASH_FACTOR);
+    mixed ^ (mixed >> 29)
+}

@@ -1,0 +1,162 @@
+//! `Position`: a desk along a schedule, and how many lines each client has made on it.
+ghost use Rattle.std.specs.Prelude.{◌≡◌, ◌&&◌, List, IsTrue, IfOk, IfErr, OnOk, replicate, get_or, set, slice_get};
+ghost use Rattle.command_core.specs.declared.command.Command.{Command};
+ghost use Rattle.desk_core.specs.theorem.Answer.{is_refused};
+ghost use Rattle.desk_core.specs.theorem.Desk.{HasHistory};
+ghost use Rattle.explore_core.specs.Schedule.{Standing, history_along, lines_of};
+ghost use Rattle.explore_core.specs.Search.{IsMade, IsAt, IsTurn, standing_after, standing_along, standing_of};
+
+use crate::plan::{Plan, Step};
+use command_core::{Answer, Command};
+use desk_core::Desk;
+use point_core::Refusal;
+use std::alloc::Global;
+
+#[derive(Drop)]
+pub(crate) struct Position {
+    pub(crate) desk: Desk,
+    pub(crate) made: Vec<usize>,
+}
+
+/// What a client does when it goes.
+#[derive(Debug, Drop)]
+pub(crate) enum Turn {
+    /// It has made all its lines.
+    Done,
+    /// Its next line would be refused, and waits.
+    Waits,
+    /// It makes the line of that place, with this answer.
+    Made(usize, Answer),
+}
+
+impl Position {
+    /// Where the plan comes by that schedule, on a fresh desk.
+    pub(crate) fn at(alloc: Global, plan: &Plan, schedule: &[usize]) -> Result<Position, Refusal>
+        ensures at { IfOk result (λ position. IsAt position (standing_of plan.now schedule.now)) }
+        ensures memory { IfErr result (λ e. e ≡ Refusal.Memory) }
+    {
+        let made = none_made(alloc, plan.clients.len())?;
+        let mut desk = Desk::new(alloc).unwrap();
+        make_all(&mut desk, plan.first.as_slice())?;
+        let mut position = Position { desk, made };
+        position.go_along(plan, schedule)?;
+        Ok(position)
+    }
+
+    /// The clients go, one after another. A client that can't make its next line makes none.
+    fn go_along(&mut self, plan: &Plan, schedule: &[usize]) -> Result<(), Refusal>
+        ensures along { OnOk result ((now : Standing) →
+            IsAt self.old now → IsAt self.new (standing_along plan.now now schedule.now)) }
+        ensures memory { IfErr result (λ e. e ≡ Refusal.Memory) }
+    {
+        for client in schedule {
+            self.go(plan, *client)?;
+        }
+        Ok(())
+    }
+
+    /// The client makes its next line, if it can.
+    pub(crate) fn go(&mut self, plan: &Plan, client: usize) -> Result<Turn, Refusal>
+        ensures turn { IfOk result (λ turn. (now : Standing) → IsAt self.old now → IsTurn plan.now now client turn) }
+        ensures after { OnOk result ((now : Standing) →
+            IsAt self.old now → IsAt self.new (standing_after plan.now now client)) }
+        ensures memory { IfErr result (λ e. e ≡ Refusal.Memory) }
+    {
+        let place = place_of(self.made.as_slice(), client);
+        let Some(step) = line_at(plan, client, place) else {
+            return Ok(Turn::Done);
+        };
+        let answer = make(&mut self.desk, step.command)?;
+        if is_held(&step, &answer) {
+            return Ok(Turn::Waits);
+        }
+        let Some(next) = place.checked_add(1) else {
+            // It does not come to this: there are fewer lines than a usize counts.
+            return Err(Refusal::Memory);
+        };
+        set(self.made.as_mut_slice(), client, next);
+        Ok(Turn::Made(place, answer))
+    }
+}
+
+fn none_made(alloc: Global, clients: usize) -> Result<Vec<usize>, Refusal>
+    ensures none { IfOk result (λ made. made.items ≡ replicate clients 0) }
+    ensures memory { IfErr result (λ e. e ≡ Refusal.Memory) }
+{
+    let mut made = Vec::new(alloc);
+    for _ in 0..clients {
+        made.push(0).map_err(|_| Refusal::Memory)?;
+    }
+    Ok(made)
+}
+
+fn place_of(made: &[usize], client: usize) -> usize
+    ensures { result ≡ get_or made.now client 0 }
+{
+    made.get(client).copied().unwrap_or(0)
+}
+
+fn set(made: &mut [usize], client: usize, place: usize)
+    ensures { made.new ≡ set made.old client place }
+{
+    if client < made.len() {
+        made[client] = place;
+    }
+}
+
+/// The client's line of that place.
+fn line_at(plan: &Plan, client: usize, place: usize) -> Option<Step>
+    ensures { result ≡ slice_get (lines_of plan.now client) place }
+{
+    let lines = plan.clients.get(client)?;
+    lines.get(place).copied()
+}
+
+/// Makes the commands one after another.
+fn make_all(desk: &mut Desk, commands: &[Command]) -> Result<(), Refusal>
+    ensures along { OnOk result ((history : List Command) →
+        HasHistory desk.old history → HasHistory desk.new (history_along history commands.now)) }
+    ensures memory { IfErr result (λ e. e ≡ Refusal.Memory) }
+{
+    for command in commands {
+        make(desk, *command)?;
+    }
+    Ok(())
+}
+
+/// Makes the command, and fails if the desk finds no memory for it.
+pub(crate) fn make(desk: &mut Desk, command: Command) -> Result<Answer, Refusal>
+    ensures made { IfOk result (λ given. IsMade desk.old command given desk.new) }
+    ensures memory { IfErr result (λ e. e ≡ Refusal.Memory) }
+{
+    let answer = desk.step(command);
+    if is_memory(&answer) {
+        return Err(Refusal::Memory);
+    }
+    Ok(answer)
+}
+
+fn is_memory(answer: &Answer) -> bool
+    ensures { answer.now ≡ Answer.Refused Refusal.Memory → IsTrue result }
+{
+    match answer {
+        Answer::Refused(refusal) => *refusal == Refusal::Memory,
+        _ => false,
+    }
+}
+
+/// Whether a client waits with a line of this answer.
+fn is_held(step: &Step, answer: &Answer) -> bool
+    ensures { result ≡ (step.now.waits && is_refused answer.now) }
+{
+    step.waits && is_refused(answer)
+}
+
+fn is_refused(answer: &Answer) -> bool
+    ensures { result ≡ is_refused answer.now }
+{
+    match answer {
+        Answer::Refused(_) => true,
+        _ => false,
+    }
+}

@@ -1,0 +1,340 @@
+//! The search: level by level, each state of a level with each client's next line.
+ghost use Rattle.std.specs.Prelude.{◌≡◌, ◌+◌, ◌∷◌, [], ℕ, List, All, length, None, Some, IfOk, IfErr, OnOk};
+ghost use Rattle.command_core.specs.declared.command.Command.{Command};
+ghost use Rattle.explore_core.specs.declared.state.State.{State as Kept};
+ghost use Rattle.desk_core.specs.theorem.Desk.{HasHistory};
+ghost use Rattle.explore_core.specs.Found.{CanBeExplored, IsTrue, IsAll, stuck_of};
+ghost use Rattle.explore_core.specs.Schedule.{Lines, ComesTo, IsStuck, next_line};
+ghost use Rattle.explore_core.specs.Search.{Grows, Extends, IsAt, IsState, IsVisited, IsReached, IsTried, AreTried, HasEnds, EndsAre, AreEndsListed, standing_of, IsEmptyFound, together};
+
+use crate::found::{Found, Given};
+use crate::level::Level;
+use crate::list::{copied, with_client};
+use crate::listing::record;
+use crate::plan::Plan;
+use crate::position::{Position, Turn, make};
+use crate::state::State;
+use command_core::Answer;
+use desk_core::Desk;
+use point_core::Refusal;
+use std::alloc::Global;
+
+/// Why a search stops before it has covered every schedule.
+#[derive(Clone, Copy, Debug)]
+pub(crate) enum Stop {
+    Memory,
+    /// There are more states than the bound.
+    Bound,
+}
+
+/// What a client does when it goes.
+#[derive(Debug, Drop)]
+enum Reached {
+    Done,
+    Waits,
+    /// It makes the line of that place, with this answer, and the plan comes to this state.
+    Made(usize, Answer, State),
+}
+
+/// What some clients do when each of them goes.
+#[derive(Clone, Copy, Debug)]
+enum Move {
+    /// All are done.
+    Done,
+    /// None can go on, and one of them waits.
+    Waits,
+    /// One of them goes on.
+    Goes,
+}
+
+/// Explores a plan until every schedule is covered.
+pub(crate) fn search(
+    alloc: Global,
+    plan: &Plan,
+    bound: usize,
+    found: &mut Found,
+) -> Result<(), Stop>
+    requires explorable { CanBeExplored plan.now }
+    requires empty { IsEmptyFound found.old }
+    ensures shown { IsTrue plan.now found.new }
+    ensures all { OnOk result (IsAll plan.now found.new) }
+{
+    let mut level = first_level(alloc, plan, bound)?;
+    for depth in 0..usize::MAX {
+        if level.states().is_empty() {
+            return Ok(());
+        }
+        level = next_level(alloc, plan, depth, &level, found, bound)?;
+    }
+    Err(Stop::Bound)
+}
+
+/// The state in which no client has made a line.
+fn first_level(alloc: Global, plan: &Plan, room: usize) -> Result<Level, Stop>
+    ensures first { IfOk result (λ level. (state : Kept) × (level ≡ state ∷ []) × IsState plan.now 0 state) }
+{
+    let Ok(state) = first_state(alloc, plan) else {
+        return Err(Stop::Memory);
+    };
+    let mut level = Level::new(alloc, room);
+    level.keep(state)?;
+    Ok(level)
+}
+
+fn first_state(alloc: Global, plan: &Plan) -> Result<State, Refusal>
+    ensures first { IfOk result (IsState plan.now 0) }
+{
+    let position = Position::at(alloc, plan, &[])?;
+    let state = State::of(alloc, Vec::new(alloc), &position)?;
+    Ok(state)
+}
+
+/// Visits the states of a level, and gives those that they lead to.
+fn next_level(
+    alloc: Global,
+    plan: &Plan,
+    depth: usize,
+    level: &Level,
+    found: &mut Found,
+    bound: usize,
+) -> Result<Level, Stop>
+    requires explorable { CanBeExplored plan.now }
+    requires states { All (IsState plan.now depth) level.now }
+    ensures grows { Grows plan.now depth found.old found.new }
+    ensures next { IfOk result (λ next. All (IsState plan.now (depth + 1)) next) }
+    ensures visited { IfOk result (λ next. All (IsVisited plan.now found.new next) level.now) }
+{
+    let states = level.states();
+    count(found, states.len());
+    let mut next = Level::new(alloc, bound.saturating_sub(found.states));
+    visit_all(alloc, plan, depth, states, found, &mut next)?;
+    Ok(next)
+}
+
+fn count(found: &mut Found, states: usize)
+    ensures { (plan : Lines) (depth : ℕ) → Grows plan depth found.old found.new }
+{
+    found.states = found.states.saturating_add(states);
+}
+
+/// Visits each state of a level, and keeps the states of the next.
+fn visit_all(
+    alloc: Global,
+    plan: &Plan,
+    depth: usize,
+    states: &[State],
+    found: &mut Found,
+    next: &mut Level,
+) -> Result<(), Stop>
+    requires explorable { CanBeExplored plan.now }
+    requires states { All (IsState plan.now depth) states.now }
+    requires next { All (IsState plan.now (depth + 1)) next.old }
+    ensures grows { Grows plan.now depth found.old found.new }
+    ensures extends { Extends plan.now (depth + 1) next.old next.new }
+    ensures visited { OnOk result (All (IsVisited plan.now found.new next.new) states.now) }
+{
+    for state in states {
+        visit(alloc, plan, depth, state, found, next)?;
+    }
+    Ok(())
+}
+
+/// Lists what comes about at the state, and keeps the states that it leads to.
+fn visit(
+    alloc: Global,
+    plan: &Plan,
+    depth: usize,
+    state: &State,
+    found: &mut Found,
+    next: &mut Level,
+) -> Result<(), Stop>
+    requires explorable { CanBeExplored plan.now }
+    requires state { IsState plan.now depth state.now }
+    requires next { All (IsState plan.now (depth + 1)) next.old }
+    ensures grows { Grows plan.now depth found.old found.new }
+    ensures extends { Extends plan.now (depth + 1) next.old next.new }
+    ensures visited { OnOk result (IsVisited plan.now found.new next.new state.now) }
+{
+    let moves = try_clients(alloc, plan, depth, state, found, next)?;
+    match moves {
+        Move::Goes => Ok(()),
+        Move::Waits => {
+            show_stuck(alloc, plan, depth, state, found)?;
+            Ok(())
+        }
+        Move::Done => {
+            make_last(alloc, plan, depth, state, found)?;
+            Ok(())
+        }
+    }
+}
+
+/// Each client makes its next line at the state, if it can.
+fn try_clients(
+    alloc: Global,
+    plan: &Plan,
+    depth: usize,
+    state: &State,
+    found: &mut Found,
+    next: &mut Level,
+) -> Result<Move, Stop>
+    requires explorable { CanBeExplored plan.now }
+    requires state { IsState plan.now depth state.now }
+    requires next { All (IsState plan.now (depth + 1)) next.old }
+    ensures grows { Grows plan.now depth found.old found.new }
+    ensures extends { Extends plan.now (depth + 1) next.old next.new }
+    ensures tried { IfOk result (λ moves. AreTried plan.now found.new next.new state.now (length plan.now.clients) moves) }
+{
+    let mut moves = Move::Done;
+    for client in 0..plan.clients.len() {
+        let one = try_client(alloc, plan, depth, state, client, found, next)?;
+        moves = together(moves, one);
+    }
+    Ok(moves)
+}
+
+fn together(some: Move, one: Move) -> Move
+    ensures { result ≡ together some one }
+{
+    match some {
+        Move::Goes => Move::Goes,
+        Move::Waits => match one {
+            Move::Goes => Move::Goes,
+            _ => Move::Waits,
+        },
+        Move::Done => one,
+    }
+}
+
+/// The client makes its next line at the state, if it can: its answer is listed, and the state that it leads to kept.
+fn try_client(
+    alloc: Global,
+    plan: &Plan,
+    depth: usize,
+    state: &State,
+    client: usize,
+    found: &mut Found,
+    next: &mut Level,
+) -> Result<Move, Stop>
+    requires explorable { CanBeExplored plan.now }
+    requires state { IsState plan.now depth state.now }
+    requires next { All (IsState plan.now (depth + 1)) next.old }
+    ensures grows { Grows plan.now depth found.old found.new }
+    ensures extends { Extends plan.now (depth + 1) next.old next.new }
+    ensures tried { IfOk result (λ move. IsTried plan.now found.new next.new state.now client move) }
+{
+    let schedule = state.schedule.as_slice();
+    let Ok(reached) = reach(alloc, plan, schedule, client) else {
+        return Err(Stop::Memory);
+    };
+    match reached {
+        Reached::Done => Ok(Move::Done),
+        Reached::Waits => Ok(Move::Waits),
+        Reached::Made(place, answer, later) => {
+            let Ok(_done) = record(&mut found.given, client, place, answer, schedule) else {
+                return Err(Stop::Memory);
+            };
+            next.keep(later)?;
+            Ok(Move::Goes)
+        }
+    }
+}
+
+/// What the client does after the schedule.
+fn reach(alloc: Global, plan: &Plan, schedule: &[usize], client: usize) -> Result<Reached, Refusal>
+    requires comes { ComesTo plan.now schedule.now (standing_of plan.now schedule.now) }
+    ensures reached { IfOk result (λ reached. IsReached plan.now schedule.now client reached) }
+    ensures memory { IfErr result (λ e. e ≡ Refusal.Memory) }
+{
+    let mut position = Position::at(alloc, plan, schedule)?;
+    reach_from(alloc, plan, schedule, client, &mut position)
+}
+
+fn reach_from(
+    alloc: Global,
+    plan: &Plan,
+    schedule: &[usize],
+    client: usize,
+    position: &mut Position,
+) -> Result<Reached, Refusal>
+    requires comes { ComesTo plan.now schedule.now (standing_of plan.now schedule.now) }
+    requires at { IsAt position.old (standing_of plan.now schedule.now) }
+    ensures reached { IfOk result (λ reached. IsReached plan.now schedule.now client reached) }
+    ensures memory { IfErr result (λ e. e ≡ Refusal.Memory) }
+{
+    match position.go(plan, client)? {
+        Turn::Done => Ok(Reached::Done),
+        Turn::Waits => Ok(Reached::Waits),
+        Turn::Made(place, answer) => {
+            let more = with_client(alloc, schedule, client)?;
+            let state = State::of(alloc, more, position)?;
+            Ok(Reached::Made(place, answer, state))
+        }
+    }
+}
+
+/// Shows the schedule, which gets stuck, unless one was shown before.
+fn show_stuck(
+    alloc: Global,
+    plan: &Plan,
+    depth: usize,
+    state: &State,
+    found: &mut Found,
+) -> Result<(), Stop>
+    requires state { IsState plan.now depth state.now }
+    requires stuck { IsStuck plan.now (standing_of plan.now state.now.schedule.items) }
+    ensures grows { Grows plan.now depth found.old found.new }
+    ensures shown { OnOk result ((shown : List ℕ) × (stuck_of found.new ≡ Some shown)) }
+{
+    if found.stuck.is_some() {
+        return Ok(());
+    }
+    let Ok(schedule) = copied(alloc, state.schedule.as_slice()) else {
+        return Err(Stop::Memory);
+    };
+    found.stuck = Some(schedule);
+    Ok(())
+}
+
+/// Makes the commands at the end, and lists their answers.
+fn make_last(
+    alloc: Global,
+    plan: &Plan,
+    depth: usize,
+    state: &State,
+    found: &mut Found,
+) -> Result<(), Stop>
+    requires state { IsState plan.now depth state.now }
+    requires done { (client : ℕ) → next_line plan.now (standing_of plan.now state.now.schedule.items) client ≡ None }
+    ensures grows { Grows plan.now depth found.old found.new }
+    ensures ended { OnOk result (HasEnds plan.now found.new (standing_of plan.now state.now.schedule.items)) }
+{
+    let schedule = state.schedule.as_slice();
+    let Ok(mut position) = Position::at(alloc, plan, schedule) else {
+        return Err(Stop::Memory);
+    };
+    let Ok(()) = answer_last(plan, schedule, &mut position.desk, &mut found.ended) else {
+        return Err(Stop::Memory);
+    };
+    Ok(())
+}
+
+fn answer_last(
+    plan: &Plan,
+    schedule: &[usize],
+    desk: &mut Desk,
+    ended: &mut Vec<Given>,
+) -> Result<(), Refusal>
+    ensures records { (history : List Command) → HasHistory desk.old history →
+        EndsAre plan.now history schedule.now ended.old.items ended.new.items }
+    ensures lists { OnOk result ((history : List Command) → HasHistory desk.old history →
+        AreEndsListed plan.now history ended.new.items (length plan.now.last)) }
+    ensures memory { IfErr result (λ e. e ≡ Refusal.Memory) }
+{
+    let commands = plan.last.as_slice();
+    for (place, command) in commands.iter().enumerate() {
+        let answer = make(desk, *command)?;
+        record(ended, plan.clients.len(), place, answer, schedule)?;
+    }
+    Ok(())
+}
