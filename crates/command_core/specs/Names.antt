@@ -2,8 +2,8 @@
 use Rattle.std.specs.Prelude.{ℕ, List, [], ◌∷◌, Option, None, Some, codes}
 use Rattle.command_core.specs.declared.command.Command.{Command}
 use Rattle.command_core.specs.declared.command.Command.TheVariants as command
-use Rattle.command_core.specs.declared.names.Space.{Space}
-use Rattle.command_core.specs.declared.names.Space.TheVariants.{Timeline, File, Buffer}
+use Rattle.command_core.specs.declared.command.Space.{Space}
+use Rattle.command_core.specs.declared.command.Space.TheVariants.{Timeline, File, Buffer}
 
 -- the first word of its line in a script
 abbrev pub word_of : Command → List ℕ

@@ -4,8 +4,6 @@
 
 mod answer;
 mod command;
-mod names;
 
 pub use answer::{Answer, BufferRows, FenceRow, FileRow, Info, Maker, Report, ShowRow};
-pub use command::Command;
-pub use names::Space;
+pub use command::{Command, Space};
