@@ -68,32 +68,8 @@ of-none = record { fits = fit-none; own = λ words c e. one_only (are_none words
     one_only true made e = ap word_of (same made e)
     one_only false made e = absurd (cc)
 
-infixr 30 ◌also◌
-◌also◌ : {A B : Type 0} → A → B → A × B
-a also b = (a, b)
-
 are_rows : AllByRecursion IsRow table
-are_rows =
-    of-one_name (codes "timeline") command.Timeline (λ _. refl)
-    also of-name_and_number (codes "inc") (λ w. command.Inc w.0 w.1) (λ _. refl)
-    also of-one_name (codes "value") command.Value (λ _. refl)
-    also of-one_name (codes "shut") command.Shut (λ _. refl)
-    also of-two_names_and_number (codes "fence") (λ w. command.Fence w.0 w.1 w.2) (λ _. refl)
-    also of-three_names (codes "merge") (λ w. command.Merge w.0 w.1 w.2) (λ _. refl)
-    also of-one_name (codes "close") command.Close (λ _. refl)
-    also of-one_name (codes "wait") command.Wait (λ _. refl)
-    also of-one_name (codes "info") command.Info (λ _. refl)
-    also of-one_name (codes "buffer") command.Buffer (λ _. refl)
-    also of-two_names_number_and_usage (codes "add") (λ w. command.Add w.0 w.1 w.2 w.3) (λ _. refl)
-    also of-two_names_and_flags (codes "import") (λ w. command.Import w.0 w.1 w.2) (λ _. refl)
-    also of-two_names_and_flags (codes "export") (λ w. command.Export w.0 w.1 w.2) (λ _. refl)
-    also of-name_and_usage (codes "test") (λ w. command.Test w.0 w.1) (λ _. refl)
-    also of-one_name (codes "trim") command.Trim (λ _. refl)
-    also of-name_and_number (codes "watch") (λ w. command.Watch w.0 w.1) (λ _. refl)
-    also of-one_number (codes "unwatch") command.Unwatch (λ _. refl)
-    also of-one_name (codes "show") command.Show (λ _. refl)
-    also of-none
-    also tt
+are_rows = search (of-one_name, of-one_number, of-name_and_number, of-two_names_and_number, of-three_names, of-two_names_number_and_usage, of-two_names_and_flags, of-name_and_usage, of-none)
 
 -- the row that is found
 found-IsRow : (word : List ℕ) (row : Row) → row_at table word ≡ Some row → IsRow row
