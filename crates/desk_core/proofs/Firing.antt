@@ -1,5 +1,5 @@
 -- Which watches fire along a history.
-use Rattle.std.proofs.Common.{◌≡◌, ℕ, ◌+◌, ◌≤◌, nat_eq, nat_le, Bool, true, false, not, cond, ◌↔◌, refl, sym, ap, subst, List, [], ◌∷◌, ◌++◌, map, filter, Contains, arith, inl, inr}
+use Rattle.std.proofs.Common.{◌≡◌, ◌≢◌, ℕ, ◌+◌, ◌≤◌, nat_eq, nat_le, Bool, true, false, not, cond, ◌↔◌, IfSome, refl, sym, ap, subst, List, [], ◌∷◌, ◌++◌, map, filter, Contains, arith, inl, inr}
 use Rattle.std.specs.List.{count_by, sum_by}
 use Rattle.std.proofs.lemmas.Bool.{leb-true, leb-false, eqb-true}
 use Rattle.std.proofs.lemmas.List.Sums.{sum_by-append}
@@ -9,7 +9,7 @@ use Rattle.point_core.proofs.Reached.{all_reached-IsReached}
 use Rattle.timeline_core.specs.Timeline.{has_timeline, value_of, is_closed}
 use Rattle.command_core.specs.declared.command.Command.{Command}
 use Rattle.command_core.specs.declared.command.Command.TheVariants as command
-use Rattle.desk_core.specs.theorem.World.{World, MadeWatch, empty_world, put_set, after, is_due, raised_reach, shut_reach, due_watches, other_watches, fired_watches, shut_watches, watch_made}
+use Rattle.desk_core.specs.theorem.World.{World, MadeWatch, empty_world, put_set, after, is_due, reach_by, raised_reach, shut_reach, due_watches, other_watches, fired_watches, shut_watches, watch_made}
 use Rattle.std.proofs.Common.{◌^◌}
 use Rattle.timeline_core.specs.Timeline.{reach_of}
 use Rattle.fence_core.proofs.Once.{Contains-filter, Contains-filtered}
@@ -20,7 +20,6 @@ use Rattle.desk_core.specs.theorem.World.{cookies_of}
 use Rattle.desk_core.proofs.Answering.{world_from-push}
 use Rattle.desk_core.proofs.Sums.{reported_raised, reported_closed}
 use Rattle.desk_core.specs.theorem.Fired.{fired_from, fired_along, pending_after}
-use Rattle.desk_core.specs.Removals.{IsLeftBy}
 use Rattle.std.proofs.lemmas.Bool.{ne_eqb}
 use Rattle.std.proofs.lemmas.List.Elements.{Contains-append_left}
 
@@ -123,18 +122,22 @@ ReportsWhatFires-stands desk history stands =
 
 -- what stays pending
 
+-- the command doesn't remove the watch, and doesn't reach all that was put into its file
+abbrev IsLeftBy : World → MadeWatch → Command → Type 0
+IsLeftBy w x c = (c ≢ command.Unwatch x.cookie) × IfSome (reach_by w.timelines c) (λ reach. is_due reach x ≡ false)
+
 Contains-after : (w : World) (x : MadeWatch) (c : Command) → Contains w.watches x → IsLeftBy w x c → Contains (after w c).watches x
-Contains-after w x (command.Inc t n) h left = Contains-filter (λ (y : MadeWatch). not (is_due (raised_reach w t n) y)) w.watches x h (ap not left)
-Contains-after w x (command.Shut t) h left = Contains-filter (λ (y : MadeWatch). not (is_due (shut_reach w t) y)) w.watches x h (ap not left)
-Contains-after w x (command.Unwatch cookie) h left = Contains-filter (λ (y : MadeWatch). not (nat_eq y.cookie cookie)) w.watches x h (ap not (ne_eqb x.cookie cookie left))
+Contains-after w x (command.Inc t n) h left = Contains-filter (λ (y : MadeWatch). not (is_due (raised_reach w t n) y)) w.watches x h (ap not left.1)
+Contains-after w x (command.Shut t) h left = Contains-filter (λ (y : MadeWatch). not (is_due (shut_reach w t) y)) w.watches x h (ap not left.1)
+Contains-after w x (command.Unwatch cookie) h left = Contains-filter (λ (y : MadeWatch). not (nat_eq y.cookie cookie)) w.watches x h (ap not (ne_eqb x.cookie cookie (λ same. left.0 (ap command.Unwatch (sym same)))))
 Contains-after w x (command.Watch f cookie) h left = Contains-append_left w.watches (watch_made cookie (put_set w.files f) w.watches_made ∷ []) x h
 Contains-after w x _ h left = h
 
 -- a watch stays as it was registered, until it is removed or fires
-pub pending_after-left : (history : List Command) (c : Command) (x : MadeWatch) → Contains (pending_after history) x → IsLeftBy (world_of history) x c → Contains (pending_after (history ++ c ∷ [])) x
-pending_after-left history c x h left =
+pub pending_after-left : (history : List Command) (c : Command) (x : MadeWatch) → Contains (pending_after history) x → c ≢ command.Unwatch x.cookie → IfSome (reach_by (world_of history).timelines c) (λ reach. is_due reach x ≡ false) → Contains (pending_after (history ++ c ∷ [])) x
+pending_after-left history c x h stays pending =
     let P : World → Type 0 = λ w. Contains w.watches x in
-    subst P (sym (world_from-push empty_world history c)) (Contains-after (world_of history) x c h left)
+    subst P (sym (world_from-push empty_world history c)) (Contains-after (world_of history) x c h (stays, pending))
 
 pub pending_after-watch : (history : List Command) (f : List ℕ) (cookie : ℕ) → pending_after (history ++ command.Watch f cookie ∷ []) ≡ pending_after history ++ watch_made cookie (put_into_file history f) ((world_of history).watches_made) ∷ []
 pending_after-watch history f cookie = ap (λ (w : World). w.watches) (world_from-push empty_world history (command.Watch f cookie))

@@ -17,11 +17,11 @@ use Rattle.timeline_core.proofs.Raising.{names_of-raised, names_of-shut}
 use Rattle.command_core.specs.declared.answer.Answer.TheVariants as answer
 use Rattle.command_core.specs.declared.command.Command.{Command}
 use Rattle.command_core.specs.declared.command.Command.TheVariants as command
-use Rattle.desk_core.specs.theorem.World.{World, empty_world, after, fired_watches, shut_watches, cookies_of}
+use Rattle.desk_core.specs.theorem.World.{World, empty_world, after, fired_watches, shut_watches, cookies_of, increment_in}
 use Rattle.point_core.specs.Named.{same_name}
 use Rattle.point_core.proofs.Named.{find-All}
 use Rattle.desk_core.specs.theorem.Answer.{first_of, cause, causes, refused_or}
-use Rattle.desk_core.specs.theorem.History.{world_from, world_of, AreAccepted, IsHistory, increment_in, increments_in}
+use Rattle.desk_core.specs.theorem.History.{world_from, world_of, AreAccepted, IsHistory, increments_in}
 use Rattle.desk_core.specs.theorem.Desk.{DeskState, HasHistory}
 use Rattle.desk_core.specs.theorem.Headline.{ReportsSums}
 use Rattle.desk_core.proofs.Sound.{first_of-none, causes-accepted, not-false}

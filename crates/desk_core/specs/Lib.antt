@@ -1,4 +1,3 @@
 pub mod Keeping
-pub mod Removals
 pub mod Sound
 pub mod theorem

@@ -1,7 +1,8 @@
 //! Theorems about histories, and about every desk that refines one: each law is the contract of a function with an
 //! empty body, which no caller runs.
-ghost use Rattle.std.specs.Prelude.{◌≡◌, ℕ, ◌≤◌, nat_eq, count_by, List, [], ◌∷◌, ◌++◌, Contains};
+ghost use Rattle.std.specs.Prelude.{◌≡◌, ◌≢◌, ℕ, ◌≤◌, nat_eq, count_by, false, IfSome, List, [], ◌∷◌, ◌++◌, Contains};
 ghost use Rattle.command_core.specs.declared.command.Command.{Command};
+ghost use Rattle.command_core.specs.declared.command.Command.TheVariants.{Unwatch};
 ghost use Rattle.command_core.specs.declared.answer.Answer.{Answer};
 ghost use Rattle.timeline_core.specs.Sums.{AreSums};
 ghost use Rattle.desk_core.specs.theorem.Answer.{causes, first_of};
@@ -9,9 +10,8 @@ ghost use Rattle.desk_core.specs.theorem.History.{world_of, IsHistory, increment
 ghost use Rattle.desk_core.specs.Sound.{IsSound};
 ghost use Rattle.desk_core.specs.theorem.Desk.{DeskState, HasHistory};
 ghost use Rattle.desk_core.specs.Keeping.{cause_of};
-ghost use Rattle.desk_core.specs.theorem.World.{MadeWatch, watch_made};
+ghost use Rattle.desk_core.specs.theorem.World.{MadeWatch, is_due, reach_by, watch_made};
 ghost use Rattle.desk_core.specs.theorem.Fired.{fired_along, pending_after};
-ghost use Rattle.desk_core.specs.Removals.{IsLeftBy};
 ghost use Rattle.desk_core.specs.theorem.Headline.{ReportsSums, ReportsWhatWasPut, ReportsWhatIsInBuffers, ReportsWhatFires, ReportsEachWatch, put_into_file};
 
 /// What was put into files and buffers is of timelines that were made, and no value has fallen since; there are no more
@@ -37,7 +37,8 @@ pub fn a_watch_keeps_what_was_put()
         pending_after (history ++ Command.Watch file cookie ∷ [])
         ≡ pending_after history ++ watch_made cookie (put_into_file history file) ((world_of history).watches_made) ∷ [] }
     ensures kept { (history : List Command) (c : Command) (x : MadeWatch) →
-        Contains (pending_after history) x → IsLeftBy (world_of history) x c →
+        Contains (pending_after history) x → c ≢ Unwatch x.cookie →
+        IfSome (reach_by (world_of history).timelines c) (λ reach. is_due reach x ≡ false) →
         Contains (pending_after (history ++ c ∷ [])) x }
 {}
 

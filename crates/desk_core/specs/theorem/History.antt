@@ -3,11 +3,10 @@ use Rattle.std.specs.Prelude.{◌≡◌, ◌⊎◌, true, false, if◌then◌els
 use Rattle.std.specs.List.{flat_map}
 use Rattle.point_core.specs.declared.refusal.Refusal.TheVariants.{Memory}
 use Rattle.command_core.specs.declared.command.Command.{Command}
-use Rattle.command_core.specs.declared.command.Command.TheVariants as command
 use Rattle.command_core.specs.declared.answer.Answer.{Answer}
 use Rattle.command_core.specs.declared.answer.Answer.TheVariants as answer
-use Rattle.desk_core.specs.theorem.World.{World, empty_world, after, fires_some}
-use Rattle.timeline_core.specs.Sums.{Increment, increment}
+use Rattle.desk_core.specs.theorem.World.{World, empty_world, after, fires_some, increment_in}
+use Rattle.timeline_core.specs.Sums.{Increment}
 use Rattle.desk_core.specs.theorem.Answer.{answer_to, is_refused, takes_memory}
 
 abbrev pub world_from : World → List Command → World
@@ -26,28 +25,6 @@ AreAccepted w (c ∷ cs) = (is_refused (answer_to w c) ≡ false) × AreAccepted
 -- a history is a list of accepted commands
 abbrev pub IsHistory : List Command → Type 0
 IsHistory history = AreAccepted empty_world history
-
--- the increment that the command makes
-abbrev pub increment_in : Command → List Increment
-increment_in (command.Timeline t) = []
-increment_in (command.Inc t n) = increment t n ∷ []
-increment_in (command.Value t) = []
-increment_in (command.Shut t) = []
-increment_in (command.Fence f t p) = []
-increment_in (command.Merge f a b) = []
-increment_in (command.Close f) = []
-increment_in (command.Wait f) = []
-increment_in (command.Info f) = []
-increment_in (command.Buffer b) = []
-increment_in (command.Add b t p u) = []
-increment_in (command.Import b f flags) = []
-increment_in (command.Export f b flags) = []
-increment_in (command.Test b u) = []
-increment_in (command.Trim b) = []
-increment_in (command.Watch f cookie) = []
-increment_in (command.Unwatch cookie) = []
-increment_in (command.Show b) = []
-increment_in command.Report = []
 
 -- the accepted increments
 abbrev pub increments_in : List Command → List Increment

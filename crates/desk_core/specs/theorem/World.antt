@@ -10,6 +10,7 @@ use Rattle.dmabuf_core.specs.Flags.{exported, imported}
 use Rattle.command_core.specs.declared.command.Command.{Command}
 use Rattle.command_core.specs.declared.command.Command.TheVariants as command
 use Rattle.timeline_core.specs.Timeline.{Timeline, new_timeline, context_of, reach_of, raised, shut}
+use Rattle.timeline_core.specs.Sums.{Increment, increment}
 
 -- a sync file, with all that was put into it. A file made of one point lists it whether or not it is signalled
 pub record MadeFile : Type 0 where
@@ -139,6 +140,28 @@ reach_by ts (command.Watch f cookie) = None
 reach_by ts (command.Unwatch cookie) = None
 reach_by ts (command.Show b) = None
 reach_by ts command.Report = None
+
+-- the increment that the command makes
+abbrev pub increment_in : Command → List Increment
+increment_in (command.Timeline t) = []
+increment_in (command.Inc t n) = increment t n ∷ []
+increment_in (command.Value t) = []
+increment_in (command.Shut t) = []
+increment_in (command.Fence f t p) = []
+increment_in (command.Merge f a b) = []
+increment_in (command.Close f) = []
+increment_in (command.Wait f) = []
+increment_in (command.Info f) = []
+increment_in (command.Buffer b) = []
+increment_in (command.Add b t p u) = []
+increment_in (command.Import b f flags) = []
+increment_in (command.Export f b flags) = []
+increment_in (command.Test b u) = []
+increment_in (command.Trim b) = []
+increment_in (command.Watch f cookie) = []
+increment_in (command.Unwatch cookie) = []
+increment_in (command.Show b) = []
+increment_in command.Report = []
 
 -- whether the command fires a watch
 abbrev pub fires_some : World → Command → Bool
