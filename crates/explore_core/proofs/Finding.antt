@@ -1,5 +1,5 @@
 -- What a visit finds: answers, states, and a schedule that gets stuck.
-use Rattle.std.proofs.Common.{◌≡◌, ◌⊎◌, ℕ, zero, suc, ◌+◌, ◌<◌, ◌≤◌, true, refl, sym, ap, ◌∙◌, subst, List, [], ◌∷◌, ◌++◌, length, take, Option, None, Some, option_map, unwrap_or, if◌then◌else◌, slice_get, get_or, arith, inl, inr, Contains}
+use Rattle.std.proofs.Common.{◌≡◌, ◌⊎◌, ℕ, zero, suc, ◌+◌, ◌<◌, ◌≤◌, refl, sym, ap, ◌∙◌, subst, List, [], ◌∷◌, ◌++◌, length, take, Option, None, Some, option_map, unwrap_or, if◌then◌else◌, slice_get, get_or, arith, inl, inr, Contains}
 use Rattle.std.specs.Prelude.{All, IsSome, Vec}
 use Rattle.std.specs.Global.{Global}
 use Rattle.std.proofs.lemmas.Bool.{cases_lt, false≢true}
@@ -16,7 +16,7 @@ use Rattle.explore_core.specs.declared.search.Move.{Move}
 use Rattle.explore_core.specs.declared.search.Move.TheVariants as move
 use Rattle.explore_core.specs.Found.{CanBeExplored, Lists, stuck_of}
 use Rattle.explore_core.specs.Schedule.{Lines, Standing, Schedule, answer_now, history_along, beginning, lines_of, next_line, made_by, after_line, made_line, after_one, ComesTo, IsStuck, IsAnswered, IsEndAnswered}
-use Rattle.explore_core.specs.Search.{standing_of, standing_at, Answers, HasLike, Grows, Extends, IsState, Keeps, Records, IsGiven, IsVisited, IsFollowed, IsTried, AreTried, IsMove, AreMoves, together, HasEnds, EndsAre, IsEnd, AreEndsListed}
+use Rattle.explore_core.specs.Search.{is_asked, standing_of, standing_at, Answers, HasLike, Grows, Extends, IsState, Keeps, Records, IsGiven, IsVisited, IsFollowed, IsTried, AreTried, IsMove, AreMoves, together, HasEnds, EndsAre, IsEnd, AreEndsListed}
 use Rattle.explore_core.proofs.Levels.{go-on-refl, Extends-refl}
 use Rattle.explore_core.proofs.Scheduling.{Leads-is, Leads-push}
 use Rattle.explore_core.proofs.Showing.{same-state}
@@ -79,7 +79,7 @@ HasLike-kept {plan} {depth} {old} {new} {state} can all keeps is = elim keeps [
       let other = same.1 in
       let other_is = All-contains (IsState plan depth) old other all same.2 in
       (other, subst (λ states. Contains states other) (sym same.0) same.2, same-state can state other is other_is same.3))
-  | inr more ↦ (state, subst (λ states. Contains states state) (sym more) (Contains-append_right old (state ∷ []) state (0, omega arith, refl)), go-on-refl (λ name. true) (standing_at plan state))
+  | inr more ↦ (state, subst (λ states. Contains states state) (sym more) (Contains-append_right old (state ∷ []) state (0, omega arith, refl)), go-on-refl (is_asked plan) (standing_at plan state))
 ]
 
 -- what a client does

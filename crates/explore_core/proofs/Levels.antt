@@ -1,5 +1,5 @@
 -- Level by level, all schedules are covered.
-use Rattle.std.proofs.Common.{◌≡◌, ℕ, zero, suc, ◌+◌, ◌<◌, ◌≤◌, Bool, true, refl, sym, ap, ◌∙◌, subst, List, [], ◌∷◌, ◌++◌, length, length-take, take, Option, None, Some, slice_get, get_or, option_map, arith, inl, inr}
+use Rattle.std.proofs.Common.{◌≡◌, ℕ, zero, suc, ◌+◌, ◌<◌, ◌≤◌, Bool, refl, sym, ap, ◌∙◌, subst, List, [], ◌∷◌, ◌++◌, length, length-take, take, Option, None, Some, slice_get, get_or, option_map, arith, inl, inr}
 use Rattle.std.specs.Prelude.{All, Vec}
 use Rattle.std.specs.Global.{Global}
 use Rattle.std.specs.List.{AllZip}
@@ -19,8 +19,9 @@ use Rattle.explore_core.specs.Alike.{AsksOnly, AreAlike, IsSameWatch}
 use Rattle.explore_core.specs.Covering.{MayAsk, GoOnAlike}
 use Rattle.explore_core.specs.Found.{CanBeExplored, IsTrue, IsAll, stuck_of}
 use Rattle.explore_core.specs.Schedule.{Lines, Standing, Schedule, answer_now, history_with, history_along, beginning, after_one, ComesTo, IsStuck, IsAnswered, IsEndAnswered}
-use Rattle.explore_core.specs.Search.{standing_of, standing_at, HasLike, Grows, Extends, IsState, IsListed, IsVisited, IsCovered, IsEmptyFound}
+use Rattle.explore_core.specs.Search.{is_asked, standing_of, standing_at, HasLike, Grows, Extends, IsState, IsListed, IsVisited, IsCovered, IsEmptyFound}
 use Rattle.explore_core.proofs.Answering.{same_answer}
+use Rattle.explore_core.proofs.Asking.{may-ask}
 use Rattle.explore_core.proofs.Staying.{alike-answered}
 use Rattle.explore_core.proofs.Covering.{world-with, sound-with, go-on-trans, next-same, asks-next, answer-same, can-same, one-alike, stuck-alike}
 use Rattle.explore_core.proofs.Scheduling.{Leads-is, Leads-split, comes-before, sound-comes}
@@ -124,7 +125,7 @@ module _ {asked : List ℕ → Bool} where
       let along = alike-along now.history other.history (take place plan.last) sound g.worlds (All-front (AsksOnly asked) place plan.last may.last) in
       same_answer along.0 command (All-get (AsksOnly asked) plan.last place command may.last at) along.1
 
-pub IsListed-alike : {plan : Lines} {found : Found} {now other : Standing} → MayAsk (λ name. true) plan → GoOnAlike (λ name. true) now other → IsSound (world_of now.history) → IsListed plan found other → IsListed plan found now
+pub IsListed-alike : {plan : Lines} {found : Found} {now other : Standing} → MayAsk (is_asked plan) plan → GoOnAlike (is_asked plan) now other → IsSound (world_of now.history) → IsListed plan found other → IsListed plan found now
 IsListed-alike {plan} {found} {now} {other} may g sound l = record {
   given = λ client place answer a.
       let asks = asks-next may g sound client a.step a.next in
@@ -157,7 +158,7 @@ IsCovered-first plan found state empty is = record {
   reached = λ schedule now short comes.
       let none = length-none state.schedule.items is.deep in
       let same : now ≡ standing_at plan state = Leads-is plan (beginning plan) schedule now comes ∙ ap (standing_of plan) (length-none schedule short ∙ sym none) in
-      (state, (0, omega arith, refl), subst (λ (s : Standing). GoOnAlike (λ name. true) now s) same (go-on-refl (λ name. true) now));
+      (state, (0, omega arith, refl), subst (λ (s : Standing). GoOnAlike (is_asked plan) now s) same (go-on-refl (is_asked plan) now));
   listed = λ schedule now short comes. absurd (omega (arith, short));
   soonest = λ schedule now short comes stuck. absurd (omega (arith, short));
   soon = λ shown is. absurd (none-some shown (sym (none-stuck found empty.stuck) ∙ is));
@@ -181,7 +182,7 @@ module _ {plan : Lines} {old new : Found} {depth : ℕ} {states next : List Stat
   listed-here : (schedule : Schedule) (now : Standing) → length schedule ≡ depth → ComesTo plan schedule now → IsListed plan new now
   listed-here schedule now deep comes =
       let has = covered.reached schedule now deep comes in
-      IsListed-alike can.asks has.2 (sound-comes plan schedule now comes) (All-contains (IsVisited plan new next) states has.0 visited has.1).listed
+      IsListed-alike (may-ask can) has.2 (sound-comes plan schedule now comes) (All-contains (IsVisited plan new next) states has.0 visited has.1).listed
 
   listed-next : (schedule : Schedule) (now : Standing) → length schedule < depth + 1 → ComesTo plan schedule now → IsListed plan new now
   listed-next schedule now short comes = elim (cases_lt (length schedule) depth) [
@@ -209,7 +210,7 @@ module _ {plan : Lines} {old new : Found} {depth : ℕ} {states next : List Stat
       let mid = split.0 in
       let goes : after_one plan mid parts.1 ≡ Some now = split.2.1 ∙ ap Some split.2.2 in
       let has = covered.reached parts.0 mid parts.3 split.1 in
-      let there = one-alike can.asks has.2 (sound-comes plan parts.0 mid split.1) parts.1 now goes in
+      let there = one-alike (may-ask can) has.2 (sound-comes plan parts.0 mid split.1) parts.1 now goes in
       let kept = (All-contains (IsVisited plan new next) states has.0 visited has.1).expanded parts.1 there.0 there.1 in
       (kept.0, kept.1, go-on-trans {t = standing_at plan kept.0} there.2 kept.2)
 

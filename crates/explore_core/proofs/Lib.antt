@@ -1,3 +1,4 @@
+pub mod Asking
 pub mod Answering
 pub mod Naming
 pub mod Staying

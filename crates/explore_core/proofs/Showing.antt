@@ -1,10 +1,10 @@
 -- Desks whose looks are the same look alike.
-use Rattle.std.proofs.Common.{◌≡◌, ◌⊎◌, ℕ, zero, suc, ◌+◌, ◌≤◌, nat_le, nat_eq, Bool, true, false, ◌||◌, ◌&&◌, cond, refl, sym, ap, ◌∙◌, subst, List, [], ◌∷◌, ◌++◌, length, map, filter, count_by, Option, None, Some, option_map, unwrap_or, is_some, inl, inr, arith, Contains, true≢false}
+use Rattle.std.proofs.Common.{◌≡◌, ◌⊎◌, ℕ, zero, suc, ◌+◌, ◌≤◌, nat_le, nat_eq, Bool, true, false, ◌||◌, ◌&&◌, cond, if◌then◌else◌, refl, sym, ap, ◌∙◌, subst, List, [], ◌∷◌, ◌++◌, length, map, filter, count_by, Option, None, Some, option_map, unwrap_or, is_some, inl, inr, arith, Contains, true≢false}
 use Rattle.std.specs.Prelude.{All}
 use Rattle.std.specs.List.{list_any, IsDistinct, AllByRecursion, AllZip}
 use Rattle.std.specs.Map.{values_of}
 use Rattle.std.specs.Cmp.Lexicographic.{same_text, nat_list_eq_equiv}
-use Rattle.std.proofs.lemmas.Bool.{cases_Bool, false≢true, le-leb}
+use Rattle.std.proofs.lemmas.Bool.{cases_Bool, false≢true, le-leb, leb-true}
 use Rattle.std.proofs.lemmas.List.{length-map, map-append, append-nil}
 use Rattle.std.proofs.lemmas.List.Elements.{All-nil, All-head, All-tail, All-contains, filter-append, Contains-append_right, Contains-append_cases}
 use Rattle.std.proofs.lemmas.List.Sums.{sum_by-cons}
@@ -19,12 +19,15 @@ use Rattle.point_core.specs.declared.entry.Usage.TheVariants.{Kernel, Write, Rea
 use Rattle.point_core.specs.declared.listing.TopRow.{TopRow}
 use Rattle.point_core.specs.declared.timeline_row.TimelineRow.{TimelineRow}
 use Rattle.point_core.specs.Usage.{usage_number}
-use Rattle.point_core.specs.Agreement.{AgreesAbove, HasContexts, as_entries, point_of, top, later, pending, listing}
+use Rattle.point_core.specs.Agreement.{AgreesAbove, HasContexts, as_entry, as_entries, point_of, top, later, pending, listing}
 use Rattle.point_core.specs.Named.{same_name, is_named, has_named}
 use Rattle.point_core.specs.Reach.{value_at}
-use Rattle.point_core.proofs.Agreement.{AgreesAbove-same, AgreesAbove-from_listing, listing-same}
+use Rattle.point_core.proofs.Agreement.{AgreesAbove-same, AgreesAbove-refl, AgreesAbove-sym, AgreesAbove-trans, AgreesAbove-append, AgreesAbove-signalled, AgreesAbove-from_listing, listing-same}
+use Rattle.point_core.proofs.Ticking.{is_signalled-of, value_at-reach_of_clocks}
+use Rattle.point_core.specs.Clocks.{clock_at, is_past_closing, reached_by, status_at}
+use Rattle.point_core.specs.Status.{is_signalled}
 use Rattle.point_core.proofs.Named.{is_some-named, has_named-names}
-use Rattle.timeline_core.specs.Timeline.{Timeline, reach_of, row_of as timeline_row, rows_of as timeline_rows}
+use Rattle.timeline_core.specs.Timeline.{Timeline, clocks_of, reach_of, row_of as timeline_row, rows_of as timeline_rows}
 use Rattle.syncfile_core.specs.SyncFile.{File}
 use Rattle.syncfile_core.specs.Files.{file_at, has_file, file_name, names_of as file_names}
 use Rattle.resv_core.specs.Resv.{Reservation, IsTable, row_of, rows_at, rows_of as table_rows}
@@ -35,6 +38,7 @@ use Rattle.desk_core.specs.theorem.Desk.{DeskState}
 use Rattle.desk_core.specs.theorem.History.{world_of}
 use Rattle.desk_core.specs.Keeping.{points_at}
 use Rattle.desk_core.proofs.Answering.{Keeps-stands}
+use Rattle.desk_core.proofs.Sound.{not-false}
 use Rattle.explore_core.specs.declared.look.Look.{Look}
 use Rattle.explore_core.specs.declared.look.FileLook.{FileLook}
 use Rattle.explore_core.specs.declared.look.BufferLook.{BufferLook}
@@ -43,7 +47,7 @@ use Rattle.explore_core.specs.Looks.{LooksAlike, WaitsAlike}
 use Rattle.explore_core.specs.Covering.{GoOnAlike}
 use Rattle.explore_core.specs.Found.{CanBeExplored}
 use Rattle.explore_core.specs.Schedule.{Lines}
-use Rattle.explore_core.specs.Search.{file_look, buffer_look, Shows, AreSameLooks, IsSameState, IsState, standing_at}
+use Rattle.explore_core.specs.Search.{is_asked, is_to_come, seen_points, file_look, buffer_look, Shows, AreSameLooks, IsSameState, IsState, standing_at}
 use Rattle.explore_core.proofs.Looking.{alike-looks}
 use Rattle.explore_core.proofs.Scheduling.{none-comes, no_watches-of}
 
@@ -279,27 +283,63 @@ no-watches reach (w ∷ ws) h = absurd h
 none-alike : (reach : List ℕ) (ws vs : List Watch) → ws ≡ [] → vs ≡ [] → AllZip (WaitsAlike reach) ws vs
 none-alike reach ws vs none other = rw (none, other) tt
 
+-- what is seen of points
+
+reached-past : (ts : List Timeline) (p : Point) → is_to_come ts p ≡ false → p.value ≤ value_at (reach_of ts) p.ctx
+reached-past ts p is =
+    let clock = clock_at (clocks_of ts) p.ctx in
+    let signalled : is_signalled (status_at (clocks_of ts) p) ≡ true = not-false (is_signalled (status_at (clocks_of ts) p)) is in
+    let low : nat_le p.value (reached_by clock) ≡ true = sym (is_signalled-of (nat_le p.value (reached_by clock)) (is_past_closing clock p.value)) ∙ signalled in
+    subst (λ v. p.value ≤ v) (sym (value_at-reach_of_clocks (clocks_of ts) p.ctx)) (leb-true p.value (reached_by clock) low)
+
+to_come-agree : (ts : List Timeline) (ps : List Point) → AgreesAbove (reach_of ts) (as_entries (filter (is_to_come ts) ps)) (as_entries ps)
+to_come-agree ts [] = AgreesAbove-refl (reach_of ts) []
+to_come-agree ts (p ∷ ps) = by (to_come-agree ts ps) (is_to_come ts p) refl
+  where
+    by : AgreesAbove (reach_of ts) (as_entries (filter (is_to_come ts) ps)) (as_entries ps) → (b : Bool) → is_to_come ts p ≡ b → AgreesAbove (reach_of ts) (as_entries (cond b (p ∷ filter (is_to_come ts) ps) (filter (is_to_come ts) ps))) (as_entries (p ∷ ps))
+    by rest true is = AgreesAbove-append (AgreesAbove-refl (reach_of ts) (as_entries (p ∷ []))) rest
+    by rest false is = AgreesAbove-trans rest (AgreesAbove-sym (AgreesAbove-signalled (reach_of ts) (as_entry p) (as_entries ps) (reached-past ts p is)))
+
+abbrev seen : Bool → List Timeline → List Point → List Point
+seen b ts ps = if b then ps else filter (is_to_come ts) ps
+
+seen-agree : (b : Bool) (ts : List Timeline) (ps : List Point) → AgreesAbove (reach_of ts) (as_entries (seen b ts ps)) (as_entries ps)
+seen-agree true ts ps = AgreesAbove-refl (reach_of ts) (as_entries ps)
+seen-agree false ts ps = to_come-agree ts ps
+
+pub all-seen : (b : Bool) (ts : List Timeline) (ps : List Point) → b ≡ true → seen b ts ps ≡ ps
+all-seen true ts ps is = refl
+all-seen false ts ps is = absurd (false≢true is)
+
+pub part-seen : (b : Bool) (ts : List Timeline) (ps : List Point) → b ≡ false → seen b ts ps ≡ filter (is_to_come ts) ps
+part-seen true ts ps is = absurd (false≢true (sym is))
+part-seen false ts ps is = refl
+
+pub none-seen : (b : Bool) (ts : List Timeline) (ps : List Point) → ps ≡ [] → seen b ts ps ≡ []
+none-seen true ts ps none = none
+none-seen false ts ps none = ap (filter (is_to_come ts)) none
+
 -- what is the same of two desks whose looks are the same
 
-module _ {a b : Look} {d e : DeskState} (one : Shows a d) (two : Shows b e) (same : AreSameLooks a b) where
+module _ {asked : List ℕ → Bool} {a b : Look} {d e : DeskState} (one : Shows asked a d) (two : Shows asked b e) (same : AreSameLooks a b) where
   same_timelines : d.timelines ≡ e.timelines
   same_timelines = timelines-are d.timelines e.timelines (sym one.timelines ∙ same.timelines ∙ two.timelines)
 
   -- files
 
-  file-there : (name : List ℕ) → Contains (file_names d.files) name → Contains (file_names e.files) name × (points_at d.files name ≡ points_at e.files name)
+  file-there : (name : List ℕ) → Contains (file_names d.files) name → Contains (file_names e.files) name × (seen_points asked d name ≡ seen_points asked e name)
   file-there name h =
-      let among : Contains a.files (file_look d name) = subst (λ fs. Contains fs (file_look d name)) (sym one.files) (Contains-map (file_look d) (file_names d.files) name h) in
-      let there = All-contains (λ (f : FileLook). Contains b.files f) a.files (file_look d name) same.there among in
-      let found = Contains-unmap (file_look e) (file_names e.files) (file_look d name) (subst (λ fs. Contains fs (file_look d name)) two.files there) in
+      let among : Contains a.files (file_look asked d name) = subst (λ fs. Contains fs (file_look asked d name)) (sym one.files) (Contains-map (file_look asked d) (file_names d.files) name h) in
+      let there = All-contains (λ (f : FileLook). Contains b.files f) a.files (file_look asked d name) same.there among in
+      let found = Contains-unmap (file_look asked e) (file_names e.files) (file_look asked d name) (subst (λ fs. Contains fs (file_look asked d name)) two.files there) in
       let is : found.0 ≡ name = ap (λ (f : FileLook). f.name) found.2 in
-      (subst (Contains (file_names e.files)) is found.1, sym (ap (λ (f : FileLook). f.points) found.2) ∙ ap (points_at e.files) is)
+      (subst (Contains (file_names e.files)) is found.1, sym (ap (λ (f : FileLook). f.points) found.2) ∙ ap (seen_points asked e) is)
 
   file-here : (name : List ℕ) → Contains (file_names e.files) name → Contains (file_names d.files) name
   file-here name h =
-      let among : Contains b.files (file_look e name) = subst (λ fs. Contains fs (file_look e name)) (sym two.files) (Contains-map (file_look e) (file_names e.files) name h) in
-      let here = All-contains (λ (f : FileLook). Contains a.files f) b.files (file_look e name) same.here among in
-      let found = Contains-unmap (file_look d) (file_names d.files) (file_look e name) (subst (λ fs. Contains fs (file_look e name)) one.files here) in
+      let among : Contains b.files (file_look asked e name) = subst (λ fs. Contains fs (file_look asked e name)) (sym two.files) (Contains-map (file_look asked e) (file_names e.files) name h) in
+      let here = All-contains (λ (f : FileLook). Contains a.files f) b.files (file_look asked e name) same.here among in
+      let found = Contains-unmap (file_look asked d) (file_names d.files) (file_look asked e name) (subst (λ fs. Contains fs (file_look asked e name)) one.files here) in
       subst (Contains (file_names d.files)) (ap (λ (f : FileLook). f.name) found.2) found.1
 
   listed : (fs : List File) (name : List ℕ) → list_any (same_name name) (file_names fs) ≡ has_file fs name
@@ -325,15 +365,26 @@ module _ {a b : Look} {d e : DeskState} (one : Shows a d) (two : Shows b e) (sam
   none-points None is = refl
   none-points (Some ps) is = absurd (true≢false is)
 
-  same_points : (name : List ℕ) → points_at d.files name ≡ points_at e.files name
-  same_points name = elim (cases_Bool (has_file d.files name)) [
+  same_seen : (name : List ℕ) → seen_points asked d name ≡ seen_points asked e name
+  same_seen name = elim (cases_Bool (has_file d.files name)) [
     | inl is ↦ (file-there name (listed-Contains name (file_names d.files) (listed d.files name ∙ is))).1
-    | inr isnt ↦ none-points (points_of d.files name) (some-points d.files name ∙ isnt)
-        ∙ sym (none-points (points_of e.files name) (some-points e.files name ∙ sym (same_has name) ∙ isnt))
+    | inr isnt ↦ none-seen (asked name) d.timelines (points_at d.files name) (none-points (points_of d.files name) (some-points d.files name ∙ isnt))
+        ∙ sym (none-seen (asked name) e.timelines (points_at e.files name) (none-points (points_of e.files name) (some-points e.files name ∙ sym (same_has name) ∙ isnt)))
   ]
 
-  same_lists : (name : List ℕ) → points_of d.files name ≡ points_of e.files name
-  same_lists name = options-same [] (points_of d.files name) (points_of e.files name) (some-points d.files name ∙ same_has name ∙ sym (some-points e.files name)) (same_points name)
+  same_files : (name : List ℕ) → AgreesAbove (reach_of d.timelines) (as_entries (points_at d.files name)) (as_entries (points_at e.files name))
+  same_files name =
+      let theirs : AgreesAbove (reach_of d.timelines) (as_entries (seen_points asked e name)) (as_entries (points_at e.files name)) =
+      subst (λ (ts : List Timeline). AgreesAbove (reach_of ts) (as_entries (seen_points asked e name)) (as_entries (points_at e.files name))) (sym same_timelines)
+      (seen-agree (asked name) e.timelines (points_at e.files name)) in
+      AgreesAbove-trans (AgreesAbove-sym (seen-agree (asked name) d.timelines (points_at d.files name)))
+      (AgreesAbove-trans (AgreesAbove-same (reach_of d.timelines) (ap as_entries (same_seen name))) theirs)
+
+  same_lists : (name : List ℕ) → asked name ≡ true → points_of d.files name ≡ points_of e.files name
+  same_lists name is =
+      let points : points_at d.files name ≡ points_at e.files name =
+      sym (all-seen (asked name) d.timelines (points_at d.files name) is) ∙ same_seen name ∙ all-seen (asked name) e.timelines (points_at e.files name) is in
+      options-same [] (points_of d.files name) (points_of e.files name) (some-points d.files name ∙ same_has name ∙ sym (some-points e.files name)) points
 
   same_counts : (name : List ℕ) → count_by (is_named file_name name) d.files ≡ count_by (is_named file_name name) e.files
   same_counts name =
@@ -341,8 +392,8 @@ module _ {a b : Look} {d e : DeskState} (one : Shows a d) (two : Shows b e) (sam
 
   same_length : length d.files ≡ length e.files
   same_length =
-      sym (length-map d.files file_name) ∙ sym (length-map (file_names d.files) (file_look d)) ∙ sym (ap length one.files)
-      ∙ same.count ∙ ap length two.files ∙ length-map (file_names e.files) (file_look e) ∙ length-map e.files file_name
+      sym (length-map d.files file_name) ∙ sym (length-map (file_names d.files) (file_look asked d)) ∙ sym (ap length one.files)
+      ∙ same.count ∙ ap length two.files ∙ length-map (file_names e.files) (file_look asked e) ∙ length-map e.files file_name
 
   -- buffers
 
@@ -374,13 +425,13 @@ module _ {a b : Look} {d e : DeskState} (one : Shows a d) (two : Shows b e) (sam
     | inr isnt ↦ AgreesAbove-same (reach_of d.timelines) (none-in (table_at d.buffers name) isnt ∙ sym (none-in (table_at e.buffers name) (sym (same_has_buffer name) ∙ isnt)))
   ]
 
-  pub LooksAlike-shown : AreBuffers d.buffers → AreBuffers e.buffers → d.watches.pending ≡ [] → e.watches.pending ≡ [] → d.watches.made ≡ e.watches.made → LooksAlike (λ name. true) d e
+  pub LooksAlike-shown : AreBuffers d.buffers → AreBuffers e.buffers → d.watches.pending ≡ [] → e.watches.pending ≡ [] → d.watches.made ≡ e.watches.made → LooksAlike asked d e
   LooksAlike-shown kept kept' none none' made = record {
     timelines = same_timelines;
     file_counts = same_counts;
     files_made = same_length;
-    files = λ name. AgreesAbove-same (reach_of d.timelines) (ap as_entries (same_points name));
-    lists = λ name is. same_lists name;
+    files = same_files;
+    lists = same_lists;
     buffer_names = same_names;
     buffers = same_buffers kept kept';
     watches = none-alike (reach_of d.timelines) d.watches.pending e.watches.pending none none';
@@ -388,7 +439,7 @@ module _ {a b : Look} {d e : DeskState} (one : Shows a d) (two : Shows b e) (sam
   }
 
 -- states that are the same go on alike
-pub same-state : {plan : Lines} {depth deeper : ℕ} → CanBeExplored plan → (a b : State) → IsState plan depth a → IsState plan deeper b → IsSameState a b → GoOnAlike (λ name. true) (standing_at plan a) (standing_at plan b)
+pub same-state : {plan : Lines} {depth deeper : ℕ} → CanBeExplored plan → (a b : State) → IsState plan depth a → IsState plan deeper b → IsSameState a b → GoOnAlike (is_asked plan) (standing_at plan a) (standing_at plan b)
 same-state {plan} can a b one two same =
     let none = no_watches-of (standing_at plan a).history (none-comes plan can a.schedule.items (standing_at plan a) one.comes) in
     let none' = no_watches-of (standing_at plan b).history (none-comes plan can b.schedule.items (standing_at plan b) two.comes) in

@@ -25,12 +25,12 @@ use Rattle.explore_core.proofs.Finding.{Grows-given, HasLike-kept, IsFollowed-no
 -- the first state
 
 pub first-state : {plan : Lines} {schedule : Schedule} {state : State} {position : Position} → schedule ≡ []
-    → ((p : Lines) → ComesTo p schedule (standing_of p schedule) → IsAt position (standing_of p schedule) → IsState p (length schedule) state)
+    → (ComesTo plan schedule (standing_of plan schedule) → IsAt position (standing_of plan schedule) → IsState plan (length schedule) state)
     → IsAt position (standing_of plan []) → IsState plan 0 state
 first-state {plan} {schedule} {state} {position} none make at =
     let comes : ComesTo plan schedule (standing_of plan schedule) = subst (λ (s : Schedule). ComesTo plan s (standing_of plan s)) (sym none) refl in
     let there : IsAt position (standing_of plan schedule) = subst (λ (s : Schedule). IsAt position (standing_of plan s)) (sym none) at in
-    subst (λ (s : Schedule). IsState plan (length s) state) none (make plan comes there)
+    subst (λ (s : Schedule). IsState plan (length s) state) none (make comes there)
 
 pub Keeps-first : {old new : List State} {state : State} → old ≡ [] → Keeps old state new → new ≡ state ∷ []
 Keeps-first {old} {new} {state} none keeps = elim keeps [
@@ -52,7 +52,7 @@ reached-waits plan now client w = (
 pub reached-made : (plan : Lines) (schedule : Schedule) {more : Schedule} {client place : ℕ} {given : Answer} {state : State} {position : Position}
     → ComesTo plan schedule (standing_of plan schedule) → Answers plan (standing_of plan schedule) client place given
     → IsAt position (standing_after plan (standing_of plan schedule) client) → more ≡ schedule ++ client ∷ [] → state.schedule.items ≡ more
-    → ((p : Lines) → ComesTo p more (standing_of p more) → IsAt position (standing_of p more) → IsState p (length more) state)
+    → (ComesTo plan more (standing_of plan more) → IsAt position (standing_of plan more) → IsState plan (length more) state)
     → IsReached plan schedule client (reached.Made place given state)
 reached-made plan schedule {more} {client} {place} {given} {state} {position} comes a at is kept make =
     let now = standing_of plan schedule in
@@ -61,7 +61,7 @@ reached-made plan schedule {more} {client} {place} {given} {state} {position} co
     let to : standing_after plan now client ≡ standing_of plan more = ap (λ (o : Option Standing). unwrap_or o now) goes ∙ next.0 ∙ ap (standing_of plan) (sym is) in
     let there = subst (λ (s : Schedule). ComesTo plan s (standing_of plan s)) (sym is) next.1 in
     let size : length more ≡ length schedule + 1 = ap length is ∙ length-append schedule (client ∷ []) in
-    (a, goes ∙ ap Some (next.0 ∙ ap (standing_of plan) (sym (kept ∙ is))), subst (λ n. IsState plan n state) size (make plan there (subst (IsAt position) to at)))
+    (a, goes ∙ ap Some (next.0 ∙ ap (standing_of plan) (sym (kept ∙ is))), subst (λ n. IsState plan n state) size (make there (subst (IsAt position) to at)))
 
 -- what is listed and kept of it
 

@@ -1,8 +1,14 @@
 -- A search by levels: the states of a level are those that schedules of one length come to.
-use Rattle.std.specs.Prelude.{◌≡◌, ◌⊎◌, ℕ, ◌+◌, ◌<◌, ◌≤◌, true, false, List, [], ◌∷◌, ◌++◌, length, map, take, All, Contains, None, Some, IsSome, slice_get, unwrap_or}
+use Rattle.std.specs.Prelude.{◌≡◌, ◌⊎◌, ℕ, ◌+◌, ◌<◌, ◌≤◌, Bool, true, false, not, ◌||◌, if◌then◌else◌, filter, List, [], ◌∷◌, ◌++◌, length, map, take, All, Contains, None, Some, IsSome, slice_get, unwrap_or}
+use Rattle.std.specs.List.{list_any}
+use Rattle.point_core.specs.declared.entry.Point.{Point}
+use Rattle.point_core.specs.Clocks.{status_at}
+use Rattle.point_core.specs.Named.{same_name}
+use Rattle.point_core.specs.Status.{is_signalled}
 use Rattle.command_core.specs.declared.command.Command.{Command}
+use Rattle.command_core.specs.declared.command.Command.TheVariants as command
 use Rattle.command_core.specs.declared.answer.Answer.{Answer}
-use Rattle.timeline_core.specs.Timeline.{reach_of, rows_of as timeline_rows}
+use Rattle.timeline_core.specs.Timeline.{Timeline, clocks_of, reach_of, rows_of as timeline_rows}
 use Rattle.syncfile_core.specs.Files.{HasDistinctNames, names_of as file_names}
 use Rattle.dmabuf_core.specs.Buffers.{names_of as buffer_names, entries_of}
 use Rattle.resv_core.specs.Resv.{rows_of as table_rows}
@@ -70,18 +76,38 @@ IsTurn plan now client Done = next_line plan now client ≡ None
 IsTurn plan now client Waits = (step : Step) × (next_line plan now client ≡ Some step) × (can_be_made now step ≡ false)
 IsTurn plan now client (Made place given) = Answers plan now client place given
 
--- the points that the file of that name lists
-abbrev pub file_look : DeskState → List ℕ → FileLook
-file_look d name = record { name = name; points = points_at d.files name }
+-- the command asks what the file of that name lists
+abbrev pub asks_for : List ℕ → Command → Bool
+asks_for name (command.Info f) = same_name f name
+asks_for name _ = false
+
+-- a line of the client does
+abbrev pub client_asks : List ℕ → List Step → Bool
+client_asks name lines = list_any (λ (step : Step). asks_for name step.command) lines
+
+-- a line of a client, or a command at the end, asks what the file of that name lists
+abbrev pub is_asked : Lines → List ℕ → Bool
+is_asked plan name = list_any (client_asks name) plan.clients || list_any (asks_for name) plan.last
+
+-- its timeline has not reached the point
+abbrev pub is_to_come : List Timeline → Point → Bool
+is_to_come ts p = not (is_signalled (status_at (clocks_of ts) p))
+
+-- what is seen of the points of the file of that name: all, if it may be asked for them, or those to come
+abbrev pub seen_points : (List ℕ → Bool) → DeskState → List ℕ → List Point
+seen_points asked d name = if asked name then points_at d.files name else filter (is_to_come d.timelines) (points_at d.files name)
+
+abbrev pub file_look : (List ℕ → Bool) → DeskState → List ℕ → FileLook
+file_look asked d name = record { name = name; points = seen_points asked d name }
 
 -- the pending tops of the buffer of that name
 abbrev pub buffer_look : DeskState → List ℕ → BufferLook
 buffer_look d name = record { name = name; tops = table_rows (entries_of d.buffers name) (reach_of d.timelines) }
 
 -- the look shows what the desk holds, but for its watches
-pub record Shows (look : Look) (d : DeskState) : Type 0 where
+pub record Shows (asked : List ℕ → Bool) (look : Look) (d : DeskState) : Type 0 where
   pub timelines : look.timelines ≡ timeline_rows d.timelines
-  pub files : look.files ≡ map (file_look d) (file_names d.files)
+  pub files : look.files ≡ map (file_look asked d) (file_names d.files)
   pub distinct : HasDistinctNames d.files
   pub buffers : look.buffers ≡ map (buffer_look d) (buffer_names d.buffers)
 
@@ -100,12 +126,12 @@ pub record IsState (plan : Lines) (depth : ℕ) (state : State) : Type 0 where
   pub made : state.made.items ≡ (standing_of plan state.schedule.items).made
   pub desk : DeskState
   pub history : HasHistory desk (standing_of plan state.schedule.items).history
-  pub look : Shows state.look desk
+  pub look : Shows (is_asked plan) state.look desk
 
 -- one of the states goes on as that standing does
 abbrev pub HasLike : Lines → List State → Standing → Type 0
 HasLike plan states now =
-    (state : State) × Contains states state × GoOnAlike (λ name. true) now (standing_of plan state.schedule.items)
+    (state : State) × Contains states state × GoOnAlike (is_asked plan) now (standing_of plan state.schedule.items)
 
 -- in both, each client has made as many lines, and the desks look the same
 pub record IsSameState (a b : State) : Type 0 where

@@ -1,15 +1,15 @@
-//! `Look`: what can be seen of a desk without watches. Two desks whose looks are the same answer alike for ever
-//! (`laws.rt`), so a state keeps a look and no desk.
-ghost use Rattle.std.specs.Prelude.{◌≡◌, true, length, map, IfOk, IfErr, Contains, All};
-ghost use Rattle.desk_core.specs.Keeping.{points_at};
+//! `Look`: what the lines of a plan can see of a desk without watches. Two desks whose looks are the same answer them alike for
+//! ever (`laws.rt`), so a state keeps a look and no desk.
+ghost use Rattle.std.specs.Prelude.{◌≡◌, true, ◌++◌, ◌∷◌, [], length, map, filter, IfOk, IfErr, OnOk, Contains, All};
 ghost use Rattle.explore_core.specs.declared.look.FileLook.{FileLook as SeenFile};
-ghost use Rattle.explore_core.specs.Search.{Shows, AreSameLooks, file_look, buffer_look};
+ghost use Rattle.explore_core.specs.Search.{Shows, AreSameLooks, is_asked, is_to_come, seen_points, file_look, buffer_look};
 
+use crate::plan::Plan;
 use desk_core::Desk;
 use point_core::{Items, Name, Point, Refusal, TimelineRow, TopRow};
 use std::alloc::Global;
 
-/// A file, with the points that it lists.
+/// A file, with its points: all, if the plan asks what it lists, and else those to come.
 #[derive(Debug, Drop, PartialEq, Eq)]
 pub(crate) struct FileLook {
     pub(crate) name: Name,
@@ -35,13 +35,13 @@ pub(crate) struct Look {
 const HASH_FACTOR: u64 = 0x9E37_79B9_7F4A_7C15;
 
 impl Look {
-    pub(crate) fn of(alloc: Global, desk: &Desk) -> Result<Look, Refusal>
-        ensures shows { IfOk result (λ look. Shows look desk.now) }
+    pub(crate) fn of(alloc: Global, plan: &Plan, desk: &Desk) -> Result<Look, Refusal>
+        ensures shows { IfOk result (λ look. Shows (is_asked plan.now) look desk.now) }
         ensures memory { IfErr result (λ e. e ≡ Refusal.Memory) }
     {
         let timelines = desk.timeline_rows()?;
         let names = desk.file_names()?;
-        let files = file_looks(alloc, desk, names.as_slice())?;
+        let files = file_looks(alloc, plan, desk, names.as_slice())?;
         let names = desk.buffer_names()?;
         let buffers = buffer_looks(alloc, desk, names.as_slice())?;
         Ok(Look {
@@ -118,39 +118,71 @@ fn is_among(file: &FileLook, others: &[FileLook]) -> bool
     false
 }
 
-fn file_looks(alloc: Global, desk: &Desk, names: &[Name]) -> Result<Vec<FileLook>, Refusal>
-    ensures looks { IfOk result (λ looks. looks.items ≡ map (file_look desk.now) names.now) }
+fn file_looks(
+    alloc: Global,
+    plan: &Plan,
+    desk: &Desk,
+    names: &[Name],
+) -> Result<Vec<FileLook>, Refusal>
+    ensures looks { IfOk result (λ looks. looks.items ≡ map (file_look (is_asked plan.now) desk.now) names.now) }
     ensures memory { IfErr result (λ e. e ≡ Refusal.Memory) }
 {
     let mut looks = Vec::new(alloc);
     for name in names {
-        let look = file_look(alloc, desk, name)?;
+        let look = file_look(alloc, plan, desk, name)?;
         looks.push(look).map_err(|_| Refusal::Memory)?;
     }
     Ok(looks)
 }
 
-fn file_look(alloc: Global, desk: &Desk, name: &Name) -> Result<FileLook, Refusal>
-    ensures look { IfOk result (λ look. look ≡ file_look desk.now name.now) }
+fn file_look(alloc: Global, plan: &Plan, desk: &Desk, name: &Name) -> Result<FileLook, Refusal>
+    ensures look { IfOk result (λ look. look ≡ file_look (is_asked plan.now) desk.now name.now) }
     ensures memory { IfErr result (λ e. e ≡ Refusal.Memory) }
 {
-    let points = points_of(alloc, desk, name)?;
+    let points = seen_points(alloc, plan, desk, name)?;
     Ok(FileLook {
         name: *name,
         points: Items::of(points),
     })
 }
 
-fn points_of(alloc: Global, desk: &Desk, file: &Name) -> Result<Vec<Point>, Refusal>
-    ensures points { IfOk result (λ points. points.items ≡ points_at desk.now.files file.now) }
+fn seen_points(alloc: Global, plan: &Plan, desk: &Desk, file: &Name) -> Result<Vec<Point>, Refusal>
+    ensures points { IfOk result (λ points. points.items ≡ seen_points (is_asked plan.now) desk.now file.now) }
     ensures memory { IfErr result (λ e. e ≡ Refusal.Memory) }
 {
     let Some(listed) = desk.file_points(file) else {
         return Ok(Vec::new(alloc));
     };
+    if !plan.asks_for(file) {
+        return points_to_come(alloc, desk, listed);
+    }
     let mut points = Vec::new(alloc);
     points.extend_from_slice(listed)?;
     Ok(points)
+}
+
+/// The points that their timelines have not reached.
+fn points_to_come(alloc: Global, desk: &Desk, listed: &[Point]) -> Result<Vec<Point>, Refusal>
+    ensures points { IfOk result (λ points. points.items ≡ filter (is_to_come desk.now.timelines) listed.now) }
+    ensures memory { IfErr result (λ e. e ≡ Refusal.Memory) }
+{
+    let mut points = Vec::new(alloc);
+    for point in listed {
+        put_to_come(&mut points, desk, point)?;
+    }
+    Ok(points)
+}
+
+/// Adds the point, if its timeline has not reached it.
+fn put_to_come(points: &mut Vec<Point>, desk: &Desk, point: &Point) -> Result<(), Refusal>
+    ensures put { OnOk result (points.new.items ≡ points.old.items ++ filter (is_to_come desk.now.timelines) (point.now ∷ [])) }
+    ensures memory { IfErr result (λ e. e ≡ Refusal.Memory) }
+{
+    if desk.point_status(*point).is_signalled() {
+        return Ok(());
+    }
+    points.push(*point).map_err(|_| Refusal::Memory)?;
+    Ok(())
 }
 
 fn buffer_looks(alloc: Global, desk: &Desk, names: &[Name]) -> Result<Vec<BufferLook>, Refusal>

@@ -85,7 +85,7 @@ fn first_state(alloc: Global, plan: &Plan) -> Result<State, Refusal>
     ensures first { IfOk result (IsState plan.now 0) }
 {
     let position = Position::at(alloc, plan, &[])?;
-    let state = State::of(alloc, Vec::new(alloc), &position)?;
+    let state = State::of(alloc, plan, Vec::new(alloc), &position)?;
     Ok(state)
 }
 
@@ -267,7 +267,7 @@ fn reach_from(
         Turn::Waits => Ok(Reached::Waits),
         Turn::Made(place, answer) => {
             let more = with_client(alloc, schedule, client)?;
-            let state = State::of(alloc, more, position)?;
+            let state = State::of(alloc, plan, more, position)?;
             Ok(Reached::Made(place, answer, state))
         }
     }

@@ -1,10 +1,11 @@
 //! `State`: where the plan comes by a schedule.
 ghost use Rattle.std.specs.Prelude.{◌≡◌, true, length, IfOk, IfErr};
 ghost use Rattle.explore_core.specs.Search.{IsSameState, IsAt, IsState, standing_of};
-ghost use Rattle.explore_core.specs.Schedule.{Lines, ComesTo};
+ghost use Rattle.explore_core.specs.Schedule.{ComesTo};
 
 use crate::list::copied;
 use crate::look::{Look, mix};
+use crate::plan::Plan;
 use crate::position::Position;
 use point_core::Refusal;
 use std::alloc::Global;
@@ -21,18 +22,19 @@ impl State {
     /// The state of a position that the schedule comes to.
     pub(crate) fn of(
         alloc: Global,
+        plan: &Plan,
         schedule: Vec<usize>,
         position: &Position,
     ) -> Result<State, Refusal>
-        ensures state { IfOk result (λ state. (plan : Lines) →
-            ComesTo plan schedule.items (standing_of plan schedule.items) →
-            IsAt position.now (standing_of plan schedule.items) →
-            IsState plan (length schedule.items) state) }
+        ensures state { IfOk result (λ state.
+            ComesTo plan.now schedule.items (standing_of plan.now schedule.items) →
+            IsAt position.now (standing_of plan.now schedule.items) →
+            IsState plan.now (length schedule.items) state) }
         ensures schedule { IfOk result (λ state. state.schedule ≡ schedule) }
         ensures memory { IfErr result (λ e. e ≡ Refusal.Memory) }
     {
         let made = copied(alloc, position.made.as_slice())?;
-        let look = Look::of(alloc, &position.desk)?;
+        let look = Look::of(alloc, plan, &position.desk)?;
         Ok(State {
             schedule,
             made,
