@@ -18,8 +18,8 @@ use Rattle.indexmap.specs.IndexMap.{swap_remove_entry}
 use Rattle.indexmap.proofs.MapLemmas.{lookup_permutation, swap_remove_entry-found, swap_remove_entry-missing, Missing-position}
 use Rattle.point_core.specs.Named.{same_name, things_in, IsKeyed}
 use Rattle.point_core.proofs.Named.{named-things_in, has_named-things_in, is_some-named, length-things_in, things_in-append, things_in-remove_entry, without_named-absent}
-use Rattle.syncfile_core.specs.declared.by_making.Made.{Made}
-use Rattle.syncfile_core.specs.declared.by_making.Place.{Place}
+use Rattle.syncfile_core.specs.declared.file_slots.NumberedFile.{NumberedFile}
+use Rattle.syncfile_core.specs.declared.file_slots.NumberedName.{NumberedName}
 use Rattle.syncfile_core.specs.Numbered.{put_in, by_number}
 use Rattle.syncfile_core.specs.SyncFile.{File}
 use Rattle.syncfile_core.specs.Files.{file_name, has_file, file_at, without_file, names_of, number_of, files_made, AreKept, HasDistinctNames}
@@ -32,16 +32,16 @@ is_some-option_map f None = refl
 is_some-option_map f (Some x) = refl
 
 abbrev Entries : Type 0
-Entries = List (List ℕ × Made)
+Entries = List (List ℕ × NumberedFile)
 
-abbrev file_in : Made → File
+abbrev file_in : NumberedFile → File
 file_in m = m.file
 
 -- the name of an entry, and its serial number
-abbrev pub place_in : List ℕ × Made → Place
-place_in e = record { name = e.0; number = e.1.number }
+abbrev pub numbered_name_in : List ℕ × NumberedFile → NumberedName
+numbered_name_in e = record { name = e.0; number = e.1.number }
 
-abbrev IsUnderItsName : List ℕ × Made → Type 0
+abbrev IsUnderItsName : List ℕ × NumberedFile → Type 0
 IsUnderItsName e = e.0 ≡ e.1.file.name
 
 keyed-from : (es : Entries) → AllByRecursion IsUnderItsName es → IsKeyed file_name file_in es
@@ -65,7 +65,7 @@ module _ (es fs : Entries) (next : ℕ) (moved : IsPermutation es fs) (kept : Ar
   pub AreKept-permuted : AreKept fs next
   AreKept-permuted = record {
     keyed = All-permutation IsUnderItsName es fs moved kept.keyed;
-    distinct = IsDistinct-IsPermutation same_name nat_list_eq_equiv.symm (keys_of es) (keys_of fs) (IsPermutation-map (λ (e : List ℕ × Made). e.0) es fs moved) kept.distinct;
+    distinct = IsDistinct-IsPermutation same_name nat_list_eq_equiv.symm (keys_of es) (keys_of fs) (IsPermutation-map (λ (e : List ℕ × NumberedFile). e.0) es fs moved) kept.distinct;
     numbered = IsDistinct-IsPermutation nat_eq nat_eq_equiv.symm (map number_of es) (map number_of fs) (IsPermutation-map number_of es fs moved) kept.numbered;
     below = All-permutation (λ e. number_of e < next) es fs moved kept.below;
   }
@@ -96,35 +96,35 @@ module _ (es : Entries) (next : ℕ) (kept : AreKept es next) where
 
   -- names and numbers, sorted
 
-  map-keys : (ds : Entries) → map (λ (p : Place). p.name) (map place_in ds) ≡ keys_of ds
+  map-keys : (ds : Entries) → map (λ (p : NumberedName). p.name) (map numbered_name_in ds) ≡ keys_of ds
   map-keys [] = refl
   map-keys (d ∷ ds) = ap (λ ns. d.0 ∷ ns) (map-keys ds)
 
-  map-numbers : (ds : Entries) → map (λ (p : Place). p.number) (map place_in ds) ≡ map number_of ds
+  map-numbers : (ds : Entries) → map (λ (p : NumberedName). p.number) (map numbered_name_in ds) ≡ map number_of ds
   map-numbers [] = refl
   map-numbers (d ∷ ds) = ap (λ ns. number_of d ∷ ns) (map-numbers ds)
 
-  all-places : (n : ℕ) (ds : Entries) → AllByRecursion (λ d. n < number_of d) ds → AllByRecursion (λ (p : Place). n < p.number) (map place_in ds)
+  all-places : (n : ℕ) (ds : Entries) → AllByRecursion (λ d. n < number_of d) ds → AllByRecursion (λ (p : NumberedName). n < p.number) (map numbered_name_in ds)
   all-places n [] all = tt
   all-places n (d ∷ ds) all = (all.0, all-places n ds all.1)
 
-  Rises-places : (ds : Entries) → Rises number_of ds → Rises (λ (p : Place). p.number) (map place_in ds)
+  Rises-places : (ds : Entries) → Rises number_of ds → Rises (λ (p : NumberedName). p.number) (map numbered_name_in ds)
   Rises-places [] rises = tt
   Rises-places (d ∷ ds) rises = (all-places (number_of d) ds rises.0, Rises-places ds rises.1)
 
-  pub names_of-places : (ps : List Place) → IsPermutation (map place_in es) ps → IsNonDecreasingBy (λ (p : Place). p.number) ps → map (λ (p : Place). p.name) ps ≡ names_of (files_made es)
+  pub names_of-places : (ps : List NumberedName) → IsPermutation (map numbered_name_in es) ps → IsNonDecreasingBy (λ (p : NumberedName). p.number) ps → map (λ (p : NumberedName). p.name) ps ≡ names_of (files_made es)
   names_of-places ps moved rising =
-      let number : Place → ℕ = λ p. p.number in
+      let number : NumberedName → ℕ = λ p. p.number in
       let numbered = subst (IsDistinct nat_eq) (sym (map-numbers es)) kept.numbered in
-      let rises = Rises-from number ps rising (IsDistinct-IsPermutation nat_eq nat_eq_equiv.symm (map number (map place_in es)) (map number ps) (IsPermutation-map number (map place_in es) ps moved) numbered) in
-      let turned = IsPermutation-map place_in es (by_number number_of es) (IsPermutation-by_number number_of es) in
-      let is = same_rising number ps (map place_in (by_number number_of es)) rises (Rises-places (by_number number_of es) (Rises-by_number number_of es kept.numbered))
-      (IsPermutation-trans ps (map place_in es) (map place_in (by_number number_of es)) (IsPermutation-sym (map place_in es) ps moved) turned) in
-      ap (map (λ (p : Place). p.name)) is ∙ map-keys (by_number number_of es) ∙ keyed
+      let rises = Rises-from number ps rising (IsDistinct-IsPermutation nat_eq nat_eq_equiv.symm (map number (map numbered_name_in es)) (map number ps) (IsPermutation-map number (map numbered_name_in es) ps moved) numbered) in
+      let turned = IsPermutation-map numbered_name_in es (by_number number_of es) (IsPermutation-by_number number_of es) in
+      let is = same_rising number ps (map numbered_name_in (by_number number_of es)) rises (Rises-places (by_number number_of es) (Rises-by_number number_of es kept.numbered))
+      (IsPermutation-trans ps (map numbered_name_in es) (map numbered_name_in (by_number number_of es)) (IsPermutation-sym (map numbered_name_in es) ps moved) turned) in
+      ap (map (λ (p : NumberedName). p.name)) is ∙ map-keys (by_number number_of es) ∙ keyed
 
   -- a new file goes last
   module _ (x : File) (new : has_file (files_made es) x.name ≡ false) where
-    abbrev pub made : Made
+    abbrev pub made : NumberedFile
     made = record { file = x; number = next }
 
     pub absent : lookup (same_name x.name) es ≡ None
@@ -156,26 +156,26 @@ module _ (es : Entries) (next : ℕ) (kept : AreKept es next) where
     pub AreKept-append : AreKept (es ++ (x.name, made) ∷ []) (next + 1)
     AreKept-append = record {
       keyed = All-push IsUnderItsName es (x.name, made) kept.keyed refl;
-      distinct = subst (IsDistinct same_name) (sym (map-append (λ (e : List ℕ × Made). e.0) es ((x.name, made) ∷ []))) (IsDistinct-push nat_list_eq_equiv (keys_of es) x.name kept.distinct (no_key es absent));
+      distinct = subst (IsDistinct same_name) (sym (map-append (λ (e : List ℕ × NumberedFile). e.0) es ((x.name, made) ∷ []))) (IsDistinct-push nat_list_eq_equiv (keys_of es) x.name kept.distinct (no_key es absent));
       numbered = subst (IsDistinct nat_eq) (sym (map-append number_of es ((x.name, made) ∷ []))) (IsDistinct-push nat_eq_equiv (map number_of es) next kept.numbered (no_number es (recursion_from_All (λ e. number_of e < next) es kept.below)));
       below = All-push (λ e. number_of e < next + 1) es (x.name, made) (All-weaker (λ e. number_of e < next) (λ e. number_of e < next + 1) (λ e low. omega (arith, low)) es kept.below) (omega arith);
     }
 
   -- the file with that name is removed, and no other one moves
   module _ (name : List ℕ) where
-    taken_out : (ds : Entries) (i : ℕ) → position (same_name name) (keys_of ds) ≡ Some i → (entry : List ℕ × Made) × (same_name name entry.0 ≡ true) × IsPermutation ds (entry ∷ swap_remove_entry (same_name name) ds)
+    taken_out : (ds : Entries) (i : ℕ) → position (same_name name) (keys_of ds) ≡ Some i → (entry : List ℕ × NumberedFile) × (same_name name entry.0 ≡ true) × IsPermutation ds (entry ∷ swap_remove_entry (same_name name) ds)
     taken_out [] i is = absurd (cc)
     taken_out (d ∷ ds) i is =
         let e = get_or (d ∷ ds) i d in
         let found = position-Some (same_name name) (keys_of (d ∷ ds)) i d.0 is in
-        let within : i < length (d ∷ ds) = omega (arith, found.0, length-map (d ∷ ds) (λ (c : List ℕ × Made). c.0)) in (
+        let within : i < length (d ∷ ds) = omega (arith, found.0, length-map (d ∷ ds) (λ (c : List ℕ × NumberedFile). c.0)) in (
           e,
-          ap (same_name name) (sym (get_or-map (λ (c : List ℕ × Made). c.0) (d ∷ ds) i d d.0 within)) ∙ found.1,
+          ap (same_name name) (sym (get_or-map (λ (c : List ℕ × NumberedFile). c.0) (d ∷ ds) i d d.0 within)) ∙ found.1,
           subst (λ left. IsPermutation (d ∷ ds) (e ∷ left)) (sym (swap_remove_entry-found (same_name name) (d ∷ ds) i e is))
               (IsPermutation-swap_remove (d ∷ ds) i e within (get_or_default (d ∷ ds) i d e within)),
         )
 
-    module _ (e : List ℕ × Made) (left : Entries) (here : same_name name e.0 ≡ true) (moved : IsPermutation es (e ∷ left)) where
+    module _ (e : List ℕ × NumberedFile) (left : Entries) (here : same_name name e.0 ≡ true) (moved : IsPermutation es (e ∷ left)) where
       both : AreKept (e ∷ left) next
       both = AreKept-permuted es (e ∷ left) next moved kept
 

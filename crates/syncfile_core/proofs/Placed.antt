@@ -11,24 +11,24 @@ use Rattle.indexmap.specs.IndexSet.{insert_key}
 use Rattle.indexmap.proofs.MapLemmas.{Found-position, Missing-position, some_index, swap_remove_entry-found, swap_remove_entry-missing}
 use Rattle.indexmap.proofs.SetLemmas.{map-swap_remove, keys_swap_remove_entry}
 use Rattle.point_core.specs.Named.{same_name}
-use Rattle.syncfile_core.specs.declared.by_making.Made.{Made}
-use Rattle.syncfile_core.specs.declared.by_making.Place.{Place}
+use Rattle.syncfile_core.specs.declared.file_slots.NumberedFile.{NumberedFile}
+use Rattle.syncfile_core.specs.declared.file_slots.NumberedName.{NumberedName}
 use Rattle.syncfile_core.specs.SyncFile.{File}
-use Rattle.syncfile_core.specs.Files.{has_file, file_at, without_file, files_made, files_in, entry_of, entries_of, entries_in, place_of, names_of, AreKept, AreInPlace}
-use Rattle.syncfile_core.proofs.Kept.{AreKept-none, AreKept-append, AreKept-swap_remove_entry, files_made-append, files_made-swap_remove_entry, file_at-made, has_file-made, place_in, names_of-places}
+use Rattle.syncfile_core.specs.Files.{has_file, file_at, without_file, files_made, files_in, entry_of, entries_of, entries_in, numbered_name_of, names_of, AreKept, AreInPlace}
+use Rattle.syncfile_core.proofs.Kept.{AreKept-none, AreKept-append, AreKept-swap_remove_entry, files_made-append, files_made-swap_remove_entry, file_at-made, has_file-made, numbered_name_in, names_of-places}
 
-abbrev file_in : Made → File
+abbrev file_in : NumberedFile → File
 file_in m = m.file
 
-values-entries_of : (ms : List Made) → values_of (entries_of ms) ≡ ms
+values-entries_of : (ms : List NumberedFile) → values_of (entries_of ms) ≡ ms
 values-entries_of [] = refl
 values-entries_of (m ∷ ms) = ap (λ ns. m ∷ ns) (values-entries_of ms)
 
-pub AreInPlace-none : (names : List (List ℕ)) (made : List Made) → names ≡ [] → AreInPlace names made 0
+pub AreInPlace-none : (names : List (List ℕ)) (made : List NumberedFile) → names ≡ [] → AreInPlace names made 0
 AreInPlace-none names made is = subst (λ none. AreInPlace none made 0) (sym is) (record { within = omega arith; named = refl; kept = AreKept-none [] 0 refl })
 
 -- other slots after the open files
-module _ (names : List (List ℕ)) (made more : List Made) (count : ℕ) (len : count ≡ length names) (same : take count more ≡ take count made) where
+module _ (names : List (List ℕ)) (made more : List NumberedFile) (count : ℕ) (len : count ≡ length names) (same : take count more ≡ take count made) where
   pub entries_in-same : entries_in names more ≡ entries_in names made
   entries_in-same = subst (λ n. entries_of (take n more) ≡ entries_of (take n made)) len (ap entries_of same)
 
@@ -54,8 +54,8 @@ absent-from : (b : Bool) → true ≡ not b → b ≡ false
 absent-from true h = absurd (false≢true (sym h))
 absent-from false h = refl
 
-module _ (names : List (List ℕ)) (made : List Made) (next : ℕ) (placed : AreInPlace names made next) where
-  abbrev entries : List (List ℕ × Made)
+module _ (names : List (List ℕ)) (made : List NumberedFile) (next : ℕ) (placed : AreInPlace names made next) where
+  abbrev entries : List (List ℕ × NumberedFile)
   entries = entries_in names made
 
   pub length-entries_in : length entries ≡ length names
@@ -70,7 +70,7 @@ module _ (names : List (List ℕ)) (made : List Made) (next : ℕ) (placed : Are
       pub index-within : i < length names
       index-within = let found = Found-position (same_name name) entries i (there (Some i) is) in omega (arith, found.within, length-entries_in)
 
-      pub file_at-found : (m : Made) → m ≡ get_or made i m → file_at (files_in names made) name ≡ Some m.file
+      pub file_at-found : (m : NumberedFile) → m ≡ get_or made i m → file_at (files_in names made) name ≡ Some m.file
       file_at-found m at =
           let found = Found-position (same_name name) entries i (there (Some i) is) in
           let first = take (length names) made in
@@ -91,7 +91,7 @@ module _ (names : List (List ℕ)) (made : List Made) (next : ℕ) (placed : Are
 
   -- a new file goes last
   module _ (f : File) (new : has_file (files_in names made) f.name ≡ false) (room : length names < length made) where
-    abbrev last : Made
+    abbrev last : NumberedFile
     last = record { file = f; number = next }
 
     entries_in-put : entries_in (names ++ f.name ∷ []) (set made (length names) last) ≡ entries ++ (f.name, last) ∷ []
@@ -105,7 +105,7 @@ module _ (names : List (List ℕ)) (made : List Made) (next : ℕ) (placed : Are
       within = omega (arith, room, length-append names (f.name ∷ []), length-set made (length names) last);
       named =
           ap (λ ns. ns ++ f.name ∷ []) placed.named
-          ∙ sym (map-append (λ (e : List ℕ × Made). e.0) entries ((f.name, last) ∷ []))
+          ∙ sym (map-append (λ (e : List ℕ × NumberedFile). e.0) entries ((f.name, last) ∷ []))
           ∙ ap keys_of (sym entries_in-put);
       kept = subst (λ es. AreKept es (next + 1)) (sym entries_in-put) (AreKept-append entries next placed.kept f new);
     }
@@ -114,7 +114,7 @@ module _ (names : List (List ℕ)) (made : List Made) (next : ℕ) (placed : Are
     files_in-put = ap files_made entries_in-put ∙ files_made-append entries next placed.kept f new
 
 -- a new file, by the result of inserting its name into the set
-module _ (names keys : List (List ℕ)) (made : List Made) (next count : ℕ) (placed : AreInPlace names made next) (f : File) (m : Made) (len : count ≡ length names) (room : count < length made)
+module _ (names keys : List (List ℕ)) (made : List NumberedFile) (next count : ℕ) (placed : AreInPlace names made next) (f : File) (m : NumberedFile) (len : count ≡ length names) (room : count < length made)
     (added : true ≡ not (list_any (same_name f.name) names)) (put : keys ≡ insert_key same_name names f.name) (is : m ≡ record { file = f; number = next }) where
   none : list_any (same_name f.name) names ≡ false
   none = absent-from (list_any (same_name f.name) names) added
@@ -163,15 +163,15 @@ take-swap (y ∷ ys) i n last d more within =
     ∙ ap (λ k. take k (set (take n xs) i (get_or (take n xs) k d))) (sym short)
 
 -- a file is removed, and the last takes its slot
-module _ (names left : List (List ℕ)) (made : List Made) (next : ℕ) (placed : AreInPlace names made next) (name : List ℕ) (i last : ℕ) (is : position (same_name name) names ≡ Some i)
+module _ (names left : List (List ℕ)) (made : List NumberedFile) (next : ℕ) (placed : AreInPlace names made next) (name : List ℕ) (i last : ℕ) (is : position (same_name name) names ≡ Some i)
     (out : left ≡ swap_remove_by (same_name name) names) (one : length left ≡ last) (more : last + 1 ≡ length names) where
-  abbrev before : List (List ℕ × Made)
+  abbrev before : List (List ℕ × NumberedFile)
   before = entries_in names made
 
   entries_in-swap : entries_in left (swap made i last) ≡ swap_remove_entry (same_name name) before
   entries_in-swap = by (take (length names) made) refl
     where
-      by : (first : List Made) → take (length names) made ≡ first → entries_in left (swap made i last) ≡ swap_remove_entry (same_name name) before
+      by : (first : List NumberedFile) → take (length names) made ≡ first → entries_in left (swap made i last) ≡ swap_remove_entry (same_name name) before
       by [] first = absurd (let short = ap length first in omega (arith, more, short, length-take-le (length names) made placed.within))
       by (d ∷ ds) first =
           ap (λ n. entries_of (take n (swap made i last))) one
@@ -190,15 +190,15 @@ module _ (names left : List (List ℕ)) (made : List Made) (next : ℕ) (placed 
   files_in-swap = ap files_made entries_in-swap ∙ files_made-swap_remove_entry before next placed.kept name
 
 -- no file with that name
-pub files_in-missing : (names : List (List ℕ)) (made : List Made) (next : ℕ) → AreInPlace names made next → (name : List ℕ) → position (same_name name) names ≡ None → files_in names made ≡ without_file (files_in names made) name
+pub files_in-missing : (names : List (List ℕ)) (made : List NumberedFile) (next : ℕ) → AreInPlace names made next → (name : List ℕ) → position (same_name name) names ≡ None → files_in names made ≡ without_file (files_in names made) name
 files_in-missing names made next placed name is =
     ap files_made (sym (swap_remove_entry-missing (same_name name) (entries_in names made) (ap (position (same_name name)) (sym placed.named) ∙ is)))
     ∙ files_made-swap_remove_entry (entries_in names made) next placed.kept name
 
 -- names and numbers, sorted
-pub names_of-in_order : (ms : List Made) (next : ℕ) → AreKept (entries_of ms) next → (ps : List Place) → IsPermutation (map place_of ms) ps → IsNonDecreasingBy (λ (p : Place). p.number) ps → map (λ (p : Place). p.name) ps ≡ names_of (files_made (entries_of ms))
+pub names_of-in_order : (ms : List NumberedFile) (next : ℕ) → AreKept (entries_of ms) next → (ps : List NumberedName) → IsPermutation (map numbered_name_of ms) ps → IsNonDecreasingBy (λ (p : NumberedName). p.number) ps → map (λ (p : NumberedName). p.name) ps ≡ names_of (files_made (entries_of ms))
 names_of-in_order ms next kept ps moved rising = names_of-places (entries_of ms) next kept ps (subst (λ qs. IsPermutation qs ps) (sym (places ms)) moved) rising
   where
-    places : (ms : List Made) → map place_in (entries_of ms) ≡ map place_of ms
+    places : (ms : List NumberedFile) → map numbered_name_in (entries_of ms) ≡ map numbered_name_of ms
     places [] = refl
-    places (m ∷ ms) = ap (λ qs. place_of m ∷ qs) (places ms)
+    places (m ∷ ms) = ap (λ qs. numbered_name_of m ∷ qs) (places ms)

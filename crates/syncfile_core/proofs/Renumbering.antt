@@ -11,7 +11,7 @@ use Rattle.std.proofs.lemmas.List.Sorted.{IsPermutation-refl, IsPermutation-map,
 use Rattle.std.proofs.lemmas.Map.Views.{exact_unsigned_eq}
 use Rattle.indexmap.specs.IndexSet.{insert_key}
 use Rattle.point_core.specs.Named.{same_name, things_in}
-use Rattle.syncfile_core.specs.declared.by_making.Made.{Made}
+use Rattle.syncfile_core.specs.declared.file_slots.NumberedFile.{NumberedFile}
 use Rattle.syncfile_core.specs.SyncFile.{File}
 use Rattle.syncfile_core.specs.Numbered.{by_number}
 use Rattle.syncfile_core.specs.Files.{names_of, number_of, files_made, files_in, entry_of, entries_of, entries_in, AreKept, AreInPlace}
@@ -21,76 +21,76 @@ use Rattle.syncfile_core.proofs.Kept.{AreKept-permuted, names_of-keys}
 use Rattle.syncfile_core.proofs.Placed.{length-entries_in}
 
 abbrev Entries : Type 0
-Entries = List (List ℕ × Made)
+Entries = List (List ℕ × NumberedFile)
 
-abbrev file_in : Made → File
+abbrev file_in : NumberedFile → File
 file_in m = m.file
 
-abbrev IsUnderItsName : List ℕ × Made → Type 0
+abbrev IsUnderItsName : List ℕ × NumberedFile → Type 0
 IsUnderItsName e = e.0 ≡ e.1.file.name
 
 -- one file after another
 
 -- the first k are numbered from n on, the others keep their numbers
-abbrev pub numbered_first : ℕ → ℕ → List Made → List Made
+abbrev pub numbered_first : ℕ → ℕ → List NumberedFile → List NumberedFile
 numbered_first n zero ms = ms
 numbered_first n (suc k) [] = []
 numbered_first n (suc k) (m ∷ ms) = with_number n m ∷ numbered_first (suc n) k ms
 
-pub length-numbered_first : (n k : ℕ) (ms : List Made) → length (numbered_first n k ms) ≡ length ms
+pub length-numbered_first : (n k : ℕ) (ms : List NumberedFile) → length (numbered_first n k ms) ≡ length ms
 length-numbered_first n zero ms = refl
 length-numbered_first n (suc k) [] = refl
 length-numbered_first n (suc k) (m ∷ ms) = ap suc (length-numbered_first (suc n) k ms)
 
-numbered_first-suc : (n k : ℕ) (ms : List Made) (m : Made) (number : ℕ) → number ≡ n + k → k < length ms → m ≡ get_or (numbered_first n k ms) k m
+numbered_first-suc : (n k : ℕ) (ms : List NumberedFile) (m : NumberedFile) (number : ℕ) → number ≡ n + k → k < length ms → m ≡ get_or (numbered_first n k ms) k m
     → set (numbered_first n k ms) k (with_number number m) ≡ numbered_first n (suc k) ms
 numbered_first-suc n zero [] m number is low at = absurd (omega (arith, low))
 numbered_first-suc n zero (x ∷ xs) m number is low at =
     let same : number ≡ n = omega (arith, is) in
-    ap (λ (y : Made). with_number number y ∷ xs) at ∙ ap (λ (i : ℕ). with_number i x ∷ xs) same
+    ap (λ (y : NumberedFile). with_number number y ∷ xs) at ∙ ap (λ (i : ℕ). with_number i x ∷ xs) same
 numbered_first-suc n (suc k) [] m number is low at = absurd (omega (arith, low))
 numbered_first-suc n (suc k) (x ∷ xs) m number is low at =
     ap (λ ys. with_number n x ∷ ys) (numbered_first-suc (suc n) k xs m number (omega (arith, is)) (omega (arith, low)) at)
 
-pub numbered_first-more : (k : ℕ) (ms : List Made) (m : Made) → k < length ms → m ≡ get_or (numbered_first 0 k ms) k m
+pub numbered_first-more : (k : ℕ) (ms : List NumberedFile) (m : NumberedFile) → k < length ms → m ≡ get_or (numbered_first 0 k ms) k m
     → set (numbered_first 0 k ms) k (with_number k m) ≡ numbered_first 0 (k + 1) ms
 numbered_first-more k ms m low at =
     let next : suc k ≡ k + 1 = omega arith in
     numbered_first-suc 0 k ms m k (omega arith) low at ∙ ap (λ i. numbered_first 0 i ms) next
 
-pub numbered_first-all : (n : ℕ) (ms : List Made) → numbered_first n (length ms) ms ≡ numbered_from n ms
+pub numbered_first-all : (n : ℕ) (ms : List NumberedFile) → numbered_first n (length ms) ms ≡ numbered_from n ms
 numbered_first-all n [] = refl
 numbered_first-all n (m ∷ ms) = ap (λ ns. with_number n m ∷ ns) (numbered_first-all (suc n) ms)
 
 -- renumbering leaves everything but the numbers
 
-pub length-numbered_from : (n : ℕ) (ms : List Made) → length (numbered_from n ms) ≡ length ms
+pub length-numbered_from : (n : ℕ) (ms : List NumberedFile) → length (numbered_from n ms) ≡ length ms
 length-numbered_from n [] = refl
 length-numbered_from n (m ∷ ms) = ap suc (length-numbered_from (suc n) ms)
 
-keys-numbered_from : (n : ℕ) (ms : List Made) → keys_of (entries_of (numbered_from n ms)) ≡ keys_of (entries_of ms)
+keys-numbered_from : (n : ℕ) (ms : List NumberedFile) → keys_of (entries_of (numbered_from n ms)) ≡ keys_of (entries_of ms)
 keys-numbered_from n [] = refl
 keys-numbered_from n (m ∷ ms) = ap (λ ks. m.file.name ∷ ks) (keys-numbered_from (suc n) ms)
 
-files-numbered_from : (n : ℕ) (ms : List Made) → things_in file_in (entries_of (numbered_from n ms)) ≡ things_in file_in (entries_of ms)
+files-numbered_from : (n : ℕ) (ms : List NumberedFile) → things_in file_in (entries_of (numbered_from n ms)) ≡ things_in file_in (entries_of ms)
 files-numbered_from n [] = refl
 files-numbered_from n (m ∷ ms) = ap (λ fs. m.file ∷ fs) (files-numbered_from (suc n) ms)
 
-keyed-entries_of : (ms : List Made) → AllByRecursion IsUnderItsName (entries_of ms)
+keyed-entries_of : (ms : List NumberedFile) → AllByRecursion IsUnderItsName (entries_of ms)
 keyed-entries_of [] = tt
 keyed-entries_of (m ∷ ms) = (refl, keyed-entries_of ms)
 
 -- the numbers themselves
 
-below-numbered_from : (n last : ℕ) (ms : List Made) → last ≡ n + length ms → AllByRecursion (λ e. number_of e < last) (entries_of (numbered_from n ms))
+below-numbered_from : (n last : ℕ) (ms : List NumberedFile) → last ≡ n + length ms → AllByRecursion (λ e. number_of e < last) (entries_of (numbered_from n ms))
 below-numbered_from n last [] is = tt
 below-numbered_from n last (m ∷ ms) is = (omega (arith, is), below-numbered_from (suc n) last ms (omega (arith, is)))
 
-above-numbered_from : (k n : ℕ) (ms : List Made) → k < n → AllByRecursion (λ e. k < number_of e) (entries_of (numbered_from n ms))
+above-numbered_from : (k n : ℕ) (ms : List NumberedFile) → k < n → AllByRecursion (λ e. k < number_of e) (entries_of (numbered_from n ms))
 above-numbered_from k n [] low = tt
 above-numbered_from k n (m ∷ ms) low = (low, above-numbered_from k (suc n) ms (omega (arith, low)))
 
-Rises-numbered_from : (n : ℕ) (ms : List Made) → Rises number_of (entries_of (numbered_from n ms))
+Rises-numbered_from : (n : ℕ) (ms : List NumberedFile) → Rises number_of (entries_of (numbered_from n ms))
 Rises-numbered_from n [] = tt
 Rises-numbered_from n (m ∷ ms) = (above-numbered_from n (suc n) ms (omega arith), Rises-numbered_from (suc n) ms)
 
@@ -109,10 +109,10 @@ unfolding IsDistinct
 distinct-rising [] rises = tt
 distinct-rising (e ∷ es) rises = (apart-above (number_of e) es rises.0, distinct-rising es rises.1)
 
-distinct-numbered_from : (ms : List Made) → IsDistinct nat_eq (map number_of (entries_of (numbered_from 0 ms)))
+distinct-numbered_from : (ms : List NumberedFile) → IsDistinct nat_eq (map number_of (entries_of (numbered_from 0 ms)))
 distinct-numbered_from ms = distinct-rising (entries_of (numbered_from 0 ms)) (Rises-numbered_from 0 ms)
 
-rising-entries_of : (ms : List Made) → IsNonDecreasingBy (λ (m : Made). m.number) ms → IsNonDecreasingBy number_of (entries_of ms)
+rising-entries_of : (ms : List NumberedFile) → IsNonDecreasingBy (λ (m : NumberedFile). m.number) ms → IsNonDecreasingBy number_of (entries_of ms)
 rising-entries_of ms rising = λ i j d low within.
     let short : j < length ms = omega (arith, within, length-map ms entry_of) in
     let first : i < length ms = omega (arith, low, short) in
@@ -121,13 +121,13 @@ rising-entries_of ms rising = λ i j d low within.
     let other : number_of (get_or (entries_of ms) j d) ≡ (get_or ms j d.1).number = number-at ms j d short in
     omega (arith, up, one, other)
   where
-    number-at : (ms : List Made) (k : ℕ) (d : List ℕ × Made) → k < length ms → number_of (get_or (entries_of ms) k d) ≡ (get_or ms k d.1).number
+    number-at : (ms : List NumberedFile) (k : ℕ) (d : List ℕ × NumberedFile) → k < length ms → number_of (get_or (entries_of ms) k d) ≡ (get_or ms k d.1).number
     number-at [] k d low = absurd (omega (arith, low))
     number-at (m ∷ ms) zero d low = refl
     number-at (m ∷ ms) (suc k) d low = number-at ms k d (omega (arith, low))
 
 -- files that are sorted in order of making and renumbered
-module _ (names : List (List ℕ)) (made new : List Made) (next : ℕ) (placed : AreInPlace names made next) (anew : IsNumberedAnew (take (length names) made) (take (length names) new)) where
+module _ (names : List (List ℕ)) (made new : List NumberedFile) (next : ℕ) (placed : AreInPlace names made next) (anew : IsNumberedAnew (take (length names) made) (take (length names) new)) where
   abbrev old : Entries
   old = entries_in names made
 
@@ -152,7 +152,7 @@ module _ (names : List (List ℕ)) (made new : List Made) (next : ℕ) (placed :
     keys = are ∙ sym (names_of-keys old next placed.kept) ∙ ap keys_of order
 
     length-ordered : length ordered ≡ length names
-    length-ordered = ap length keys ∙ length-map turned (λ (e : List ℕ × Made). e.0) ∙ length-map anew.ordered entry_of ∙ count
+    length-ordered = ap length keys ∙ length-map turned (λ (e : List ℕ × NumberedFile). e.0) ∙ length-map anew.ordered entry_of ∙ count
 
     entries_in-ordered : entries_in ordered new ≡ entries_of (numbered_from 0 anew.ordered)
     entries_in-ordered = ap (λ n. entries_of (take n new)) length-ordered ∙ ap entries_of anew.numbered
@@ -174,13 +174,13 @@ module _ (names : List (List ℕ)) (made new : List Made) (next : ℕ) (placed :
         let after = by_number-is number_of (entries_of (numbered_from 0 anew.ordered)) (entries_of (numbered_from 0 anew.ordered)) (distinct-numbered_from anew.ordered) (IsPermutation-refl (entries_of (numbered_from 0 anew.ordered))) (Rises-numbered_from 0 anew.ordered) in
         ap files_made entries_in-ordered ∙ ap (things_in file_in) after ∙ files-numbered_from 0 anew.ordered ∙ ap (things_in file_in) (sym order)
 
-length-anew : (old new : List Made) → IsNumberedAnew old new → length new ≡ length old
+length-anew : (old new : List NumberedFile) → IsNumberedAnew old new → length new ≡ length old
 length-anew old new anew = ap length anew.numbered ∙ length-numbered_from 0 anew.ordered ∙ length_permutation old anew.ordered anew.same
 
 -- the first files renumbered, with the others after them
-module _ (names ordered : List (List ℕ)) (made first : List Made) (next count : ℕ) (len : count ≡ length names) (placed : AreInPlace names made next) (anew : IsNumberedAnew (take count made) first)
+module _ (names ordered : List (List ℕ)) (made first : List NumberedFile) (next count : ℕ) (len : count ≡ length names) (placed : AreInPlace names made next) (anew : IsNumberedAnew (take count made) first)
     (are : ordered ≡ names_of (files_made (entries_of (take count made)))) where
-  abbrev after : List Made
+  abbrev after : List NumberedFile
   after = first ++ drop count made
 
   within : count ≤ length made

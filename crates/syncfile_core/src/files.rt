@@ -12,8 +12,8 @@ ghost use Rattle.syncfile_core.specs.Status.{info_of, ReportsSetsOf};
 ghost use Rattle.point_core.specs.Refusal.{IsRefusedFor};
 ghost use Rattle.syncfile_core.specs.Files.{has_file, file_at, without_file, names_of, HasDistinctNames, HasStanding, cause_to_refuse};
 
-use crate::by_making::ByMaking;
 use crate::draft::Draft;
+use crate::file_slots::FileSlots;
 use crate::merge::Gathered;
 use crate::status::{self, FileInfo};
 use crate::sync_file::SyncFile;
@@ -30,7 +30,7 @@ const _: () = prove!(FILES == 1024);
 #[derive(Drop)]
 pub struct Files {
     alloc: Global,
-    made: ByMaking,
+    made: FileSlots,
     // the next file
     draft: Draft,
 }
@@ -51,7 +51,7 @@ impl Files {
     {
         Ok(Files {
             alloc,
-            made: ByMaking::new(alloc),
+            made: FileSlots::new(alloc),
             draft: Draft::new(alloc),
         })
     }

@@ -4,8 +4,8 @@
 //! its floor.
 #![tactic(auto)]
 
-mod by_making;
 mod draft;
+mod file_slots;
 mod files;
 mod merge;
 mod running;

@@ -1,7 +1,0 @@
-use Rattle.std.proofs.Common.{rules}
-use Rattle.std.proofs.lemmas.List.Sorted.{IsNonDecreasingBy-from_sort_by_key}
-use Rattle.syncfile_core.specs.declared.by_making.Made.{Made}
-use Rattle.syncfile_core.proofs.by_making.put_in_order.Goals as goal
-
-pub returns-clause-rising : goal.returns-clause-rising
-returns-clause-rising c = IsNonDecreasingBy-from_sort_by_key (λ (m : Made). m.number) _ c.sort_unstable_by_key.ensures.sorted (λ a r q k. search rules)
