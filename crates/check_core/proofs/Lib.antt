@@ -1,5 +1,6 @@
 mod Comparing
 mod Counts
+mod Keeping
 mod Outcomes
 mod Passing
 mod Progress

@@ -2,6 +2,7 @@ pub mod Answering
 pub mod Check
 pub mod Expected
 pub mod Finding
+pub mod Kept
 pub mod Outcome
 pub mod Stage
 pub mod Tally

@@ -6,6 +6,7 @@ use Rattle.point_core.specs.Refusal.{refusal_number, refusal_name}
 use Rattle.point_core.specs.declared.refusal.Refusal.{Refusal}
 use Rattle.point_core.specs.declared.refusal.Refusal.TheVariants.{Read as ReadFault}
 use Rattle.check_core.specs.Check.{ChecksScript}
+use Rattle.check_core.specs.Kept.{kept}
 use Rattle.check_core.specs.declared.outcome.Verdict.{Verdict}
 use Rattle.check_core.specs.declared.outcome.Verdict.TheVariants as verdict
 use Rattle.check_core.specs.declared.tally.Tally.{Tally}
@@ -19,11 +20,12 @@ pub record Passes (script : List ℕ) : Type 0 where
   pub none : tally.differing ≡ 0
 
 -- What an update made of a file. `reads` says of bytes that a file has them, and `given` that a file was given them: the script
--- that was read passes; or another text that passes was written; or the script was read and not updated, or not read.
+-- that was read passes; or another text was written that passes and keeps the lines of the script that expect nothing; or the
+-- script was read and not updated, or not read.
 abbrev pub IsUpdate : (List ℕ → Type 0) → (List ℕ → Type 0) → Update → Type 0
 IsUpdate reads given Same = (script : List ℕ) × reads script × Passes script
 IsUpdate reads given Written =
-    (script : List ℕ) × (text : List ℕ) × reads script × (text ≢ script) × Passes text × given text
+    (script : List ℕ) × (text : List ℕ) × reads script × (text ≢ script) × Passes text × (kept text ≡ kept script) × given text
 IsUpdate reads given (Failed refusal) = (refusal ≡ ReadFault) ⊎ ((script : List ℕ) × reads script)
 
 abbrev pub is_failed : Update → Bool

@@ -7,6 +7,7 @@ mod checker;
 mod expected;
 mod finding;
 mod form;
+mod kept;
 mod outcome;
 mod parts;
 mod prefix;

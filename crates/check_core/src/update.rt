@@ -1,10 +1,12 @@
 //! Rewrites a script so that it expects its answers, and checks the result before it is returned: so a returned script
-//! passes, whatever `Rewriter` does.
-ghost use Rattle.std.specs.Prelude.{◌≡◌, IfOk};
+//! passes and keeps the other lines of the script, whatever `Rewriter` does.
+ghost use Rattle.std.specs.Prelude.{◌≡◌, IfOk, OnOk};
+ghost use Rattle.check_core.specs.Kept.{kept};
 ghost use Rattle.check_core.specs.Update.{Passes};
 
 use crate::expected::expected_text;
 use crate::form::{CheckForm, Place};
+use crate::kept::compare_kept;
 use crate::reading::check;
 use crate::rewriter::Rewriter;
 use crate::script_text::ScriptText;
@@ -17,9 +19,10 @@ use std::alloc::{AllocError, Global};
 /// The new script is checked before it is returned.
 ///
 /// Fails with `Limit` if the script or the new one has more than `SCRIPT_BYTES` bytes, with `Memory` if memory was refused,
-/// also to a command, and with `Torn` if an answer of the new script differs, which none does.
+/// also to a command, and with `Torn` if an answer of the new script differs or another line was changed, which none is.
 pub fn updated(alloc: Global, script: &[u8]) -> Result<Vec<u8>, Refusal>
     ensures passes { IfOk result (λ text. Passes text.items) }
+    ensures kept { IfOk result (λ text. kept text.items ≡ kept script.now) }
 {
     if script.len() > SCRIPT_BYTES {
         return Err(Refusal::Limit(LimitKind::Script));
@@ -33,12 +36,15 @@ pub fn updated(alloc: Global, script: &[u8]) -> Result<Vec<u8>, Refusal>
     }
 }
 
-fn rewrite(alloc: Global, script: &[u8], text: &mut ScriptText) -> Result<(), Refusal> {
+fn rewrite(alloc: Global, script: &[u8], text: &mut ScriptText) -> Result<(), Refusal>
+    ensures kept { OnOk result (kept text.new.bytes.items ≡ kept script.now) }
+{
     let mut rewriter = Rewriter::new(alloc, !expects(script));
     let rewritten = rewrite_lines(&mut rewriter, script, text);
     // For the proof: what a call drops is taken apart once, and not here.
     drop(rewriter);
-    rewritten
+    rewritten?;
+    compare_kept(alloc, script, text.bytes.as_slice())
 }
 
 /// Writes the new script to an empty text. Its last line lacks its line feed if the script's last line does.

@@ -5,6 +5,7 @@ ghost use Rattle.std.specs.List.{list_any};
 ghost use Rattle.line_core.specs.declared.script.TheConstants.{SCRIPT_BYTES};
 ghost use Rattle.point_core.specs.declared.refusal.Refusal.TheVariants.{Write as WriteFault, Memory};
 ghost use Rattle.source_core.specs.FileBytes.{HasFront, WasGiven};
+ghost use Rattle.check_core.specs.Kept.{kept};
 ghost use Rattle.check_core.specs.Update.{HasReported, IsUpdate, Passes, failure_text, is_failed, one_if_written, update_text, updates_text, update_totals, verdict_of_updates, written_count};
 
 use crate::outcome::Verdict;
@@ -106,7 +107,7 @@ fn rewrite_file<R: Files + Eprint + AllocGlobal>(
     }
 }
 
-/// Replaces the script by a text that passes.
+/// Replaces the script by a text that passes and keeps its other lines.
 fn put_text<R: Files + Eprint + AllocGlobal>(
     rt: &R,
     name: &str,
@@ -115,6 +116,7 @@ fn put_text<R: Files + Eprint + AllocGlobal>(
 ) -> Update
     requires front { HasFront R.File.remaining (SCRIPT_BYTES + 1) script.now }
     requires passes { Passes text.now }
+    requires kept { kept text.now ≡ kept script.now }
     ensures update { IsUpdate (HasFront R.File.remaining (SCRIPT_BYTES + 1)) (WasGiven R.File.contents) result }
 {
     if text == script {

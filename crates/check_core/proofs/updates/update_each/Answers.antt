@@ -1,4 +1,4 @@
-use Rattle.std.proofs.Common.{◌≡◌, ℕ, ◌+◌, List, ◌++◌, String, Global, string_bytes, subst}
+use Rattle.std.proofs.Common.{ℕ, ◌+◌, List, String, Global, string_bytes, subst}
 use Rattle.std.specs.Io.KnownBytes.{Appends}
 use Rattle.line_core.specs.declared.script.TheConstants.{SCRIPT_BYTES}
 use Rattle.source_core.specs.FileBytes.{HasFront, WasGiven}
