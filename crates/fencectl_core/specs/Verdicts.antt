@@ -1,9 +1,13 @@
 -- The exit statuses of checks and of reports of traces.
-use Rattle.std.specs.Prelude.{ℕ}
+use Rattle.std.specs.Prelude.{◌≡◌, ◌⊎◌, ℕ, Bool, true}
 use Rattle.check_core.specs.declared.outcome.Verdict.{Verdict}
 use Rattle.check_core.specs.declared.outcome.Verdict.TheVariants.{Passed, Differs, Failed}
 use Rattle.trace_report.specs.declared.report.Outcome.{Outcome}
 use Rattle.trace_report.specs.declared.report.Outcome.TheVariants.{Sound, Broken, NoEvents}
+use Rattle.trace_report.specs.declared.events.Written.{Written}
+use Rattle.trace_report.specs.declared.events.Written.TheVariants as written
+use Rattle.trace_script.specs.declared.text.Scripted.{Scripted}
+use Rattle.trace_script.specs.declared.text.Scripted.TheVariants as scripted
 
 -- 0 if each script passes, 1 if one does not, and 2 if one could not be checked to its end
 abbrev pub check_status : Verdict → ℕ
@@ -16,3 +20,14 @@ abbrev pub outcome_status : Outcome → ℕ
 outcome_status Sound = 0
 outcome_status Broken = 1
 outcome_status NoEvents = 2
+
+-- 0 once the document is written, and 2 if there is no event of a fence
+abbrev pub written_status : Written → ℕ
+written_status written.Document = 0
+written_status written.NoEvents = 2
+
+-- 0 once the script is written or drawn, and 2 if there is none, or if it has too many commands for a picture
+abbrev pub IsScriptStatus : Bool → Scripted → ℕ → Type 0
+IsScriptStatus is_drawing (scripted.Script text) status = (status ≡ 0) ⊎ ((is_drawing ≡ true) × (status ≡ 2))
+IsScriptStatus is_drawing scripted.NoEvents status = status ≡ 2
+IsScriptStatus is_drawing scripted.TooLong status = status ≡ 2

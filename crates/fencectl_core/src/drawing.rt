@@ -1,5 +1,5 @@
 //! `fencectl draw` and `trace --draw`: write a picture or a graph of a script's run.
-ghost use Rattle.std.specs.Prelude.{◌≡◌, IfOk, if◌then◌else◌};
+ghost use Rattle.std.specs.Prelude.{◌≡◌, ◌⊎◌, IfOk, if◌then◌else◌};
 
 use crate::action::Draw;
 use crate::fault::FAULT;
@@ -92,7 +92,9 @@ fn write_picture(
     output: Option<&str>,
     drawing: &Drawing,
     status: u8,
-) -> Result<u8, Refusal> {
+) -> Result<u8, Refusal>
+    ensures status { IfOk result (λ given. given ≡ status) }
+{
     let document = drawing.svg(rt.alloc())?;
     write_document(rt, output, document.as_slice(), status)
 }
@@ -104,7 +106,9 @@ fn status_of(history: &History) -> u8
 }
 
 /// Draws the script of a trace's events, to standard output.
-pub(crate) fn draw_trace(rt: &HostRuntime, script: &[u8]) -> Result<u8, Refusal> {
+pub(crate) fn draw_trace(rt: &HostRuntime, script: &[u8]) -> Result<u8, Refusal>
+    ensures status { IfOk result (λ status. (status ≡ 0) ⊎ (status ≡ 2)) }
+{
     if count_lines(rt.alloc(), script)? > COLUMNS {
         return report_mistake(rt, TOO_LONG_A_WINDOW);
     }

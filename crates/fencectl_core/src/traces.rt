@@ -1,6 +1,6 @@
 //! `fencectl trace`: reports what hangs in a trace, or writes its events as a script, a picture or trace events.
 ghost use Rattle.std.specs.Prelude.{◌≡◌, IfOk};
-ghost use Rattle.fencectl_core.specs.Verdicts.{outcome_status};
+ghost use Rattle.fencectl_core.specs.Verdicts.{IsScriptStatus, outcome_status, written_status};
 
 use crate::action::Trace;
 use crate::drawing::{draw_trace, report_mistake, write_output};
@@ -79,7 +79,9 @@ fn events_within(rt: &HostRuntime, asked: &Trace<'_>, span: Span) -> Result<u8, 
     status_of_written(rt, asked, written)
 }
 
-fn status_of_written(rt: &HostRuntime, asked: &Trace<'_>, written: Written) -> Result<u8, Refusal> {
+fn status_of_written(rt: &HostRuntime, asked: &Trace<'_>, written: Written) -> Result<u8, Refusal>
+    ensures status { IfOk result (λ status. status ≡ written_status written) }
+{
     match written {
         Written::Document => Ok(ACCEPTED),
         Written::NoEvents => report_none(rt, asked),
@@ -92,7 +94,9 @@ fn script_within(rt: &HostRuntime, asked: &Trace<'_>, span: Span) -> Result<u8, 
     write_script(rt, asked, &scripted)
 }
 
-fn write_script(rt: &HostRuntime, asked: &Trace<'_>, scripted: &Scripted) -> Result<u8, Refusal> {
+fn write_script(rt: &HostRuntime, asked: &Trace<'_>, scripted: &Scripted) -> Result<u8, Refusal>
+    ensures status { IfOk result (IsScriptStatus asked.now.is_drawing scripted.now) }
+{
     match scripted {
         Scripted::Script(text) => {
             if asked.is_drawing {
