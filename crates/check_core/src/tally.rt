@@ -5,7 +5,7 @@ ghost use Rattle.check_core.specs.Finding.{is_asked_finding, is_difference};
 use crate::finding::Finding;
 
 /// The counts of a script's answers.
-#[derive(Clone, Copy, Debug)]
+#[derive(Clone, Copy)]
 pub struct Tally {
     /// The lines that have an answer.
     pub lines: u64,

@@ -8,7 +8,7 @@ use point_core::Refusal;
 const COLOR: &str = "--color";
 
 /// When output is coloured, as clap's `ColorChoice`.
-#[derive(Clone, Copy, Debug, PartialEq, Eq)]
+#[derive(Clone, Copy)]
 pub(crate) enum ColorChoice {
     /// At a terminal, unless the environment asks for none.
     Auto,
@@ -30,7 +30,7 @@ impl ColorChoice {
 }
 
 /// Which streams are coloured.
-#[derive(Clone, Copy, Debug)]
+#[derive(Clone, Copy)]
 pub(crate) struct Colors {
     pub output: bool,
     pub errors: bool,

@@ -6,7 +6,7 @@ use point_core::Refusal;
 use std::io::Write;
 
 /// The style of the line's number.
-#[derive(Clone, Copy, PartialEq, Eq)]
+#[derive(Clone, Copy)]
 pub enum Look {
     Plain,
     /// In bold, by the codes of a terminal.

@@ -6,7 +6,7 @@ use crate::runs::{Class, split_run};
 use crate::steps::{after, after_blanks, is, without_blanks};
 
 /// The kinds of `dma_fence` trace events.
-#[derive(Clone, Copy, PartialEq, Eq)]
+#[derive(Clone, Copy)]
 pub enum Event {
     /// A fence was made.
     Init,

@@ -17,7 +17,7 @@ const BLOCK_BYTES: usize = 65536;
 const HELD_BYTES: usize = PIECE_BYTES + BLOCK_BYTES;
 
 /// What a read gave.
-#[derive(Clone, Copy, PartialEq, Eq)]
+#[derive(Clone, Copy)]
 pub enum Progress {
     /// Bytes were read.
     More,

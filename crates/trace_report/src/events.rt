@@ -44,24 +44,12 @@ pub fn events_of_trace<R: Read, W: Write>(
         (W.contents writer.old) (W.contents writer.new)) }
     ensures refusals { IfErr result (λ e. (e ≡ ReadFault) ⊎ (e ≡ WriteFault) ⊎ (e ≡ Memory)) }
 {
-    let mut tracker = Tracker::new(alloc);
-    write_by(alloc, span, &mut tracker, reader, writer)
-}
-
-fn write_by<R: Read, W: Write>(
-    alloc: Global,
-    span: Span,
-    tracker: &mut Tracker,
-    reader: &mut R,
-    writer: &mut W,
-) -> Result<Written, Refusal>
-    requires fresh { Tracks tracker.old [] [] }
-    ensures written { IfOk result (WritesTrace span (R.remaining reader.old) (R.remaining reader.new)
-        (W.contents writer.old) (W.contents writer.new)) }
-    ensures refusals { IfErr result (λ e. (e ≡ ReadFault) ⊎ (e ≡ WriteFault) ⊎ (e ≡ Memory)) }
-{
     let mut chart = Chart::new(alloc)?;
-    write_trace(span, tracker, &mut chart, reader, writer)
+    let mut tracker = Tracker::new(alloc);
+    let written = write_trace(span, &mut tracker, &mut chart, reader, writer);
+    drop(tracker);
+    drop(chart);
+    written
 }
 
 fn write_trace<R: Read, W: Write>(

@@ -7,7 +7,7 @@ ghost use Rattle.trace_report.specs.Found.{AreHangs, hanging, is_hang, key_of, l
 
 use indexmap::IndexMap;
 use point_core::Refusal;
-use std::alloc::Global;
+use std::alloc::{AllocError, Global};
 use trace_core::{Ledger, Pending, PendingKind, TimelineKey, pending_of};
 
 /// A fence that is pending, as a report lists it: beside the other fences of its timeline.
@@ -56,7 +56,7 @@ fn split(
     pending: &[Pending],
     hangs: &mut Vec<Pending>,
     unknown: &mut Vec<Pending>,
-) -> Result<u64, Refusal>
+) -> Result<u64, AllocError>
     ensures hangs { OnOk result (hangs.new.items ≡ hangs.old.items ++ filter is_hang pending.now) }
 {
     let mut unnumbered: u64 = 0;
@@ -73,7 +73,7 @@ fn put(
     fence: &Pending,
     hangs: &mut Vec<Pending>,
     unknown: &mut Vec<Pending>,
-) -> Result<bool, Refusal>
+) -> Result<bool, AllocError>
     ensures hangs { OnOk result (hangs.new.items ≡ hangs.old.items ++ hanging fence.now) }
 {
     match fence.kind {
@@ -83,17 +83,15 @@ fn put(
     }
 }
 
-fn push(list: &mut Vec<Pending>, fence: &Pending) -> Result<bool, Refusal>
+fn push(list: &mut Vec<Pending>, fence: &Pending) -> Result<bool, AllocError>
     ensures added { OnOk result (list.new.items ≡ list.old.items ++ fence.now ∷ []) }
 {
-    let Ok(()) = list.push(*fence) else {
-        return Err(Refusal::Memory);
-    };
+    list.push(*fence)?;
     Ok(true)
 }
 
 /// Groups the pending fences by timeline, in creation order.
-fn ordered(alloc: Global, pending: Vec<Pending>) -> Result<Vec<Listed>, Refusal>
+fn ordered(alloc: Global, pending: Vec<Pending>) -> Result<Vec<Listed>, AllocError>
     ensures same { IfOk result (λ v. IsPermutation (map key_of pending.items) (map listed_key v.items)) }
 {
     let mut pending = pending;
@@ -104,32 +102,42 @@ fn ordered(alloc: Global, pending: Vec<Pending>) -> Result<Vec<Listed>, Refusal>
 }
 
 /// The fences, each with the group of its timeline.
-fn grouped(alloc: Global, pending: &[Pending]) -> Result<Vec<Listed>, Refusal>
+fn grouped(alloc: Global, pending: &[Pending]) -> Result<Vec<Listed>, AllocError>
     ensures same { IfOk result (λ v. map listed_key v.items ≡ map key_of pending.now) }
 {
     let mut firsts = IndexMap::new(alloc);
+    let grouped = grouped_by(alloc, &mut firsts, pending);
+    drop(firsts);
+    grouped
+}
+
+fn grouped_by(
+    alloc: Global,
+    firsts: &mut IndexMap<TimelineKey, u64>,
+    pending: &[Pending],
+) -> Result<Vec<Listed>, AllocError>
+    ensures same { IfOk result (λ v. map listed_key v.items ≡ map key_of pending.now) }
+{
     let mut grouped = Vec::new(alloc);
     for fence in pending {
-        let group = group_of(&mut firsts, fence)?;
+        let group = group_of(firsts, fence)?;
         let listed = Listed {
             group,
             fence: *fence,
         };
-        let Ok(()) = grouped.push(listed) else {
-            return Err(Refusal::Memory);
-        };
+        grouped.push(listed)?;
     }
     Ok(grouped)
 }
 
 /// The place of the first fence of its timeline, which it is itself where there was none.
-fn group_of(firsts: &mut IndexMap<TimelineKey, u64>, fence: &Pending) -> Result<u64, Refusal> {
+fn group_of(firsts: &mut IndexMap<TimelineKey, u64>, fence: &Pending) -> Result<u64, AllocError> {
     let timeline = fence.key.timeline_key();
     if let Some(first) = firsts.get(&timeline) {
         return Ok(*first);
     }
     match firsts.insert(timeline, fence.born) {
         Ok(_none) => Ok(fence.born),
-        Err(_) => Err(Refusal::Memory),
+        Err(_) => Err(AllocError),
     }
 }

@@ -5,7 +5,6 @@
 //! [`Tracker`](trace_core::Tracker) knows what the events mean; this crate only chooses and writes. `fencectl trace` calls it.
 #![tactic(auto)]
 
-mod block;
 mod document;
 mod events;
 mod found;

@@ -2,27 +2,28 @@
 ghost use Rattle.std.specs.Prelude.{◌≡◌, IfOk, OnOk};
 ghost use Rattle.trace_report.specs.declared.report.Form.TheVariants.{Json};
 ghost use Rattle.trace_report.specs.declared.report.Outcome.TheVariants.{NoEvents};
-ghost use Rattle.trace_report.specs.Document.{WritesDocument};
+ghost use Rattle.trace_report.specs.Document.{IsDocument, WritesDocument};
 
-use crate::document::write_json;
+use crate::document::document_of;
 use crate::found::Found;
 use crate::reading::read_trace;
 use crate::table::{Content, Timelines};
-use crate::text::write_text;
+use crate::text::text_of;
 use point_core::Refusal;
+use report_core::write_whole;
 use std::alloc::Global;
 use std::io::{Read, Write};
 use trace_core::Tracker;
 
 /// How a report is written.
-#[derive(Clone, Copy, Debug)]
+#[derive(Clone, Copy)]
 pub enum Form {
     Text,
     Json,
 }
 
 /// What a trace shows.
-#[derive(Clone, Copy, Debug, PartialEq, Eq)]
+#[derive(Clone, Copy)]
 pub enum Outcome {
     /// Nothing hangs, and no rule is broken.
     Sound,
@@ -46,7 +47,9 @@ pub fn report_trace<R: Read, W: Write>(
         WritesDocument (W.contents writer.old) (W.contents writer.new)) }
 {
     let mut tracker = Tracker::new(alloc);
-    read_and_report(alloc, form, &mut tracker, reader, writer)
+    let outcome = read_and_report(alloc, form, &mut tracker, reader, writer);
+    drop(tracker);
+    outcome
 }
 
 fn read_and_report<R: Read, W: Write>(
@@ -64,18 +67,34 @@ fn read_and_report<R: Read, W: Write>(
         return Ok(Outcome::NoEvents);
     }
     let found = Found::new(alloc, &tracker.ledger)?;
-    write_found(alloc, form, tracker, &found, writer)?;
-    Ok(outcome_of(tracker, &found))
+    let outcome = write_report(alloc, form, tracker, &found, writer);
+    drop(found);
+    outcome
 }
 
-fn write_found<W: Write>(
+fn write_report<W: Write>(
     alloc: Global,
     form: Form,
     tracker: &Tracker,
     found: &Found,
     writer: &mut W,
-) -> Result<(), Refusal>
+) -> Result<Outcome, Refusal>
     ensures document { OnOk result (form ≡ Json → WritesDocument (W.contents writer.old) (W.contents writer.new)) }
+{
+    let report = report_of(alloc, form, tracker, found)?;
+    write_whole(writer, report.as_slice())?;
+    Ok(outcome_of(tracker, found))
+}
+
+/// The bytes of the report. It is made as a whole: it is as long as the lists of what is pending and the kept contexts, which
+/// are in memory too.
+fn report_of(
+    alloc: Global,
+    form: Form,
+    tracker: &Tracker,
+    found: &Found,
+) -> Result<Vec<u8>, Refusal>
+    ensures document { IfOk result (λ bytes. form ≡ Json → IsDocument bytes.items) }
 {
     let timelines = Timelines::new(alloc, found)?;
     let content = Content {
@@ -83,26 +102,17 @@ fn write_found<W: Write>(
         found,
         timelines: &timelines,
     };
-    write_form(alloc, form, content, writer)
+    let bytes = bytes_of(alloc, form, content);
+    drop(timelines);
+    bytes
 }
 
-fn write_form<W: Write>(
-    alloc: Global,
-    form: Form,
-    content: Content<'_>,
-    writer: &mut W,
-) -> Result<(), Refusal>
-    ensures document { OnOk result (form ≡ Json → WritesDocument (W.contents writer.old) (W.contents writer.new)) }
+fn bytes_of(alloc: Global, form: Form, content: Content<'_>) -> Result<Vec<u8>, Refusal>
+    ensures document { IfOk result (λ bytes. form ≡ Json → IsDocument bytes.items) }
 {
     match form {
-        Form::Text => {
-            write_text(alloc, content, writer)?;
-            Ok(())
-        }
-        Form::Json => {
-            write_json(alloc, content, writer)?;
-            Ok(())
-        }
+        Form::Text => text_of(alloc, content),
+        Form::Json => document_of(alloc, content),
     }
 }
 

@@ -2,8 +2,7 @@
 
 use crate::found::{Found, Listed};
 use indexmap::IndexMap;
-use point_core::Refusal;
-use std::alloc::Global;
+use std::alloc::{AllocError, Global};
 use trace_core::{TimelineKey, Tracker};
 
 /// The tracker, the pending fences and their counts, which every part of a report may read.
@@ -24,7 +23,7 @@ impl Timelines {
     /// Counts the fences that were found, by timeline.
     ///
     /// Fails only with `Memory`.
-    pub(crate) fn new(alloc: Global, found: &Found) -> Result<Timelines, Refusal> {
+    pub(crate) fn new(alloc: Global, found: &Found) -> Result<Timelines, AllocError> {
         let mut timelines = Timelines {
             pending: IndexMap::new(alloc),
         };
@@ -41,12 +40,12 @@ impl Timelines {
         }
     }
 
-    fn add(&mut self, pending: &[Listed]) -> Result<(), Refusal> {
+    fn add(&mut self, pending: &[Listed]) -> Result<(), AllocError> {
         for listed in pending {
             let timeline = listed.fence.key.timeline_key();
             let count = self.pending(&timeline).saturating_add(1);
             if self.pending.insert(timeline, count).is_err() {
-                return Err(Refusal::Memory);
+                return Err(AllocError);
             }
         }
         Ok(())

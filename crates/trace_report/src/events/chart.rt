@@ -21,16 +21,13 @@ use crate::events::page::Page;
 use crate::events::part::{Names, Row};
 use crate::events::rows::{Place, Rows, Track, process_of_driver};
 use indexmap::{IndexMap, IndexSet};
-use itoa::Buffer;
 use point_core::Refusal;
 use std::alloc::{AllocError, Global};
 use std::io::Write;
+use text_core::{Part, push_parts};
 use trace_core::{
     Event, FenceKey, Finding, Pending, PendingKind, Seen, TimelineKey, Tracker, Wait, pending_of,
 };
-
-/// The word between a timeline's name and the number of a context.
-const CONTEXT: &[u8] = b" context ";
 
 /// Nothing was lost.
 const NO_LOSSES: Losses = Losses {
@@ -103,22 +100,19 @@ impl Chart {
     }
 
     /// Adds what comes of an event that the tracker has taken in.
-    pub(crate) fn see(&mut self, tracker: &Tracker, seen: &Seen) -> Result<(), Refusal>
+    pub(crate) fn see(&mut self, tracker: &Tracker, seen: &Seen) -> Result<(), AllocError>
         ensures slices { OnOk result (Grows self.old.page self.new.page (slices_of
             (name_or_none tracker.now.drivers seen.now.sighting.key.driver)
             (name_or_none tracker.now.timelines seen.now.sighting.key.timeline) seen.now)) }
-        ensures memory { IfErr result (λ e. e ≡ Memory) }
     {
         self.add_losses(seen.sighting.time)?;
-        self.add(tracker, seen)?;
-        Ok(())
+        self.add(tracker, seen)
     }
 
-    fn add(&mut self, tracker: &Tracker, seen: &Seen) -> Result<(), Refusal>
+    fn add(&mut self, tracker: &Tracker, seen: &Seen) -> Result<(), AllocError>
         ensures slices { OnOk result (Grows self.old.page self.new.page (slices_of
             (name_or_none tracker.now.drivers seen.now.sighting.key.driver)
             (name_or_none tracker.now.timelines seen.now.sighting.key.timeline) seen.now)) }
-        ensures memory { IfErr result (λ e. e ≡ Memory) }
     {
         match seen.sighting.event {
             Event::Signaled => self.signal(tracker, seen),
@@ -128,43 +122,38 @@ impl Chart {
         }
     }
 
-    fn add_losses(&mut self, time: u64) -> Result<(), Refusal>
+    fn add_losses(&mut self, time: u64) -> Result<(), AllocError>
         ensures slices { OnOk result (Grows self.old.page self.new.page []) }
-        ensures memory { IfErr result (λ e. e ≡ Memory) }
     {
         let losses = self.losses;
         if losses.lines == 0 && losses.late_buffers == 0 {
             return Ok(());
         }
         self.losses = NO_LOSSES;
-        self.page.push(&TraceEvent::Lost(time, losses))?;
-        Ok(())
+        self.page.push(&TraceEvent::Lost(time, losses))
     }
 
     /// A fence was signalled: its slice ends, and rules may be broken.
-    fn signal(&mut self, tracker: &Tracker, seen: &Seen) -> Result<(), Refusal>
+    fn signal(&mut self, tracker: &Tracker, seen: &Seen) -> Result<(), AllocError>
         ensures slices { OnOk result (Grows self.old.page self.new.page (of_fence
             (name_or_none tracker.now.drivers seen.now.sighting.key.driver)
             (name_or_none tracker.now.timelines seen.now.sighting.key.timeline) (signalled seen.now) ∷ [])) }
-        ensures memory { IfErr result (λ e. e ≡ Memory) }
     {
         let slice = signalled(seen);
         let row = self.add_fence(tracker, &slice)?;
         self.keep_signal(&slice, row)?;
-        self.add_rules(tracker, &seen.found, &slice)?;
-        Ok(())
+        self.add_rules(tracker, &seen.found, &slice)
     }
 
-    fn keep_signal(&mut self, slice: &Slice, row: Row) -> Result<(), Refusal>
+    fn keep_signal(&mut self, slice: &Slice, row: Row) -> Result<(), AllocError>
         ensures page { self.new.page ≡ self.old.page }
-        ensures memory { IfErr result (λ e. e ≡ Memory) }
     {
         let signal = Signal {
             row,
             time: slice.end,
         };
         if self.signals.insert(slice.key, signal).is_err() {
-            return Err(Refusal::Memory);
+            return Err(AllocError);
         }
         Ok(())
     }
@@ -174,13 +163,11 @@ impl Chart {
         tracker: &Tracker,
         found: &Finding,
         slice: &Slice,
-    ) -> Result<(), Refusal>
+    ) -> Result<(), AllocError>
         ensures slices { OnOk result (Grows self.old.page self.new.page []) }
-        ensures memory { IfErr result (λ e. e ≡ Memory) }
     {
         self.add_rule(tracker, Rule::Overtaken, found.overtaken, slice)?;
-        self.add_rule(tracker, Rule::SignalledTwice, found.signalled_twice, slice)?;
-        Ok(())
+        self.add_rule(tracker, Rule::SignalledTwice, found.signalled_twice, slice)
     }
 
     fn add_rule(
@@ -189,9 +176,8 @@ impl Chart {
         rule: Rule,
         is_broken: bool,
         slice: &Slice,
-    ) -> Result<(), Refusal>
+    ) -> Result<(), AllocError>
         ensures slices { OnOk result (Grows self.old.page self.new.page []) }
-        ensures memory { IfErr result (λ e. e ≡ Memory) }
     {
         if !is_broken {
             return Ok(());
@@ -199,18 +185,16 @@ impl Chart {
         let process = process_of_driver(slice.key.driver);
         let names = names_of(tracker, &slice.key);
         self.page
-            .push(&TraceEvent::Broken(rule, process, *slice, names))?;
-        Ok(())
+            .push(&TraceEvent::Broken(rule, process, *slice, names))
     }
 
     /// A fence was destroyed. The slice of a fence that is pending ends here. The signal of a fence that is gone is forgotten,
     /// since no wait for it can end any more.
-    fn destroy(&mut self, tracker: &Tracker, seen: &Seen) -> Result<(), Refusal>
+    fn destroy(&mut self, tracker: &Tracker, seen: &Seen) -> Result<(), AllocError>
         ensures slices { OnOk result (Grows self.old.page self.new.page
             (if seen.now.found.destroyed_pending then of_fence
             (name_or_none tracker.now.drivers seen.now.sighting.key.driver)
             (name_or_none tracker.now.timelines seen.now.sighting.key.timeline) (destroyed seen.now) ∷ [] else [])) }
-        ensures memory { IfErr result (λ e. e ≡ Memory) }
     {
         self.forget_signal(tracker, &seen.sighting.key);
         if !seen.found.destroyed_pending {
@@ -231,25 +215,22 @@ impl Chart {
     }
 
     /// A wait ended. An arrow leads to it from the signal of its fence, if that came during the wait.
-    fn end_wait(&mut self, tracker: &Tracker, seen: &Seen) -> Result<(), Refusal>
+    fn end_wait(&mut self, tracker: &Tracker, seen: &Seen) -> Result<(), AllocError>
         ensures slices { OnOk result (Grows self.old.page self.new.page (waits_of
             (name_or_none tracker.now.drivers seen.now.sighting.key.driver)
             (name_or_none tracker.now.timelines seen.now.sighting.key.timeline) seen.now seen.now.wait)) }
-        ensures memory { IfErr result (λ e. e ≡ Memory) }
     {
         let Some(wait) = seen.wait else {
             return Ok(());
         };
         let slice = waited(seen, &wait);
         let row = self.add_wait(tracker, seen.sighting.pid, wait.task.as_bytes(), &slice)?;
-        self.add_arrow(&slice, row)?;
-        Ok(())
+        self.add_arrow(&slice, row)
     }
 
     /// The arrow to a wait.
-    fn add_arrow(&mut self, slice: &Slice, row: Row) -> Result<(), Refusal>
+    fn add_arrow(&mut self, slice: &Slice, row: Row) -> Result<(), AllocError>
         ensures slices { OnOk result (Grows self.old.page self.new.page []) }
-        ensures memory { IfErr result (λ e. e ≡ Memory) }
     {
         let Some(signal) = self.signal_within(slice) else {
             return Ok(());
@@ -258,9 +239,7 @@ impl Chart {
         self.flows = self.flows.saturating_add(1);
         self.page
             .push(&TraceEvent::FlowBegin(signal.row, number, signal.time))?;
-        self.page
-            .push(&TraceEvent::FlowEnd(row, number, slice.end))?;
-        Ok(())
+        self.page.push(&TraceEvent::FlowEnd(row, number, slice.end))
     }
 
     /// The last signal of the fence of a wait, if it came during the wait.
@@ -274,11 +253,10 @@ impl Chart {
     }
 
     /// Adds the slice of a fence. Gives its row.
-    fn add_fence(&mut self, tracker: &Tracker, slice: &Slice) -> Result<Row, Refusal>
+    fn add_fence(&mut self, tracker: &Tracker, slice: &Slice) -> Result<Row, AllocError>
         ensures slices { OnOk result (Grows self.old.page self.new.page (of_fence
             (name_or_none tracker.now.drivers slice.now.key.driver)
             (name_or_none tracker.now.timelines slice.now.key.timeline) slice.now ∷ [])) }
-        ensures memory { IfErr result (λ e. e ≡ Memory) }
     {
         let track = self.track_of(tracker, &slice.key)?;
         let place = self.rows.place(track, slice.begin, slice.end)?;
@@ -296,11 +274,10 @@ impl Chart {
         pid: u32,
         task: &[u8],
         slice: &Slice,
-    ) -> Result<Row, Refusal>
+    ) -> Result<Row, AllocError>
         ensures slices { OnOk result (Grows self.old.page self.new.page (of_wait pid
             (name_or_none tracker.now.drivers slice.now.key.driver)
             (name_or_none tracker.now.timelines slice.now.key.timeline) slice.now ∷ [])) }
-        ensures memory { IfErr result (λ e. e ≡ Memory) }
     {
         let track = Track::Task(pid);
         let place = self.rows.place(track, slice.begin, slice.end)?;
@@ -313,15 +290,14 @@ impl Chart {
 
     /// The track of a fence: its timeline, or its context, if that is not the first context of the timeline and has several
     /// points.
-    fn track_of(&mut self, tracker: &Tracker, key: &FenceKey) -> Result<Track, Refusal>
+    fn track_of(&mut self, tracker: &Tracker, key: &FenceKey) -> Result<Track, AllocError>
         ensures page { self.new.page ≡ self.old.page }
         ensures process { IfOk result (λ track. process_of track ≡ process_of_driver key.now.driver) }
-        ensures memory { IfErr result (λ e. e ≡ Memory) }
     {
         let timeline = key.timeline_key();
         let Some(first) = self.firsts.get(&timeline) else {
             if self.firsts.insert(timeline, key.context).is_err() {
-                return Err(Refusal::Memory);
+                return Err(AllocError);
             }
             return Ok(Track::Timeline(timeline));
         };
@@ -337,9 +313,8 @@ impl Chart {
         track: Track,
         names: &Names<'_>,
         place: &Place,
-    ) -> Result<(), Refusal>
+    ) -> Result<(), AllocError>
         ensures slices { OnOk result (Grows self.old.page self.new.page []) }
-        ensures memory { IfErr result (λ e. e ≡ Memory) }
     {
         if !place.is_new {
             return Ok(());
@@ -349,9 +324,8 @@ impl Chart {
     }
 
     /// Names a row that is new, and its process if that has no name.
-    fn begin_row(&mut self, process: &[u8], name: &[u8], place: &Place) -> Result<(), Refusal>
+    fn begin_row(&mut self, process: &[u8], name: &[u8], place: &Place) -> Result<(), AllocError>
         ensures slices { OnOk result (Grows self.old.page self.new.page []) }
-        ensures memory { IfErr result (λ e. e ≡ Memory) }
     {
         if !place.is_new {
             return Ok(());
@@ -359,23 +333,20 @@ impl Chart {
         let row = place.row;
         self.begin_process(row.process, process)?;
         self.page.push(&TraceEvent::Thread(row, name))?;
-        self.page.push(&TraceEvent::Order(row, place.track))?;
-        Ok(())
+        self.page.push(&TraceEvent::Order(row, place.track))
     }
 
     /// Names a process that has no name.
-    fn begin_process(&mut self, process: u64, name: &[u8]) -> Result<(), Refusal>
+    fn begin_process(&mut self, process: u64, name: &[u8]) -> Result<(), AllocError>
         ensures slices { OnOk result (Grows self.old.page self.new.page []) }
-        ensures memory { IfErr result (λ e. e ≡ Memory) }
     {
         let Ok((_, is_new)) = self.processes.insert_full(process) else {
-            return Err(Refusal::Memory);
+            return Err(AllocError);
         };
         if !is_new {
             return Ok(());
         }
-        self.page.push(&TraceEvent::Process(process, name))?;
-        Ok(())
+        self.page.push(&TraceEvent::Process(process, name))
     }
 
     /// Adds the losses since the last event, the pending fences, the unfinished waits and the end of the document, and writes
@@ -437,10 +408,9 @@ impl Chart {
     }
 
     /// Adds the slice of a fence that is pending, unless its driver has not numbered it.
-    fn add_left(&mut self, tracker: &Tracker, fence: &Pending, time: u64) -> Result<(), Refusal>
+    fn add_left(&mut self, tracker: &Tracker, fence: &Pending, time: u64) -> Result<(), AllocError>
         ensures slices { OnOk result (Grows self.old.page self.new.page
             (left_of tracker.now.drivers tracker.now.timelines time fence.now)) }
-        ensures memory { IfErr result (λ e. e ≡ Memory) }
     {
         match fence.kind {
             PendingKind::Hang => self.add_open(tracker, Kind::Hang, fence, time),
@@ -455,11 +425,10 @@ impl Chart {
         kind: Kind,
         fence: &Pending,
         time: u64,
-    ) -> Result<(), Refusal>
+    ) -> Result<(), AllocError>
         ensures slices { OnOk result (Grows self.old.page self.new.page (of_fence
             (name_or_none tracker.now.drivers fence.now.key.driver)
             (name_or_none tracker.now.timelines fence.now.key.timeline) (open_slice kind time fence.now) ∷ [])) }
-        ensures memory { IfErr result (λ e. e ≡ Memory) }
     {
         let slice = Slice {
             kind,
@@ -471,6 +440,7 @@ impl Chart {
         Ok(())
     }
 
+    /// Adds the slices of the waits that have not ended.
     fn add_waits<W: Write>(
         &mut self,
         tracker: &Tracker,
@@ -482,33 +452,21 @@ impl Chart {
             (W.contents writer.old) (W.contents writer.new)) }
         ensures refusals { IfErr result (λ e. (e ≡ WriteFault) ⊎ (e ≡ Memory)) }
     {
-        let waits = open_waits(self.alloc, tracker)?;
-        self.add_each_wait(tracker, waits.as_slice(), time, writer)
-    }
-
-    fn add_each_wait<W: Write>(
-        &mut self,
-        tracker: &Tracker,
-        waits: &[Wait],
-        time: u64,
-        writer: &mut W,
-    ) -> Result<(), Refusal>
-        ensures carried { OnOk result (Carries self.old.page self.new.page
-            (flat_map (unfinished tracker.now.drivers tracker.now.timelines time) waits.now)
-            (W.contents writer.old) (W.contents writer.new)) }
-        ensures refusals { IfErr result (λ e. (e ≡ WriteFault) ⊎ (e ≡ Memory)) }
-    {
-        for wait in waits {
+        for (_, wait) in tracker.waits.open().iter() {
             self.add_unfinished(tracker, wait, time)?;
             self.page.write_block(writer)?;
         }
         Ok(())
     }
 
-    fn add_unfinished(&mut self, tracker: &Tracker, wait: &Wait, time: u64) -> Result<(), Refusal>
+    fn add_unfinished(
+        &mut self,
+        tracker: &Tracker,
+        wait: &Wait,
+        time: u64,
+    ) -> Result<(), AllocError>
         ensures slices { OnOk result (Grows self.old.page self.new.page
             (unfinished tracker.now.drivers tracker.now.timelines time wait.now)) }
-        ensures memory { IfErr result (λ e. e ≡ Memory) }
     {
         let slice = Slice {
             kind: Kind::Unfinished,
@@ -570,12 +528,16 @@ fn has_several(tracker: &Tracker, key: &FenceKey) -> bool {
 
 /// The name of the rows of fences: `TIMELINE`, or `TIMELINE context N`.
 fn track_name(alloc: Global, track: Track, names: &Names<'_>) -> Result<Vec<u8>, AllocError> {
-    let mut name = Vec::from_slice(alloc, names.timeline)?;
-    if let Track::Context(key) = track {
-        let mut digits = Buffer::new();
-        name.extend_from_slice(CONTEXT)?;
-        name.extend_from_slice(digits.format(key.context).as_bytes())?;
-    }
+    let mut name = Vec::new(alloc);
+    let timeline = Part::Bytes(names.timeline);
+    let pushed = match track {
+        Track::Context(key) => {
+            let context = Part::Number(u64::from(key.context));
+            push_parts(&mut name, &[timeline, Part::Text(" context "), context])
+        }
+        Track::Timeline(_) | Track::Task(_) => push_parts(&mut name, &[timeline]),
+    };
+    pushed?;
     Ok(name)
 }
 
@@ -586,15 +548,4 @@ fn names_of<'t>(tracker: &'t Tracker, key: &FenceKey) -> Names<'t>
 {
     let (driver, timeline) = tracker.names(&key.timeline_key());
     Names { driver, timeline }
-}
-
-/// The waits that have not ended.
-fn open_waits(alloc: Global, tracker: &Tracker) -> Result<Vec<Wait>, Refusal>
-    ensures memory { IfErr result (λ e. e ≡ Memory) }
-{
-    let mut waits = Vec::new(alloc);
-    for (_, wait) in tracker.waits.open().iter() {
-        waits.push(*wait).map_err(|_| Refusal::Memory)?;
-    }
-    Ok(waits)
 }

@@ -1,4 +1,5 @@
-//! `Page`: trace events on their way to a writer. It holds text only, which is written in blocks.
+//! `Page`: trace events on their way to a writer. Text is held until it is a block, and then written whole, so that a long
+//! trace needs little memory.
 ghost use Rattle.std.specs.Prelude.{◌≡◌, ◌++◌, [], IfOk, IfErr, OnOk, option_to_list};
 ghost use Rattle.std.specs.Io.KnownBytes.{Appends};
 ghost use Rattle.point_core.specs.declared.refusal.Refusal.TheVariants.{Write as WriteFault};
@@ -7,12 +8,15 @@ ghost use Rattle.trace_report.specs.Block.{Passes};
 ghost use Rattle.trace_report.specs.EventPage.{Grows};
 ghost use Rattle.trace_report.specs.Slices.{slice_in};
 
-use crate::block::{write_block, write_held};
 use crate::events::event::{TraceEvent, push_end, push_event};
 use point_core::Refusal;
+use report_core::write_whole;
 use std::alloc::{AllocError, Global};
 use std::io::Write;
 use std::mem;
+
+/// Text is held up to this many bytes before it is written.
+const BLOCK_BYTES: usize = 16384;
 
 /// Trace events on their way to a writer.
 #[derive(Drop)]
@@ -58,7 +62,11 @@ impl Page {
         ensures passed { OnOk result (Passes self.old.held.items self.new.held.items
             (W.contents writer.old) (W.contents writer.new)) }
     {
-        write_block(&mut self.held, writer)
+        if self.held.len() < BLOCK_BYTES {
+            return Ok(());
+        }
+        self.write(writer)?;
+        Ok(())
     }
 
     /// Writes what is held.
@@ -67,6 +75,8 @@ impl Page {
         ensures written { OnOk result (Appends (W.contents writer.old) (W.contents writer.new) self.old.held.items) }
         ensures none { OnOk result (self.new.held.items ≡ []) }
     {
-        write_held(&mut self.held, writer)
+        write_whole(writer, self.held.as_slice())?;
+        self.held.clear();
+        Ok(())
     }
 }

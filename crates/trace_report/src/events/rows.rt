@@ -1,14 +1,12 @@
 //! `Rows`: rows on which no two slices overlap, as Perfetto needs. A row keeps the end of its last slice; a slice gets a row that
 //! ended before it begins.
-ghost use Rattle.std.specs.Prelude.{◌≡◌, IfOk, IfErr};
-ghost use Rattle.point_core.specs.declared.refusal.Refusal.TheVariants.{Memory};
+ghost use Rattle.std.specs.Prelude.{◌≡◌, IfOk};
 ghost use Rattle.trace_report.specs.Rows.{process_of};
 ghost use Rattle.trace_report.specs.Slices.{process_of_driver};
 
 use crate::events::part::Row;
 use indexmap::IndexSet;
-use point_core::Refusal;
-use std::alloc::Global;
+use std::alloc::{AllocError, Global};
 use std::collections::BTreeSet;
 use trace_core::{ContextKey, TimelineKey};
 
@@ -85,12 +83,11 @@ impl Rows {
     }
 
     /// A row of the track on which each slice ended before `begin`: the one that was left last, or a new one if there is none.
-    pub(crate) fn place(&mut self, track: Track, begin: u64, end: u64) -> Result<Place, Refusal>
+    pub(crate) fn place(&mut self, track: Track, begin: u64, end: u64) -> Result<Place, AllocError>
         ensures process { IfOk result (λ place. place.row.process ≡ process_of track) }
-        ensures memory { IfErr result (λ e. e ≡ Memory) }
     {
         let Ok((number, is_first)) = self.tracks.insert_full(track) else {
-            return Err(Refusal::Memory);
+            return Err(AllocError);
         };
         let number = number as u64;
         let free = self.take_free(number, begin);
@@ -130,12 +127,10 @@ impl Rows {
         if row.track == track { Some(row) } else { None }
     }
 
-    fn keep(&mut self, row: Used) -> Result<(), Refusal>
-        ensures memory { IfErr result (λ e. e ≡ Memory) }
-    {
+    fn keep(&mut self, row: Used) -> Result<(), AllocError> {
         match self.used.insert(row) {
             Ok(_) => Ok(()),
-            Err(_) => Err(Refusal::Memory),
+            Err(_) => Err(AllocError),
         }
     }
 

@@ -1,6 +1,5 @@
-use Rattle.std.proofs.Common.{◌∙◌}
-use Rattle.trace_report.proofs.Writing.{ended}
+use Rattle.trace_report.proofs.Writing.{is-document}
 use Rattle.trace_report.proofs.document.writing.Document.finish.Goals as goal
 
 pub returns : goal.returns
-returns g c = record { ended = ended _ _ _ _ _ c.take.ensures.taken (c.as_slice.ensures.value ∙ c.in_ok-held.ensures.ended) c.in_ok-write_whole.ensures.ok }
+returns c = record { document = is-document c.self.inside.text _ _ (c.self.invariant c.if-is_short.false) c.into_inner-bytes.ensures.items c.in_ok-extend_from_slice.ensures.items }

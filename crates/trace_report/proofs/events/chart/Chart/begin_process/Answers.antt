@@ -1,4 +1,4 @@
 use Rattle.trace_report.proofs.events.chart.Chart.begin_process.Goals as goal
 
-pub returns-clause-slices : goal.returns-clause-slices
-returns-clause-slices c = c.in_ok-push.ensures.grown
+pub returns : goal.returns
+returns c = record { slices = c.push.ensures.grown }

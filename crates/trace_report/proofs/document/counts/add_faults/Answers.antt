@@ -1,5 +1,0 @@
-use Rattle.trace_report.proofs.Writing.{grows-then}
-use Rattle.trace_report.proofs.document.counts.add_faults.Goals as goal
-
-pub returns : goal.returns
-returns c = record { grown = grows-then _ _ _ c.in_ok-add_numbers.ensures.grown c.in_ok-add.ensures.grown }
