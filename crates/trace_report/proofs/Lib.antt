@@ -3,3 +3,4 @@ mod Finding
 mod Growing
 mod Showing
 mod Ordering
+mod Reported

@@ -7,3 +7,4 @@ pub mod Slices
 pub mod Rows
 pub mod EventPage
 pub mod Events
+pub mod Report

@@ -1,11 +1,16 @@
-//! A report of a trace: reads it to its end, and writes it as text or as JSON. `fencectl trace` calls `report_trace`.
-ghost use Rattle.std.specs.Prelude.{◌≡◌, IfOk, OnOk};
+//! A report of a trace: reads it to its end, and writes it as text or as JSON. `ReportsTrace` says which outcome a trace has.
+//! `fencectl trace` calls `report_trace`.
+ghost use Rattle.std.specs.Prelude.{◌≡◌, [], List, IfOk, OnOk};
+ghost use Rattle.trace_core.specs.History.{Step, IsLedgerOf};
+ghost use Rattle.trace_core.specs.Tracker.{Tracks};
 ghost use Rattle.trace_report.specs.declared.report.Form.TheVariants.{Json};
 ghost use Rattle.trace_report.specs.declared.report.Outcome.TheVariants.{NoEvents};
 ghost use Rattle.trace_report.specs.Document.{IsDocument, WritesDocument};
+ghost use Rattle.trace_report.specs.Found.{AreHangs};
+ghost use Rattle.trace_report.specs.Report.{IsVerdict, ReportsTrace, is_sound};
 
 use crate::document::document_of;
-use crate::found::Found;
+use crate::found::{Found, Listed};
 use crate::reading::read_trace;
 use crate::table::{Content, Timelines};
 use crate::text::text_of;
@@ -13,7 +18,7 @@ use point_core::Refusal;
 use report_core::write_whole;
 use std::alloc::Global;
 use std::io::{Read, Write};
-use trace_core::Tracker;
+use trace_core::{Tally, Tracker};
 
 /// How a report is written.
 #[derive(Clone, Copy)]
@@ -43,6 +48,9 @@ pub fn report_trace<R: Read, W: Write>(
     reader: &mut R,
     writer: &mut W,
 ) -> Result<Outcome, Refusal>
+    // The verdict follows from the events of the text, and nothing is written of a text without one.
+    ensures reported { IfOk result (ReportsTrace (R.remaining reader.old) (R.remaining reader.new)
+        (W.contents writer.old) (W.contents writer.new)) }
     ensures document { IfOk result (λ outcome. form ≡ Json → (outcome ≡ NoEvents → ⊥) →
         WritesDocument (W.contents writer.old) (W.contents writer.new)) }
 {
@@ -59,6 +67,9 @@ fn read_and_report<R: Read, W: Write>(
     reader: &mut R,
     writer: &mut W,
 ) -> Result<Outcome, Refusal>
+    requires fresh { Tracks tracker.old [] [] }
+    ensures reported { IfOk result (ReportsTrace (R.remaining reader.old) (R.remaining reader.new)
+        (W.contents writer.old) (W.contents writer.new)) }
     ensures document { IfOk result (λ outcome. form ≡ Json → (outcome ≡ NoEvents → ⊥) →
         WritesDocument (W.contents writer.old) (W.contents writer.new)) }
 {
@@ -80,6 +91,8 @@ fn write_report<W: Write>(
     writer: &mut W,
 ) -> Result<Outcome, Refusal>
     ensures document { OnOk result (form ≡ Json → WritesDocument (W.contents writer.old) (W.contents writer.new)) }
+    ensures verdict { IfOk result (λ outcome. (steps : List Step) → IsLedgerOf tracker.now.ledger steps →
+        AreHangs steps found.now.hangs.items → IsVerdict steps outcome) }
 {
     let report = report_of(alloc, form, tracker, found)?;
     write_whole(writer, report.as_slice())?;
@@ -116,11 +129,22 @@ fn bytes_of(alloc: Global, form: Form, content: Content<'_>) -> Result<Vec<u8>, 
     }
 }
 
-fn outcome_of(tracker: &Tracker, found: &Found) -> Outcome {
+/// The verdict on a trace that has events.
+fn outcome_of(tracker: &Tracker, found: &Found) -> Outcome
+    ensures verdict { (steps : List Step) → IsLedgerOf tracker.now.ledger steps → AreHangs steps found.now.hangs.items
+        → IsVerdict steps result }
+{
     let total = tracker.ledger.total();
-    if found.hangs.is_empty() && total.overtaken == 0 && total.signalled_twice == 0 {
+    if is_sound(found.hangs.as_slice(), &total) {
         Outcome::Sound
     } else {
         Outcome::Broken
     }
+}
+
+/// Whether nothing hangs, and no rule is broken.
+fn is_sound(hangs: &[Listed], total: &Tally) -> bool
+    ensures { result ≡ is_sound hangs.now total.now }
+{
+    hangs.is_empty() && total.overtaken == 0 && total.signalled_twice == 0
 }
