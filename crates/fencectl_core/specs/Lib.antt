@@ -3,6 +3,5 @@ pub mod Clients
 pub mod Color
 pub mod Ends
 pub mod Fault
-pub mod Json
 pub mod Verdicts
 pub mod Words

@@ -2,7 +2,8 @@
 ghost use Rattle.std.specs.Prelude.{◌≡◌, Result};
 ghost use Rattle.point_core.specs.declared.refusal.Refusal.{Refusal};
 ghost use Rattle.script_core.specs.declared.totals.Totals.{Totals};
-ghost use Rattle.fencectl_core.specs.Ends.{EndsRun, ReportsFault, run_status};
+ghost use Rattle.script_core.specs.Run.{RunsScript};
+ghost use Rattle.fencectl_core.specs.Ends.{ReportsFault, run_status};
 
 use crate::status::status_of_run;
 use script_core::engine;
@@ -17,7 +18,7 @@ pub fn run_script<R: Read, W: Write, E: Write>(
     errors: &mut E,
 ) -> u8
     ensures ended { (ended : Result Totals Refusal) × (result ≡ run_status ended)
-        × EndsRun ended (R.remaining reader.old) (R.remaining reader.new) (W.contents writer.old) (W.contents writer.new)
+        × RunsScript ended (R.remaining reader.old) (R.remaining reader.new) (W.contents writer.old) (W.contents writer.new)
         × ReportsFault ended (E.contents errors.old) (E.contents errors.new) }
 {
     let ended = engine(alloc, reader, writer);

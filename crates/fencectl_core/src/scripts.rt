@@ -2,8 +2,9 @@
 ghost use Rattle.std.specs.Prelude.{◌≡◌, Result};
 ghost use Rattle.point_core.specs.declared.refusal.Refusal.{Refusal};
 ghost use Rattle.script_core.specs.declared.totals.Totals.{Totals};
-ghost use Rattle.fencectl_core.specs.Ends.{EndsRun, ReportsFault, run_status};
-ghost use Rattle.fencectl_core.specs.Json.{EndsJson};
+ghost use Rattle.script_core.specs.Run.{RunsScript};
+ghost use Rattle.json_core.specs.Run.{RunsJson};
+ghost use Rattle.fencectl_core.specs.Ends.{ReportsFault, run_status};
 
 use crate::status::status_of_run;
 use json_core::run_json;
@@ -19,7 +20,7 @@ pub(crate) fn json_script<R: Read, W: Write, E: Write>(
     errors: &mut E,
 ) -> u8
     ensures ended { (ended : Result Totals Refusal) × (result ≡ run_status ended)
-        × EndsJson ended (R.remaining reader.old) (R.remaining reader.new) (W.contents writer.old) (W.contents writer.new)
+        × RunsJson ended (R.remaining reader.old) (R.remaining reader.new) (W.contents writer.old) (W.contents writer.new)
         × ReportsFault ended (E.contents errors.old) (E.contents errors.new) }
 {
     let ended = run_json(alloc, reader, writer);
@@ -36,7 +37,7 @@ pub(crate) fn explain_script<R: Read, W: Write, N: Write, E: Write>(
     errors: &mut E,
 ) -> u8
     ensures ended { (ended : Result Totals Refusal) × (result ≡ run_status ended)
-        × EndsRun ended (R.remaining reader.old) (R.remaining reader.new) (W.contents writer.old) (W.contents writer.new)
+        × RunsScript ended (R.remaining reader.old) (R.remaining reader.new) (W.contents writer.old) (W.contents writer.new)
         × ReportsFault ended (E.contents errors.old) (E.contents errors.new) }
 {
     let ended = explain(alloc, look, reader, writer, notes);

@@ -1,4 +1,5 @@
 mod Adding
 mod Names
 mod Prefixes
+mod Runs
 mod Writing

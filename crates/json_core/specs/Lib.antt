@@ -1,4 +1,5 @@
 pub mod Json
 pub mod Part
 pub mod Reporting
+pub mod Run
 pub mod Written

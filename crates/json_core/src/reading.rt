@@ -1,10 +1,11 @@
 //! Runs a script from a reader, and writes JSON. `run --json` calls it.
-ghost use Rattle.std.specs.Prelude.{◌≡◌, ◌+◌, ◌⊎◌, List, ℕ, [], take, Err, IfErr, IfOk, OnErr};
-ghost use Rattle.point_core.specs.declared.refusal.Refusal.TheVariants.{Read as ReadFault, Write as WriteFault, Memory};
-ghost use Rattle.line_core.specs.Reading.{ConsumesAtMost, IsInput, ReadsScript, WasRead};
-ghost use Rattle.line_core.specs.Script.{lines_of, lines_until, script_of};
+ghost use Rattle.std.specs.Prelude.{◌≡◌, ◌+◌, ◌⊎◌, List, ℕ, [], take, IfErr, IfOk, OnErr};
+ghost use Rattle.point_core.specs.declared.refusal.Refusal.TheVariants.{Write as WriteFault, Memory};
+ghost use Rattle.line_core.specs.Reading.{ConsumesAtMost, WasRead};
+ghost use Rattle.line_core.specs.Script.{lines_of, lines_until};
 ghost use Rattle.line_core.specs.declared.script.TheConstants.{SCRIPT_BYTES};
-ghost use Rattle.json_core.specs.Written.{HasBegun, HasWritten, WritesEndedObjects, WritesObjects, WritesScriptPrefix};
+ghost use Rattle.json_core.specs.Run.{RunsJson};
+ghost use Rattle.json_core.specs.Written.{HasBegun, HasWritten, WritesScriptPrefix};
 
 use crate::objects::Objects;
 use line_core::{Ending, ScriptLines, body_of, last_body};
@@ -27,27 +28,8 @@ pub fn run_json<R: Read, W: Write>(
     reader: &mut R,
     writer: &mut W,
 ) -> Result<Totals, Refusal>
-    // The objects of the answers of all lines were written, in order, and nothing else.
-    ensures ok { IfOk result (λ totals. (script : List ℕ) × IsInput (R.remaining reader.old) script
-        × WritesObjects (lines_of (take SCRIPT_BYTES script)) (script_of script) totals
-        (W.contents writer.old) (W.contents writer.new)) }
-
-    // The bytes that are read are the script, up to the byte past its limit.
-    ensures reads { IfOk result (λ _. ReadsScript (R.remaining reader.old) (R.remaining reader.new)) }
-
-    // Whatever the result, no byte is read past that one.
-    ensures within { ConsumesAtMost (SCRIPT_BYTES + 1) (R.remaining reader.old) (R.remaining reader.new) }
-
-    // The objects of all complete lines.
-    ensures read { result ≡ Err ReadFault
-        → WritesEndedObjects (R.remaining reader.old) (R.remaining reader.new)
+    ensures run { RunsJson result (R.remaining reader.old) (R.remaining reader.new)
         (W.contents writer.old) (W.contents writer.new) }
-
-    // Whatever the failure, a prefix of the objects of all answers was written, and nothing else.
-    ensures err { OnErr result (WritesScriptPrefix (R.remaining reader.old)
-        (W.contents writer.old) (W.contents writer.new)) }
-    ensures refusals { IfErr result (λ refusal.
-        (refusal ≡ ReadFault) ⊎ (refusal ≡ WriteFault) ⊎ (refusal ≡ Memory)) }
 {
     let mut objects = Objects::new(alloc)?;
     with_objects(&mut objects, reader, writer)
@@ -60,18 +42,8 @@ fn with_objects<R: Read, W: Write>(
 ) -> Result<Totals, Refusal>
     requires fresh { HasWritten [] [] objects.old.desk objects.old.out.items objects.old.totals
         (W.contents writer.old) (W.contents writer.old) }
-    ensures ok { IfOk result (λ totals. (script : List ℕ) × IsInput (R.remaining reader.old) script
-        × WritesObjects (lines_of (take SCRIPT_BYTES script)) (script_of script) totals
-        (W.contents writer.old) (W.contents writer.new)) }
-    ensures reads { IfOk result (λ _. ReadsScript (R.remaining reader.old) (R.remaining reader.new)) }
-    ensures within { ConsumesAtMost (SCRIPT_BYTES + 1) (R.remaining reader.old) (R.remaining reader.new) }
-    ensures read { result ≡ Err ReadFault
-        → WritesEndedObjects (R.remaining reader.old) (R.remaining reader.new)
+    ensures run { RunsJson result (R.remaining reader.old) (R.remaining reader.new)
         (W.contents writer.old) (W.contents writer.new) }
-    ensures err { OnErr result (WritesScriptPrefix (R.remaining reader.old)
-        (W.contents writer.old) (W.contents writer.new)) }
-    ensures refusals { IfErr result (λ refusal.
-        (refusal ≡ ReadFault) ⊎ (refusal ≡ WriteFault) ⊎ (refusal ≡ Memory)) }
 {
     let ending = answer_lines(objects, reader, writer)?;
     let totals = objects.finish(writer)?;

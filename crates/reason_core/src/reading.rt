@@ -1,10 +1,6 @@
 //! Runs a script from a reader, and writes an explanation after the answer of each refused line. `fencectl explain` and
 //! the prompt call it.
-ghost use Rattle.std.specs.Prelude.{◌≡◌, ◌+◌, ◌⊎◌, Err, IfOk, OnErr, IfErr};
-ghost use Rattle.point_core.specs.declared.refusal.Refusal.TheVariants.{Read as ReadFault, Write as WriteFault, Memory};
-ghost use Rattle.line_core.specs.Reading.{ConsumesAtMost, ReadsScript};
-ghost use Rattle.script_core.specs.Output.{AnswersInput, AnswersEndedLines, WritesInputPrefix};
-ghost use Rattle.line_core.specs.declared.script.TheConstants.{SCRIPT_BYTES};
+ghost use Rattle.script_core.specs.Run.{RunsScript};
 
 use crate::explainer::Explainer;
 use crate::look::Look;
@@ -30,24 +26,8 @@ pub fn explain<R: Read, W: Write, N: Write>(
     writer: &mut W,
     notes: &mut N,
 ) -> Result<Totals, Refusal>
-    ensures ok { IfOk result (λ totals. AnswersInput (R.remaining reader.old) totals
-        (W.contents writer.old) (W.contents writer.new)) }
-
-    // The bytes that are read are the script, up to the byte after its limit.
-    ensures reads { IfOk result (λ _. ReadsScript (R.remaining reader.old) (R.remaining reader.new)) }
-
-    // Whatever the result, no byte is read past that one.
-    ensures within { ConsumesAtMost (SCRIPT_BYTES + 1) (R.remaining reader.old) (R.remaining reader.new) }
-
-    // The lines whose line feed was read are answered.
-    ensures read { result ≡ Err ReadFault → AnswersEndedLines (R.remaining reader.old) (R.remaining reader.new)
+    ensures run { RunsScript result (R.remaining reader.old) (R.remaining reader.new)
         (W.contents writer.old) (W.contents writer.new) }
-
-    // A prefix of the answers is written.
-    ensures err { OnErr result (WritesInputPrefix (R.remaining reader.old)
-        (W.contents writer.old) (W.contents writer.new)) }
-    ensures refusals { IfErr result (λ refusal.
-        (refusal ≡ ReadFault) ⊎ (refusal ≡ WriteFault) ⊎ (refusal ≡ Memory)) }
 {
     let mut explainer = Explainer::new(alloc, look);
     answer_script(alloc, &mut explainer, reader, writer, notes)

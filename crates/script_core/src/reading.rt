@@ -1,10 +1,11 @@
 //! Runs a script from a reader to a writer. It reads only when no answer is pending, so an interactive user sees each
 //! answer.
-ghost use Rattle.std.specs.Prelude.{◌≡◌, ◌+◌, ◌⊎◌, [], Err, IfOk, OnErr, IfErr};
-ghost use Rattle.point_core.specs.declared.refusal.Refusal.TheVariants.{Read as ReadFault, Write as WriteFault, Memory};
+ghost use Rattle.std.specs.Prelude.{◌≡◌, ◌+◌, ◌⊎◌, [], IfOk, OnErr, IfErr};
+ghost use Rattle.point_core.specs.declared.refusal.Refusal.TheVariants.{Write as WriteFault, Memory};
+ghost use Rattle.line_core.specs.Reading.{ConsumesAtMost};
 ghost use Rattle.script_core.specs.Answering.{HasAnswered, HasAnsweredBytes};
-ghost use Rattle.line_core.specs.Reading.{ConsumesAtMost, ReadsScript};
-ghost use Rattle.script_core.specs.Output.{AnswersInput, AnswersEndedLines, WritesInputPrefix};
+ghost use Rattle.script_core.specs.Output.{WritesInputPrefix};
+ghost use Rattle.script_core.specs.Run.{RunsScript};
 
 use crate::answerer::{Answerer, NoNotes};
 use crate::answers::Answers;
@@ -28,24 +29,8 @@ pub fn engine<R: Read, W: Write>(
     reader: &mut R,
     writer: &mut W,
 ) -> Result<Totals, Refusal>
-    ensures ok { IfOk result (λ totals. AnswersInput (R.remaining reader.old) totals
-        (W.contents writer.old) (W.contents writer.new)) }
-
-    // The bytes that are read are the script, up to the byte after its limit.
-    ensures reads { IfOk result (λ _. ReadsScript (R.remaining reader.old) (R.remaining reader.new)) }
-
-    // Whatever the result, no byte is read past that one.
-    ensures within { ConsumesAtMost (SCRIPT_BYTES + 1) (R.remaining reader.old) (R.remaining reader.new) }
-
-    // The lines whose line feed was read are answered.
-    ensures read { result ≡ Err ReadFault → AnswersEndedLines (R.remaining reader.old) (R.remaining reader.new)
+    ensures run { RunsScript result (R.remaining reader.old) (R.remaining reader.new)
         (W.contents writer.old) (W.contents writer.new) }
-
-    // A prefix of the answers is written.
-    ensures err { OnErr result (WritesInputPrefix (R.remaining reader.old)
-        (W.contents writer.old) (W.contents writer.new)) }
-    ensures refusals { IfErr result (λ refusal.
-        (refusal ≡ ReadFault) ⊎ (refusal ≡ WriteFault) ⊎ (refusal ≡ Memory)) }
 {
     answer_script(alloc, &mut NoNotes, reader, writer, &mut ())
 }
@@ -61,24 +46,8 @@ pub fn answer_script<R: Read, W: Write, N, A: Answerer<N>>(
     writer: &mut W,
     notes: &mut N,
 ) -> Result<Totals, Refusal>
-    ensures ok { IfOk result (λ totals. AnswersInput (R.remaining reader.old) totals
-        (W.contents writer.old) (W.contents writer.new)) }
-
-    // The bytes that are read are the script, up to the byte after its limit.
-    ensures reads { IfOk result (λ _. ReadsScript (R.remaining reader.old) (R.remaining reader.new)) }
-
-    // Whatever the result, no byte is read past that one.
-    ensures within { ConsumesAtMost (SCRIPT_BYTES + 1) (R.remaining reader.old) (R.remaining reader.new) }
-
-    // The lines whose line feed was read are answered.
-    ensures read { result ≡ Err ReadFault → AnswersEndedLines (R.remaining reader.old) (R.remaining reader.new)
+    ensures run { RunsScript result (R.remaining reader.old) (R.remaining reader.new)
         (W.contents writer.old) (W.contents writer.new) }
-
-    // A prefix of the answers is written.
-    ensures err { OnErr result (WritesInputPrefix (R.remaining reader.old)
-        (W.contents writer.old) (W.contents writer.new)) }
-    ensures refusals { IfErr result (λ refusal.
-        (refusal ≡ ReadFault) ⊎ (refusal ≡ WriteFault) ⊎ (refusal ≡ Memory)) }
 {
     let mut answers = Answers::new(alloc)?;
     with_answers(answerer, &mut answers, reader, writer, notes)
@@ -92,16 +61,8 @@ fn with_answers<R: Read, W: Write, N, A: Answerer<N>>(
     notes: &mut N,
 ) -> Result<Totals, Refusal>
     requires fresh { HasAnswered [] answers.old (W.contents writer.old) (W.contents writer.old) }
-    ensures ok { IfOk result (λ totals. AnswersInput (R.remaining reader.old) totals
-        (W.contents writer.old) (W.contents writer.new)) }
-    ensures reads { IfOk result (λ _. ReadsScript (R.remaining reader.old) (R.remaining reader.new)) }
-    ensures within { ConsumesAtMost (SCRIPT_BYTES + 1) (R.remaining reader.old) (R.remaining reader.new) }
-    ensures read { result ≡ Err ReadFault → AnswersEndedLines (R.remaining reader.old) (R.remaining reader.new)
+    ensures run { RunsScript result (R.remaining reader.old) (R.remaining reader.new)
         (W.contents writer.old) (W.contents writer.new) }
-    ensures err { OnErr result (WritesInputPrefix (R.remaining reader.old)
-        (W.contents writer.old) (W.contents writer.new)) }
-    ensures refusals { IfErr result (λ refusal.
-        (refusal ≡ ReadFault) ⊎ (refusal ≡ WriteFault) ⊎ (refusal ≡ Memory)) }
 {
     let ending = answer_lines(answerer, answers, reader, writer, notes)?;
     let totals = answers.finish(writer)?;

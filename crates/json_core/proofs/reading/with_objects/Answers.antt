@@ -1,45 +1,49 @@
-use Rattle.std.proofs.Common.{take}
+use Rattle.std.proofs.Common.{ℕ, List, take, inl}
+use Rattle.std.proofs.lemmas.Result.{err_from_is_err_and}
 use Rattle.line_core.specs.declared.script.TheConstants.{SCRIPT_BYTES}
-use Rattle.line_core.specs.Script.{lines_of, lines_until}
+use Rattle.line_core.specs.Reading.{IsInput}
+use Rattle.line_core.specs.Script.{lines_of, lines_until, script_of}
 use Rattle.line_core.proofs.Inputs.{reads_front}
+use Rattle.script_core.proofs.Progress.{AppendsFront-all}
+use Rattle.json_core.specs.Written.{WritesObjects}
+use Rattle.json_core.proofs.Prefixes.{begun-prefix}
+use Rattle.json_core.proofs.Runs.{RunsJson-whole, RunsJson-unread, RunsJson-fault}
 use Rattle.json_core.proofs.Writing.{ended-written, script-written, written-whole}
 use Rattle.json_core.proofs.reading.with_objects.Goals as goal
-use Rattle.std.proofs.lemmas.Result.{err_from_is_err_and}
-use Rattle.script_core.proofs.Progress.{AppendsFront-all}
-use Rattle.json_core.proofs.Prefixes.{begun-prefix}
 
-pub returns-in-Failed-clause-read : goal.returns-in-Failed-clause-read
-returns-in-Failed-clause-read g c _ =
-    let b = c.in_ok-ending.ensures.ok in
-    let ending = c.in_ok-ending.ending in
-    let now = c.answer_lines.new.objects in
-    let start = g.W.Write.contents c.args.writer.now in
-    let end = g.W.Write.contents c.finish.new.writer in
-    let whole = written-whole (lines_of (take SCRIPT_BYTES b.0)) (lines_until ending (take SCRIPT_BYTES b.0)) now.desk now.out.items now.totals start _ end b.2 c.in_ok-totals.ensures.ok in
-    ended-written _ _ b.0 ending b.1 now.totals start end whole c.in-Failed.is
+pub returns-in_err-ending : goal.returns-in_err-ending
+returns-in_err-ending g c =
+    let q = err_from_is_err_and c.from_residual.result c.from_residual.ensures.1 in
+    record { run = rw (q.1, q.2) (RunsJson-fault _ _ _ _ c.in_err-ending.ensures.within _ c.in_err-ending.ensures.refusals c.in_err-ending.ensures.err) }
 
-pub returns-in-Whole-clause-ok : goal.returns-in-Whole-clause-ok
-returns-in-Whole-clause-ok g c =
-    let b = c.in_ok-ending.ensures.ok in
-    let ending = c.in_ok-ending.ending in
-    let now = c.answer_lines.new.objects in
-    let start = g.W.Write.contents c.args.writer.now in
-    let end = g.W.Write.contents c.finish.new.writer in
-    let whole = written-whole (lines_of (take SCRIPT_BYTES b.0)) (lines_until ending (take SCRIPT_BYTES b.0)) now.desk now.out.items now.totals start _ end b.2 c.in_ok-totals.ensures.ok in
-    rw c.in_ok-totals.ensures.totals (script-written _ _ b.0 ending b.1 now.totals start end whole c.in-Whole.is)
-
-pub returns-in-Whole-clause-reads : goal.returns-in-Whole-clause-reads
-returns-in-Whole-clause-reads g c =
-    let read = c.in_ok-ending.ensures.ok in
-    reads_front _ _ read.0 c.in_ok-ending.ending read.1 c.in-Whole.is
-
-pub returns-in_err-totals-clause-err : goal.returns-in_err-totals-clause-err
-returns-in_err-totals-clause-err g c =
+pub returns-in_err-totals : goal.returns-in_err-totals
+returns-in_err-totals g c =
     let q = err_from_is_err_and c.from_residual-in_err-totals.result c.from_residual-in_err-totals.ensures.1 in
     let now = c.answer_lines.new.objects in
-    rw q.1 (begun-prefix _ now.desk now.out.items now.totals _ _ _ c.in_ok-ending.ensures.begun c.in_err-totals.ensures.err)
+    let front = begun-prefix _ now.desk now.out.items now.totals _ _ _ c.in_ok-ending.ensures.begun c.in_err-totals.ensures.err in
+    record { run = rw (q.1, q.2) (RunsJson-fault _ _ _ _ c.in_ok-ending.ensures.within _ (inl c.in_err-totals.ensures.refusals) front) }
 
-pub returns-in-Failed-clause-err : goal.returns-in-Failed-clause-err
-returns-in-Failed-clause-err g c =
+pub returns-in-Failed : goal.returns-in-Failed
+returns-in-Failed g c =
+    let b = c.in_ok-ending.ensures.ok in
+    let ending = c.in_ok-ending.ending in
     let now = c.answer_lines.new.objects in
-    begun-prefix _ now.desk now.out.items now.totals _ _ _ c.in_ok-ending.ensures.begun (AppendsFront-all _ _ now.out.items c.in_ok-totals.ensures.ok)
+    let start = g.W.Write.contents c.args.writer.now in
+    let end = g.W.Write.contents c.finish.new.writer in
+    let whole = written-whole (lines_of (take SCRIPT_BYTES b.0)) (lines_until ending (take SCRIPT_BYTES b.0)) now.desk now.out.items now.totals start _ end b.2 c.in_ok-totals.ensures.ok in
+    let ended = ended-written _ _ b.0 ending b.1 now.totals start end whole c.in-Failed.is in
+    let front = begun-prefix _ now.desk now.out.items now.totals _ _ _ c.in_ok-ending.ensures.begun (AppendsFront-all _ _ now.out.items c.in_ok-totals.ensures.ok) in
+    record { run = RunsJson-unread _ _ _ _ c.in_ok-ending.ensures.within ended front }
+
+pub returns-in-Whole : goal.returns-in-Whole
+returns-in-Whole g c =
+    let b = c.in_ok-ending.ensures.ok in
+    let ending = c.in_ok-ending.ending in
+    let now = c.answer_lines.new.objects in
+    let start = g.W.Write.contents c.args.writer.now in
+    let end = g.W.Write.contents c.finish.new.writer in
+    let whole = written-whole (lines_of (take SCRIPT_BYTES b.0)) (lines_until ending (take SCRIPT_BYTES b.0)) now.desk now.out.items now.totals start _ end b.2 c.in_ok-totals.ensures.ok in
+    let unread = g.R.Read.remaining c.args.reader.now in
+    let answers : (script : List ℕ) × IsInput unread script × WritesObjects (lines_of (take SCRIPT_BYTES script)) (script_of script) c.in_ok-totals.totals start end =
+    rw c.in_ok-totals.ensures.totals (script-written _ _ b.0 ending b.1 now.totals start end whole c.in-Whole.is) in
+    record { run = RunsJson-whole _ _ _ _ c.in_ok-ending.ensures.within c.in_ok-totals.totals (reads_front _ _ b.0 ending b.1 c.in-Whole.is) answers }
