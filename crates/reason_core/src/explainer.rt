@@ -3,7 +3,9 @@
 ghost use Rattle.std.specs.Prelude.{◌≡◌, ◌+◌, ◌<◌, ◌≤◌, ◌⊎◌, ◌++◌, [], List, ℕ, Option, Some, OnOk, OnErr, IfErr};
 ghost use Rattle.point_core.specs.declared.refusal.Refusal.TheVariants.{Write as WriteFault, Memory};
 ghost use Rattle.script_core.specs.Answering.{HasAnswered};
-ghost use Rattle.script_core.specs.Output.{WritesPrefix};
+ghost use Rattle.script_core.specs.Notes.{NotesLine};
+ghost use Rattle.script_core.specs.Output.{Grows, WritesPrefix};
+ghost use Rattle.reason_core.specs.Notes.{NotedIn, Notes};
 ghost use Rattle.line_core.specs.Script.{answered};
 ghost use Rattle.line_core.specs.declared.line.Line.{Line};
 
@@ -51,10 +53,12 @@ impl Explainer {
         ensures err { OnErr result ((done : List Line) → (start : Option (List ℕ)) →
             HasAnswered done answers.old start (W.contents writer.old)
             → WritesPrefix (done ++ answered line.now.number (Some body) []) start (W.contents writer.new)) }
-        ensures lines { answers.new.totals.lines ≤ answers.old.totals.lines + 1 }
+        ensures grows { Grows (W.contents writer.old) (W.contents writer.new) }
 
-        // Whatever the result, nothing is noted before all answers are written.
-        ensures noted { (notes.new ≡ notes.old) ⊎ (answers.new.out ≡ []) }
+        // Whatever the result, a note on the line follows all answers up to it.
+        ensures follows { NotesLine (NotedIn N.contents) line.now.number (Some body) answers.old
+            (W.contents writer.old) (W.contents writer.new) notes.old notes.new }
+        ensures lines { answers.new.totals.lines ≤ answers.old.totals.lines + 1 }
         ensures refusals { IfErr result (λ refusal. (refusal ≡ WriteFault) ⊎ (refusal ≡ Memory)) }
     {
         let refused = answers.answer(line.number, Some(body), writer)?;
@@ -89,6 +93,7 @@ impl Explainer {
         notes: &mut N,
     ) -> Result<(), Refusal>
         requires written { answers.now.out ≡ [] }
+        ensures noted { Notes result line.now.number (N.contents notes.old) (N.contents notes.new) }
         ensures refusals { IfErr result (λ refusal. (refusal ≡ WriteFault) ⊎ (refusal ≡ Memory)) }
     {
         let place = Place {
@@ -105,6 +110,8 @@ impl Explainer {
 }
 
 impl<N: Write> Answerer<N> for Explainer {
+    ghost noted = { NotedIn N.contents };
+
     /// If the line is refused, its answer is written first, and then the explanation.
     fn answer<W: Write>(
         &mut self,

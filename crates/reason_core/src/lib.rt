@@ -1,7 +1,8 @@
 //! Explains why lines of a script were refused: the word at fault and a sentence, found by the line, the desk that refused
 //! it, and the `Book` of lines that made each name. `explain` runs a script and explains it.
 //!
-//! No contract says what an explanation is: its texts are tested, and only its faults are proved.
+//! Proved are its faults, that it begins with its line's number, and that it follows the answers of all lines up to its
+//! own. What else an explanation is, no contract says: its texts are tested.
 #![tactic(auto)]
 
 mod book;

@@ -1,8 +1,15 @@
 //! `Look` and `Place`, the style and the line of an explanation, and the functions that write one from parts.
-ghost use Rattle.std.specs.Prelude.{◌≡◌, IfErr};
+ghost use Rattle.std.specs.Prelude.{◌≡◌, IfErr, OnErr, OnOk};
+ghost use Rattle.std.specs.Io.KnownBytes.{Appends};
 ghost use Rattle.point_core.specs.declared.refusal.Refusal.TheVariants.{Write as WriteFault};
+ghost use Rattle.report_core.specs.Bytes.{AppendsFront};
+ghost use Rattle.script_core.specs.Output.{Grows};
+ghost use Rattle.reason_core.specs.Notes.{Notes, after_number, before_number, mark_of};
 
+use itoa::Buffer;
 use point_core::Refusal;
+use report_core::write_whole;
+use std::ascii::escape_default;
 use std::io::Write;
 
 /// The style of the line's number.
@@ -35,6 +42,7 @@ pub(crate) fn note<N: Write>(
     parts: &[Part<'_>],
     notes: &mut N,
 ) -> Result<(), Refusal>
+    ensures noted { Notes result place.now.line (N.contents notes.old) (N.contents notes.new) }
     ensures refusals { IfErr result (λ refusal. refusal ≡ WriteFault) }
 {
     begin(place, notes)?;
@@ -49,6 +57,7 @@ pub(crate) fn note_word<N: Write>(
     parts: &[Part<'_>],
     notes: &mut N,
 ) -> Result<(), Refusal>
+    ensures noted { Notes result place.now.line (N.contents notes.old) (N.contents notes.new) }
     ensures refusals { IfErr result (λ refusal. refusal ≡ WriteFault) }
 {
     begin(place, notes)?;
@@ -58,20 +67,41 @@ pub(crate) fn note_word<N: Write>(
     write_part(&Part::Text("\n"), notes)
 }
 
+/// Writes `line N: `.
 fn begin<N: Write>(place: &Place, notes: &mut N) -> Result<(), Refusal>
+    ensures ok { OnOk result
+        (Appends (N.contents notes.old) (N.contents notes.new) (mark_of place.now.look place.now.line)) }
+    ensures err { OnErr result
+        (AppendsFront (N.contents notes.old) (N.contents notes.new) (mark_of place.now.look place.now.line)) }
     ensures refusals { IfErr result (λ refusal. refusal ≡ WriteFault) }
 {
-    let line = Part::Number(u64::from(place.line));
-    match place.look {
-        Look::Plain => write_parts(&[Part::Text("line "), line, Part::Text(": ")], notes),
-        Look::Bold => {
-            let parts = [Part::Text("\x1b[1mline "), line, Part::Text(":\x1b[0m ")];
-            write_parts(&parts, notes)
-        }
+    let mut number = Buffer::new();
+    write_whole(notes, before_number(place.look))?;
+    write_whole(notes, number.format(place.line).as_bytes())?;
+    write_whole(notes, after_number(place.look))?;
+    Ok(())
+}
+
+fn before_number(look: Look) -> &'static [u8]
+    ensures bytes { result.now ≡ before_number look }
+{
+    match look {
+        Look::Plain => b"line ",
+        Look::Bold => b"\x1b[1mline ",
+    }
+}
+
+fn after_number(look: Look) -> &'static [u8]
+    ensures bytes { result.now ≡ after_number look }
+{
+    match look {
+        Look::Plain => b": ",
+        Look::Bold => b":\x1b[0m ",
     }
 }
 
 fn write_parts<N: Write>(parts: &[Part<'_>], notes: &mut N) -> Result<(), Refusal>
+    ensures grows { Grows (N.contents notes.old) (N.contents notes.new) }
     ensures refusals { IfErr result (λ refusal. refusal ≡ WriteFault) }
 {
     for part in parts {
@@ -81,15 +111,48 @@ fn write_parts<N: Write>(parts: &[Part<'_>], notes: &mut N) -> Result<(), Refusa
 }
 
 fn write_part<N: Write>(part: &Part<'_>, notes: &mut N) -> Result<(), Refusal>
+    ensures grows { Grows (N.contents notes.old) (N.contents notes.new) }
     ensures refusals { IfErr result (λ refusal. refusal ≡ WriteFault) }
 {
     match part {
-        Part::Text(text) => write!(notes, "{text}"),
-        Part::Number(number) => write!(notes, "{number}"),
-        Part::Bytes(bytes) => {
-            let bytes = bytes.escape_ascii();
-            write!(notes, "{bytes}")
-        }
+        Part::Text(text) => write_bytes(text.as_bytes(), notes),
+        Part::Number(number) => write_number(*number, notes),
+        Part::Bytes(bytes) => write_escaped(bytes, notes),
     }
-    .map_err(|_| Refusal::Write)
+}
+
+fn write_number<N: Write>(number: u64, notes: &mut N) -> Result<(), Refusal>
+    ensures grows { Grows (N.contents notes.old) (N.contents notes.new) }
+    ensures refusals { IfErr result (λ refusal. refusal ≡ WriteFault) }
+{
+    let mut digits = Buffer::new();
+    write_bytes(digits.format(number).as_bytes(), notes)
+}
+
+fn write_escaped<N: Write>(bytes: &[u8], notes: &mut N) -> Result<(), Refusal>
+    ensures grows { Grows (N.contents notes.old) (N.contents notes.new) }
+    ensures refusals { IfErr result (λ refusal. refusal ≡ WriteFault) }
+{
+    for byte in bytes {
+        write_byte(*byte, notes)?;
+    }
+    Ok(())
+}
+
+fn write_byte<N: Write>(byte: u8, notes: &mut N) -> Result<(), Refusal>
+    ensures grows { Grows (N.contents notes.old) (N.contents notes.new) }
+    ensures refusals { IfErr result (λ refusal. refusal ≡ WriteFault) }
+{
+    for escaped in escape_default(byte) {
+        write_bytes(&[escaped], notes)?;
+    }
+    Ok(())
+}
+
+/// Fails after a prefix of the bytes was written.
+fn write_bytes<N: Write>(bytes: &[u8], notes: &mut N) -> Result<(), Refusal>
+    ensures grows { Grows (N.contents notes.old) (N.contents notes.new) }
+    ensures refusals { IfErr result (λ refusal. refusal ≡ WriteFault) }
+{
+    write_whole(notes, bytes)
 }

@@ -1,6 +1,8 @@
 //! Runs a script from a reader, and writes an explanation after the answer of each refused line. `fencectl explain` and
 //! the prompt call it.
+ghost use Rattle.script_core.specs.Notes.{NotesFollow};
 ghost use Rattle.script_core.specs.Run.{RunsScript};
+ghost use Rattle.reason_core.specs.Notes.{NotedIn};
 
 use crate::explainer::Explainer;
 use crate::look::Look;
@@ -28,6 +30,10 @@ pub fn explain<R: Read, W: Write, N: Write>(
 ) -> Result<Totals, Refusal>
     ensures run { RunsScript result (R.remaining reader.old) (R.remaining reader.new)
         (W.contents writer.old) (W.contents writer.new) }
+
+    // Whatever the result, each note follows the answers of all lines up to its own.
+    ensures follows { NotesFollow (NotedIn N.contents) (R.remaining reader.old)
+        (W.contents writer.old) (W.contents writer.new) notes.old notes.new }
 {
     let mut explainer = Explainer::new(alloc, look);
     answer_script(alloc, &mut explainer, reader, writer, notes)

@@ -1,6 +1,8 @@
-//! Explains a command that the desk refused, by the desk and the book. No contract says what is written: tests compare it.
+//! Explains a command that the desk refused, by the desk and the book. A note begins with the line's number;
+//! what follows it, no contract says: tests compare it.
 ghost use Rattle.std.specs.Prelude.{◌≡◌, IfErr};
 ghost use Rattle.point_core.specs.declared.refusal.Refusal.TheVariants.{Write as WriteFault};
+ghost use Rattle.reason_core.specs.Notes.{Notes};
 
 use crate::book::Book;
 use crate::look::{Part, Place, note};
@@ -44,6 +46,7 @@ pub fn explain_command<N: Write>(
     refusal: Refusal,
     notes: &mut N,
 ) -> Result<(), Refusal>
+    ensures noted { Notes result place.now.line (N.contents notes.old) (N.contents notes.new) }
     ensures refusals { IfErr result (λ refusal. refusal ≡ WriteFault) }
 {
     match refusal {
@@ -115,6 +118,7 @@ fn overflow(desk: &Desk, command: &Command) -> Reason {
 }
 
 fn explain_reason<N: Write>(place: &Place, reason: &Reason, notes: &mut N) -> Result<(), Refusal>
+    ensures noted { Notes result place.now.line (N.contents notes.old) (N.contents notes.new) }
     ensures refusals { IfErr result (λ refusal. refusal ≡ WriteFault) }
 {
     match reason {
@@ -213,6 +217,7 @@ fn explain_pending<N: Write>(
     command: &Command,
     notes: &mut N,
 ) -> Result<(), Refusal>
+    ensures noted { Notes result place.now.line (N.contents notes.old) (N.contents notes.new) }
     ensures refusals { IfErr result (λ refusal. refusal ≡ WriteFault) }
 {
     let Command::Wait(file) = command else {
@@ -231,6 +236,7 @@ fn explain_points<N: Write>(
     points: &[Point],
     notes: &mut N,
 ) -> Result<(), Refusal>
+    ensures noted { Notes result place.now.line (N.contents notes.old) (N.contents notes.new) }
     ensures refusals { IfErr result (λ refusal. refusal ≡ WriteFault) }
 {
     for point in points {
@@ -247,6 +253,7 @@ fn explain_point<N: Write>(
     point: &Point,
     notes: &mut N,
 ) -> Result<(), Refusal>
+    ensures noted { Notes result place.now.line (N.contents notes.old) (N.contents notes.new) }
     ensures refusals { IfErr result (λ refusal. refusal ≡ WriteFault) }
 {
     let Some(timeline) = desk.timeline_name(point.ctx) else {
@@ -267,6 +274,7 @@ fn explain_wait<'a, N: Write>(
     value: u64,
     notes: &mut N,
 ) -> Result<(), Refusal>
+    ensures noted { Notes result place.now.line (N.contents notes.old) (N.contents notes.new) }
     ensures refusals { IfErr result (λ refusal. refusal ≡ WriteFault) }
 {
     let parts = [

@@ -1,6 +1,8 @@
-//! Explains a line that is no command: finds the word at fault. No contract says what is written: tests compare it.
+//! Explains a line that is no command: finds the word at fault. A note begins with the line's number;
+//! what follows it, no contract says: tests compare it.
 ghost use Rattle.std.specs.Prelude.{◌≡◌, ◌⊎◌, IfErr};
 ghost use Rattle.point_core.specs.declared.refusal.Refusal.TheVariants.{Write as WriteFault, Memory};
+ghost use Rattle.reason_core.specs.Notes.{Notes};
 
 use crate::look::{Part, Place, note, note_word};
 use crate::operands::{absence, mismatch};
@@ -23,6 +25,7 @@ pub fn explain_bad_line<N: Write>(
     fault: Refusal,
     notes: &mut N,
 ) -> Result<(), Refusal>
+    ensures noted { Notes result place.now.line (N.contents notes.old) (N.contents notes.new) }
     ensures refusals { IfErr result (λ refusal. (refusal ≡ WriteFault) ⊎ (refusal ≡ Memory)) }
 {
     match fault {
@@ -33,6 +36,7 @@ pub fn explain_bad_line<N: Write>(
 }
 
 fn explain_long_line<N: Write>(place: &Place, length: usize, notes: &mut N) -> Result<(), Refusal>
+    ensures noted { Notes result place.now.line (N.contents notes.old) (N.contents notes.new) }
     ensures refusals { IfErr result (λ refusal. refusal ≡ WriteFault) }
 {
     let parts = [
@@ -45,6 +49,7 @@ fn explain_long_line<N: Write>(place: &Place, length: usize, notes: &mut N) -> R
 }
 
 fn explain_long_script<N: Write>(place: &Place, notes: &mut N) -> Result<(), Refusal>
+    ensures noted { Notes result place.now.line (N.contents notes.old) (N.contents notes.new) }
     ensures refusals { IfErr result (λ refusal. refusal ≡ WriteFault) }
 {
     let parts = [
@@ -63,12 +68,11 @@ fn explain_syntax<N: Write>(
     line: &[u8],
     notes: &mut N,
 ) -> Result<(), Refusal>
+    ensures noted { Notes result place.now.line (N.contents notes.old) (N.contents notes.new) }
     ensures refusals { IfErr result (λ refusal. (refusal ≡ WriteFault) ⊎ (refusal ≡ Memory)) }
 {
-    for word in line.split(|byte| *byte == b' ') {
-        if let Some(reason) = strange_byte(word) {
-            return explain_word(place, word, reason, notes);
-        }
+    if let Some((word, reason)) = strange_word(line) {
+        return explain_word(place, word, reason, notes);
     }
     let (word, rest) = first_word(line);
     match command_form(word) {
@@ -84,9 +88,20 @@ fn explain_word<N: Write>(
     reason: &str,
     notes: &mut N,
 ) -> Result<(), Refusal>
+    ensures noted { Notes result place.now.line (N.contents notes.old) (N.contents notes.new) }
     ensures refusals { IfErr result (λ refusal. refusal ≡ WriteFault) }
 {
     note_word(place, word, &[Part::Text(": "), Part::Text(reason)], notes)
+}
+
+/// The first word with a byte that no word may have, and the sentence on it.
+fn strange_word(line: &[u8]) -> Option<(&[u8], &'static str)> {
+    for word in line.split(|byte| *byte == b' ') {
+        if let Some(reason) = strange_byte(word) {
+            return Some((word, reason));
+        }
+    }
+    None
 }
 
 /// The sentence for a word with a byte that no word may have.
@@ -124,6 +139,7 @@ fn explain_no_command<N: Write>(
     word: &[u8],
     notes: &mut N,
 ) -> Result<(), Refusal>
+    ensures noted { Notes result place.now.line (N.contents notes.old) (N.contents notes.new) }
     ensures refusals { IfErr result (λ refusal. (refusal ≡ WriteFault) ⊎ (refusal ≡ Memory)) }
 {
     match nearest(alloc, word)? {
@@ -138,6 +154,7 @@ fn suggest<N: Write>(
     command: &str,
     notes: &mut N,
 ) -> Result<(), Refusal>
+    ensures noted { Notes result place.now.line (N.contents notes.old) (N.contents notes.new) }
     ensures refusals { IfErr result (λ refusal. refusal ≡ WriteFault) }
 {
     let parts = [
@@ -174,18 +191,29 @@ fn explain_words<N: Write>(
     rest: &[u8],
     notes: &mut N,
 ) -> Result<(), Refusal>
+    ensures noted { Notes result place.now.line (N.contents notes.old) (N.contents notes.new) }
     ensures refusals { IfErr result (λ refusal. refusal ≡ WriteFault) }
 {
+    let (word, reason) = wrong_word(command, operands, rest);
+    explain_word(place, word, reason, notes)
+}
+
+/// The first word that does not match its operand, or the command if a word is missing, and the sentence on it.
+fn wrong_word<'a>(
+    command: &'a [u8],
+    operands: &[Operand],
+    rest: &'a [u8],
+) -> (&'a [u8], &'static str) {
     let mut operands = operands.iter();
     for word in rest.split(|byte| *byte == b' ') {
         if word.is_empty() {
             continue;
         }
         if let Some(reason) = wrong_for(word, operands.next()) {
-            return explain_word(place, word, reason, notes);
+            return (word, reason);
         }
     }
-    explain_word(place, command, missing(operands.next()), notes)
+    (command, missing(operands.next()))
 }
 
 /// The sentence for the operand that is missing at the end of a line.

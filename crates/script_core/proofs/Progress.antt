@@ -13,7 +13,7 @@ use Rattle.line_core.specs.declared.line.Line.{Line}
 use Rattle.script_core.specs.declared.totals.Totals.{Totals}
 use Rattle.report_core.specs.Bytes.{AppendsFront}
 use Rattle.report_core.specs.Answer.{text_of}
-use Rattle.script_core.specs.Output.{history_after_line, IsLineAnswer, AreLineAnswers, texts_of, WritesPrefix, Counts}
+use Rattle.script_core.specs.Output.{history_after_line, IsLineAnswer, AreLineAnswers, texts_of, Grows, WritesPrefix, Counts}
 use Rattle.script_core.specs.Answering.{history_along, Progress, AnswersLines}
 
 pub AreLineAnswers-push : (history : List Command) (ls : List Line) (given : List Answer) (l : Line) (a : Answer) → AreLineAnswers history ls given → IsLineAnswer (history_along history ls given) l.body a → AreLineAnswers history (ls ++ l ∷ []) (given ++ a ∷ [])
@@ -157,3 +157,16 @@ AppendsFront-all old new bytes appended = record { front = bytes; rest = []; who
 
 pub WritesPrefix-none : (lines : List Line) (contents : Option (List ℕ)) → WritesPrefix lines contents contents
 WritesPrefix-none lines contents = record { first = []; rest = lines; given = []; whole = refl; each = tt; written = AppendsFront-none contents [] }
+
+-- bytes were written, and none was taken back
+pub Grows-none : (contents : Option (List ℕ)) → Grows contents contents
+Grows-none contents = ([], Appends-nil contents)
+
+pub Grows-front : (old new : Option (List ℕ)) (bytes : List ℕ) → AppendsFront old new bytes → Grows old new
+Grows-front old new bytes f = (f.front, f.appended)
+
+pub Grows-trans : (old middle new : Option (List ℕ)) → Grows old middle → Grows middle new → Grows old new
+Grows-trans old middle new g h = (g.0 ++ h.0, Appends-trans old middle new g.0 h.0 g.1 h.1)
+
+pub Grows-kept : (old middle new : Option (List ℕ)) → Grows old middle → Keeps middle new → Grows old new
+Grows-kept old middle new g kept = (g.0, Appends-kept old middle new g.0 g.1 kept)

@@ -14,7 +14,7 @@ use Rattle.script_core.specs.declared.totals.Totals.{Totals}
 use Rattle.line_core.specs.Reading.{WasRead}
 use Rattle.report_core.specs.Bytes.{PassesOn}
 use Rattle.report_core.specs.Answer.{text_of}
-use Rattle.script_core.specs.Output.{history_after_line, IsLineAnswer, AreLineAnswers, refusal_of, texts_of, WritesAnswers, WritesPrefix, Counts}
+use Rattle.script_core.specs.Output.{history_after_line, IsLineAnswer, AreLineAnswers, refusal_of, texts_of, Grows, WritesAnswers, WritesPrefix, Counts}
 use Rattle.line_core.specs.Script.{lines_until}
 
 -- the history after lines with these answers
@@ -76,6 +76,7 @@ pub record IsAnswered (number : ℕ) (body : Body) (given : Result (Option Refus
   pub refused : IfOk given (λ refused. AnswersLine (record { number = number; body = body }) refused before after old new)
   pub err : OnErr given ((done : List Line) → (start : Option (List ℕ)) → HasAnswered done before start old
       → WritesPrefix (done ++ record { number = number; body = body } ∷ []) start new)
+  pub grows : Grows old new
   pub lines : after.totals.lines ≤ before.totals.lines + 1
   pub refusals : IfErr given (λ refusal. (refusal ≡ WriteFault) ⊎ (refusal ≡ Memory))
 

@@ -1,3 +1,4 @@
 pub mod Answering
+pub mod Notes
 pub mod Output
 pub mod Run

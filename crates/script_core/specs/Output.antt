@@ -71,6 +71,10 @@ texts_of (l ∷ ls) (a ∷ rest) = text_of l.number a ++ texts_of ls rest
 abbrev pub NoneIsMemory : List Answer → Type 0
 NoneIsMemory given = AllByRecursion (λ a. a ≢ answer.Refused Memory) given
 
+-- bytes were written, and none was taken back
+abbrev pub Grows : Option (List ℕ) → Option (List ℕ) → Type 0
+Grows old new = (bytes : List ℕ) × Appends old new bytes
+
 -- the answers of the lines were written, and nothing else
 pub record WritesAnswers (lines : List Line) (given : List Answer) (old new : Option (List ℕ)) : Type 0 where
   pub each : AreLineAnswers [] lines given

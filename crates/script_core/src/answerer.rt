@@ -15,7 +15,11 @@ pub trait Answerer<N> {
     ghost use Rattle.line_core.specs.Script.{answered, last_body};
     ghost use Rattle.line_core.specs.declared.line.Line.{Line};
     ghost use Rattle.script_core.specs.Answering.{HasAnswered};
-    ghost use Rattle.script_core.specs.Output.{WritesPrefix};
+    ghost use Rattle.script_core.specs.Notes.{NotesLine};
+    ghost use Rattle.script_core.specs.Output.{Grows, WritesPrefix};
+
+    /// What a note on a line may be: relates the line's number, and the notes before and after it.
+    ghost noted: { ℕ → N → N → Type 0 };
 
     /// Answers a line that ended with a line feed, if it has an answer. Output is written once enough is pending.
     ///
@@ -37,6 +41,11 @@ pub trait Answerer<N> {
             HasAnswered done answers.old start (W.contents writer.old) →
             WritesPrefix (done ++ answered line.now.number (body_of line.now.bytes.now) [])
             start (W.contents writer.new)) }
+        ensures grows { Grows (W.contents writer.old) (W.contents writer.new) }
+
+        // Whatever the result, a note on the line follows all answers up to it.
+        ensures follows { NotesLine noted line.now.number (body_of line.now.bytes.now) answers.old
+            (W.contents writer.old) (W.contents writer.new) notes.old notes.new }
         ensures lines { answers.new.totals.lines ≤ answers.old.totals.lines + 1 }
         ensures refusals { IfErr result (λ refusal. (refusal ≡ WriteFault) ⊎ (refusal ≡ Memory)) };
 
@@ -60,6 +69,11 @@ pub trait Answerer<N> {
             HasAnswered done answers.old start (W.contents writer.old) →
             WritesPrefix (done ++ answered line.now.number (last_body ending line.now.bytes.now) [])
             start (W.contents writer.new)) }
+        ensures grows { Grows (W.contents writer.old) (W.contents writer.new) }
+
+        // Whatever the result, a note on the line follows all answers up to it.
+        ensures follows { NotesLine noted line.now.number (last_body ending line.now.bytes.now) answers.old
+            (W.contents writer.old) (W.contents writer.new) notes.old notes.new }
         ensures lines { answers.new.totals.lines ≤ answers.old.totals.lines + 1 }
         ensures refusals { IfErr result (λ refusal. (refusal ≡ WriteFault) ⊎ (refusal ≡ Memory)) };
 }
@@ -69,6 +83,8 @@ pub trait Answerer<N> {
 pub struct NoNotes;
 
 impl Answerer<()> for NoNotes {
+    ghost noted = { λ number before after. ⊥ };
+
     // Inlined into its only caller, so that neither a command nor its answer is ever stored as a whole.
     #[inline(always)]
     fn answer<W: Write>(

@@ -7,7 +7,7 @@ ghost use Rattle.command_core.specs.declared.command.Command.{Command};
 ghost use Rattle.desk_core.specs.theorem.Desk.{HasHistory};
 ghost use Rattle.line_core.specs.declared.line.Line.{Line as LineModel};
 ghost use Rattle.line_core.specs.Script.{answered};
-ghost use Rattle.script_core.specs.Output.{IsLineAnswer, history_after_line, refusal_of, WritesPrefix};
+ghost use Rattle.script_core.specs.Output.{Grows, IsLineAnswer, history_after_line, refusal_of, WritesPrefix};
 
 use crate::totals::Totals;
 use command_core::Answer;
@@ -83,6 +83,7 @@ impl Answers {
         ensures err { OnErr result ((done : List LineModel) → (start : Option (List ℕ)) →
             HasAnswered done self.old start (W.contents writer.old)
             → WritesPrefix (done ++ answered number body []) start (W.contents writer.new)) }
+        ensures grows { Grows (W.contents writer.old) (W.contents writer.new) }
         ensures lines { self.new.totals.lines ≤ self.old.totals.lines + 1 }
         ensures refusals { IfErr result (λ refusal. (refusal ≡ WriteFault) ⊎ (refusal ≡ Memory)) }
     {
@@ -112,6 +113,7 @@ impl Answers {
         ensures err { OnErr result ((done : List LineModel) → (start : Option (List ℕ)) →
             HasAnswered done self.old start (W.contents writer.old)
             → WritesPrefix (done ++ record { number = number; body = body } ∷ []) start (W.contents writer.new)) }
+        ensures grows { Grows (W.contents writer.old) (W.contents writer.new) }
         ensures lines { self.new.totals.lines ≤ self.old.totals.lines + 1 }
         ensures refusals { IfErr result (λ refusal. (refusal ≡ WriteFault) ⊎ (refusal ≡ Memory)) }
     {
@@ -133,6 +135,7 @@ impl Answers {
         ensures err { OnErr result ((done : List LineModel) → (start : Option (List ℕ)) →
             HasAnswered done self.old start (W.contents writer.old)
             → WritesPrefix done start (W.contents writer.new)) }
+        ensures grows { Grows (W.contents writer.old) (W.contents writer.new) }
         ensures lines { self.new.totals ≡ self.old.totals }
         ensures refusals { IfErr result (λ refusal. refusal ≡ WriteFault) }
     {
@@ -151,6 +154,7 @@ impl Answers {
         ensures err { OnErr result ((done : List LineModel) → (start : Option (List ℕ)) →
             HasAnswered done self.old start (W.contents writer.old)
             → WritesPrefix done start (W.contents writer.new)) }
+        ensures grows { Grows (W.contents writer.old) (W.contents writer.new) }
         ensures refusals { IfErr result (λ refusal. refusal ≡ WriteFault) }
     {
         self.write(writer)?;

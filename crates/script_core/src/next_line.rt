@@ -5,7 +5,7 @@ ghost use Rattle.line_core.specs.declared.line.Line.{Line};
 ghost use Rattle.line_core.specs.Line.{body_of};
 ghost use Rattle.line_core.specs.Script.{answered};
 ghost use Rattle.script_core.specs.Answering.{HasAnswered, AnswersLine, IsAnsweredIf};
-ghost use Rattle.script_core.specs.Output.{WritesPrefix};
+ghost use Rattle.script_core.specs.Output.{Grows, WritesPrefix};
 
 use crate::answers::Answers;
 use line_core::{Body, RawLine, Takes, take_raw_line};
@@ -33,6 +33,7 @@ pub(crate) fn answer_raw<W: Write>(
         HasAnswered done answers.old start (W.contents writer.old)
         → WritesPrefix (done ++ answered line.now.number (body_of line.now.bytes.now) [])
         start (W.contents writer.new)) }
+    ensures grows { Grows (W.contents writer.old) (W.contents writer.new) }
     ensures lines { answers.new.totals.lines ≤ answers.old.totals.lines + 1 }
     ensures refusals { IfErr result (λ refusal. (refusal ≡ WriteFault) ⊎ (refusal ≡ Memory)) }
 {

@@ -4,6 +4,7 @@ ghost use Rattle.std.specs.Prelude.{◌≡◌, ◌+◌, ◌⊎◌, [], IfOk, OnE
 ghost use Rattle.point_core.specs.declared.refusal.Refusal.TheVariants.{Write as WriteFault, Memory};
 ghost use Rattle.line_core.specs.Reading.{ConsumesAtMost};
 ghost use Rattle.script_core.specs.Answering.{HasAnswered, HasAnsweredBytes};
+ghost use Rattle.script_core.specs.Notes.{NotesFollow};
 ghost use Rattle.script_core.specs.Output.{WritesInputPrefix};
 ghost use Rattle.script_core.specs.Run.{RunsScript};
 
@@ -48,6 +49,10 @@ pub fn answer_script<R: Read, W: Write, N, A: Answerer<N>>(
 ) -> Result<Totals, Refusal>
     ensures run { RunsScript result (R.remaining reader.old) (R.remaining reader.new)
         (W.contents writer.old) (W.contents writer.new) }
+
+    // Whatever the result, each note follows the answers of all lines up to its own.
+    ensures follows { NotesFollow A.noted (R.remaining reader.old) (W.contents writer.old) (W.contents writer.new)
+        notes.old notes.new }
 {
     let mut answers = Answers::new(alloc)?;
     with_answers(answerer, &mut answers, reader, writer, notes)
@@ -63,6 +68,8 @@ fn with_answers<R: Read, W: Write, N, A: Answerer<N>>(
     requires fresh { HasAnswered [] answers.old (W.contents writer.old) (W.contents writer.old) }
     ensures run { RunsScript result (R.remaining reader.old) (R.remaining reader.new)
         (W.contents writer.old) (W.contents writer.new) }
+    ensures follows { NotesFollow A.noted (R.remaining reader.old) (W.contents writer.old) (W.contents writer.new)
+        notes.old notes.new }
 {
     let ending = answer_lines(answerer, answers, reader, writer, notes)?;
     let totals = answers.finish(writer)?;
@@ -87,6 +94,8 @@ fn answer_lines<R: Read, W: Write, N, A: Answerer<N>>(
     ensures within { ConsumesAtMost (SCRIPT_BYTES + 1) (R.remaining reader.old) (R.remaining reader.new) }
     ensures err { OnErr result (WritesInputPrefix (R.remaining reader.old)
         (W.contents writer.old) (W.contents writer.new)) }
+    ensures follows { NotesFollow A.noted (R.remaining reader.old) (W.contents writer.old) (W.contents writer.new)
+        notes.old notes.new }
     ensures refusals { IfErr result (λ refusal. (refusal ≡ WriteFault) ⊎ (refusal ≡ Memory)) }
 {
     let mut lines = ScriptLines::new();

@@ -2,7 +2,7 @@ use Rattle.std.proofs.Common.{[], ◌∷◌, ◌++◌, refl, sym, subst}
 use Rattle.std.proofs.lemmas.Result.{err_from_is_err_and}
 use Rattle.line_core.specs.declared.line.Line.{Line}
 use Rattle.script_core.specs.Answering.{HasAnswered}
-use Rattle.script_core.proofs.Progress.{Progress-line, Progress-write, Progress-unwritten}
+use Rattle.script_core.proofs.Progress.{Grows-front, Progress-line, Progress-write, Progress-unwritten}
 use Rattle.script_core.proofs.answers.Answers.answer_body.Goals as goal
 
 pub returns-in_err-pass_answer-clause-err : goal.returns-in_err-pass_answer-clause-err
@@ -20,3 +20,11 @@ returns-clause-ok g c done start p =
     let passed = c.in_ok-pass_answer.ensures.ok in
     let after = Progress-line done _ _ _ _ _ c.with-self-inside.result start _ line _ before c.answer_line-answer.ensures.answer c.answer_line-answer.ensures.stands refl c.with-self-inside.ensures.lines c.with-self-inside.ensures.refused in
     Progress-write (done ++ line ∷ []) _ _ _ _ start _ _ after (passed.written, passed.whole, passed.appended)
+
+pub returns-in_err-pass_answer-clause-grows : goal.returns-in_err-pass_answer-clause-grows
+returns-in_err-pass_answer-clause-grows g c = Grows-front _ _ _ c.in_err-pass_answer.ensures.err
+
+pub returns-clause-grows : goal.returns-clause-grows
+returns-clause-grows g c =
+    let passed = c.in_ok-pass_answer.ensures.ok in
+    (passed.written, passed.appended)
