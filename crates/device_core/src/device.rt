@@ -33,7 +33,7 @@ use std::marker::Model;
 
 /// The sizes of a device's tables: their entries, and the points for which files wait. Tests and laws say by them that
 /// memory follows what is alive.
-#[derive(Clone, Copy, Debug)]
+#[derive(Clone, Copy)]
 pub struct TableSizes {
     pub timelines: usize,
     pub files: usize,

@@ -14,7 +14,7 @@ use point_core::Status;
 use std::alloc::Global;
 
 /// The driver of a fence.
-#[derive(Clone, Copy, Debug, PartialEq, Eq, Hash)]
+#[derive(Clone, Copy, Debug, PartialEq, Eq)]
 pub enum FenceDriver {
     SwSync,
     Stub,
@@ -34,7 +34,7 @@ impl FenceDriver {
 
 /// Information on a fence, as Linux's `struct sync_fence_info`: the name of its timeline, its driver and its status,
 /// and the time in nanoseconds at which it signalled, or 0.
-#[derive(Clone, Copy, Debug, PartialEq, Eq)]
+#[derive(Clone, Copy, Debug)]
 pub struct FenceInfo {
     pub timeline: Text,
     pub driver: FenceDriver,

@@ -4,7 +4,7 @@ use crate::text::Text;
 use point_core::{Status, Usage};
 
 /// A request, with its time in nanoseconds if the kernel would read its clock.
-#[derive(Clone, Copy, Debug, PartialEq, Eq)]
+#[derive(Clone, Copy)]
 pub enum Request {
     /// Opening `sync/sw_sync`; the name is the task's.
     Open(Text),

@@ -8,7 +8,7 @@ pub const TEXT_BYTES: usize = 32;
 const _: () = prove!(TEXT_BYTES == 32);
 
 /// A text of the kernel: its bytes up to the first that is 0.
-#[derive(Clone, Copy, Debug, PartialEq, Eq)]
+#[derive(Clone, Copy, Debug)]
 pub struct Text {
     pub bytes: [u8; 32],
 }
