@@ -1,5 +1,5 @@
-//! The report as one JSON document. Its members are tested (`tests/traces`); that it is JSON is proved. `report` calls
-//! `document_of`.
+//! The report as one JSON document. That its bytes are tokens and a line feed is proved, and what it says is tested
+//! (`tests/traces`). `report` calls `document_of`.
 ghost use Rattle.std.specs.Prelude.{IfOk};
 ghost use Rattle.trace_report.specs.Document.{IsDocument};
 
