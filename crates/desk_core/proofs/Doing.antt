@@ -14,8 +14,8 @@ use Rattle.command_core.specs.declared.answer.Answer.TheVariants as answer
 use Rattle.command_core.specs.declared.answer.Info.{Info}
 use Rattle.command_core.specs.declared.answer.FenceRow.{FenceRow}
 use Rattle.timeline_core.specs.Timeline.{Timeline, new_timeline, context_of, clocks_of, reach_of, value_of, raised, shut}
-use Rattle.syncfile_core.specs.SyncFile.{File, plain_file, file_of}
-use Rattle.syncfile_core.specs.Files.{file_at as sync_file_at, without_file}
+use Rattle.syncfile_core.specs.SyncFile.{File, plain_file, file_of, file_at as sync_file_at}
+use Rattle.syncfile_core.specs.Files.{without_file}
 use Rattle.syncfile_core.specs.Merge.{merge_of}
 use Rattle.desk_core.specs.theorem.World.{World, MadeFile, file_named, put_set, buffer_put_set}
 use Rattle.desk_core.specs.theorem.Answer.{listed_points, fence_row, or_stub, info_reported, number_if}

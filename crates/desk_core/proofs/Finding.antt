@@ -3,8 +3,8 @@ use Rattle.std.proofs.Common.{◌≡◌, ℕ, Bool, true, false, cond, ◌||◌,
 use Rattle.std.specs.Prelude.{is_some, option_copied, Ok, Err}
 use Rattle.std.specs.Option.{ok_or}
 use Rattle.point_core.specs.declared.refusal.Refusal.{Refusal}
-use Rattle.syncfile_core.specs.SyncFile.{File}
-use Rattle.syncfile_core.specs.Files.{is_named, has_file as has_sync_file, file_at as sync_file_at}
+use Rattle.syncfile_core.specs.SyncFile.{File, file_at as sync_file_at}
+use Rattle.syncfile_core.specs.Files.{is_named, has_file as has_sync_file}
 use denote.Bor.{Bor}
 
 is_some-found : {X : Type 0} (b : Bool) (x : X) (o : Option X) → (b || is_some o) ≡ is_some (cond b (Some x) o)

@@ -11,8 +11,8 @@ use Rattle.point_core.specs.Reach.{value_at}
 use Rattle.point_core.proofs.Agreement.{AgreesAbove-refl, AgreesAbove-append, AgreesAbove-same, listing-AgreesAbove, pending_top-listing, top-as_entries, as_entries-append}
 use Rattle.point_core.proofs.Named.{has_named-same_names, length-same_names, map-without_named, option_map-named, named-All}
 use Rattle.timeline_core.specs.Timeline.{Timeline, reach_of}
-use Rattle.syncfile_core.specs.SyncFile.{File}
-use Rattle.syncfile_core.specs.Files.{has_file as has_sync_file, without_file, file_at as sync_file_at}
+use Rattle.syncfile_core.specs.SyncFile.{File, file_at as sync_file_at}
+use Rattle.syncfile_core.specs.Files.{has_file as has_sync_file, without_file}
 use Rattle.syncfile_core.specs.Merge.{files_at, points_of}
 use Rattle.desk_core.specs.theorem.World.{World, MadeFile, files_without, has_file, file_named, put_set}
 use Rattle.desk_core.specs.theorem.Answer.{listed_points}

@@ -25,8 +25,8 @@ use Rattle.std.proofs.lemmas.Option.{same_Some}
 use Rattle.point_core.specs.declared.refusal.Refusal.{Refusal}
 use Rattle.point_core.specs.declared.refusal.Refusal.TheVariants.{Memory, NoEntry}
 use Rattle.point_core.specs.Refusal.{IsRefusedFor}
-use Rattle.syncfile_core.specs.SyncFile.{File, file_of}
-use Rattle.syncfile_core.specs.Files.{HasDistinctNames, file_at, names_of as file_names_of}
+use Rattle.syncfile_core.specs.SyncFile.{File, file_of, file_at}
+use Rattle.syncfile_core.specs.Files.{HasDistinctNames, names_of as file_names_of}
 use Rattle.dmabuf_core.specs.Buffers.{Buffer, has_buffer, names_of}
 
 apart-at : {X : Type 0} (name_of : X → List ℕ) (a : List ℕ) (xs : List X) (i : ℕ) (d : X) → AllByRecursion (λ y. same_name a y ≡ false) (map name_of xs) → i < length xs → same_name a (name_of (get_or xs i d)) ≡ false

@@ -13,8 +13,7 @@ use Rattle.command_core.specs.declared.command.Command.{Command}
 use Rattle.command_core.specs.declared.command.Command.TheVariants as command
 use Rattle.command_core.specs.declared.answer.Info.{Info}
 use Rattle.timeline_core.specs.Timeline.{clocks_of, reach_of}
-use Rattle.syncfile_core.specs.SyncFile.{File}
-use Rattle.syncfile_core.specs.Files.{file_at as sync_file_at}
+use Rattle.syncfile_core.specs.SyncFile.{File, file_at as sync_file_at}
 use Rattle.desk_core.specs.theorem.World.{World, MadeFile, has_file, file_named, put_set, has_made_buffer}
 use Rattle.desk_core.specs.theorem.Answer.{refused_or, listed_points, info_of, info_reported, number_if}
 use Rattle.desk_core.specs.theorem.Desk.{DeskState, HasHistory, Answers}

@@ -11,10 +11,10 @@ use Rattle.point_core.specs.Clocks.{some_cancelled, common_status}
 use Rattle.point_core.proofs.Ticking.{is_signalled-of}
 use Rattle.point_core.specs.Agreement.{as_entries, all_reached}
 use Rattle.timeline_core.specs.Timeline.{clocks_of, reach_of}
-use Rattle.syncfile_core.specs.SyncFile.{File}
+use Rattle.syncfile_core.specs.SyncFile.{File, file_at as sync_file_at}
 use Rattle.point_core.specs.Reach.{is_reached}
 use Rattle.point_core.specs.Refusal.{IsRefusedFor}
-use Rattle.syncfile_core.specs.Files.{is_named, has_file as has_sync_file, file_at as sync_file_at, without_file}
+use Rattle.syncfile_core.specs.Files.{is_named, has_file as has_sync_file, without_file}
 use Rattle.command_core.specs.declared.command.Command.TheVariants as command
 use Rattle.desk_core.specs.theorem.Desk.{DeskState}
 use Rattle.desk_core.specs.Keeping.{cause_of}

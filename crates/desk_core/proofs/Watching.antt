@@ -16,8 +16,7 @@ use Rattle.point_core.specs.Reach.{IsAtLeast}
 use Rattle.point_core.proofs.Ticking.{is_signalled-of}
 use Rattle.point_core.proofs.Reached.{all_reached-points}
 use Rattle.timeline_core.specs.Timeline.{clocks_of, reach_of, raised, shut}
-use Rattle.syncfile_core.specs.SyncFile.{File}
-use Rattle.syncfile_core.specs.Files.{file_at as sync_file_at}
+use Rattle.syncfile_core.specs.SyncFile.{File, file_at as sync_file_at}
 use Rattle.fence_core.specs.declared.watches.TheConstants.{WATCHES, WATCHES_EVER}
 use Rattle.fence_core.specs.Fence.{are_reached}
 use Rattle.fence_core.specs.Watch.{IsWatchOf}

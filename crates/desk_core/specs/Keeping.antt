@@ -14,8 +14,8 @@ use Rattle.point_core.specs.Clocks.{common_status}
 use Rattle.std.specs.List.{list_any}
 use Rattle.std.specs.Option.{option_map_or}
 use Rattle.timeline_core.specs.Timeline.{Timeline, has_timeline, clocks_of, reach_of, is_closed, cause_if_not_open, cause_to_refuse_inc, rows_of as timeline_rows}
-use Rattle.syncfile_core.specs.SyncFile.{File}
-use Rattle.syncfile_core.specs.Files.{has_file as has_sync_file, file_at as sync_file_at, cause_to_refuse}
+use Rattle.syncfile_core.specs.SyncFile.{File, file_at as sync_file_at}
+use Rattle.syncfile_core.specs.Files.{has_file as has_sync_file, cause_to_refuse}
 use Rattle.syncfile_core.specs.Merge.{cause_to_refuse_merge}
 use Rattle.dmabuf_core.specs.Flags.{is_sync_flags}
 use Rattle.dmabuf_core.specs.Buffers.{Buffer, entries_of, names_of, has_buffer, cause_to_refuse as cause_to_refuse_buffer, cause_without, cause_by_flags}

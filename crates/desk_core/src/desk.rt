@@ -42,9 +42,9 @@ impl Desk {
     ghost use Rattle.point_core.specs.Clocks.{status_at};
     ghost use Rattle.timeline_core.specs.Timeline.{has_timeline, name_at, clocks_of, reach_of, value_of, rows_of as timeline_rows};
     ghost use Rattle.resv_core.specs.Resv.{rows_of as table_rows};
-    ghost use Rattle.syncfile_core.specs.SyncFile.{File};
+    ghost use Rattle.syncfile_core.specs.SyncFile.{File, file_at};
     ghost use Rattle.point_core.specs.Refusal.{IsRefusedFor};
-    ghost use Rattle.syncfile_core.specs.Files.{file_at, names_of as file_names, HasDistinctNames};
+    ghost use Rattle.syncfile_core.specs.Files.{names_of as file_names, HasDistinctNames};
     ghost use Rattle.dmabuf_core.specs.Buffers.{has_buffer, cause_without, entries_of, names_of as buffer_names};
     ghost use Rattle.fence_core.specs.Watches.{has_watch};
     ghost use Rattle.desk_core.specs.theorem.History.{history_after};

@@ -18,8 +18,7 @@ use Rattle.point_core.proofs.Reached.{all_reached-AgreesAbove}
 use Rattle.timeline_core.specs.Timeline.{Timeline, clocks_of, reach_of, has_timeline, is_closed}
 use Rattle.command_core.specs.declared.command.Command.{Command}
 use Rattle.command_core.specs.declared.command.Command.TheVariants as command
-use Rattle.syncfile_core.specs.SyncFile.{File}
-use Rattle.syncfile_core.specs.Files.{file_at}
+use Rattle.syncfile_core.specs.SyncFile.{File, file_at}
 use Rattle.point_core.specs.declared.refusal.Refusal.TheVariants.{NoEntry, Flags, Cancelled as AlreadyClosed}
 use Rattle.dmabuf_core.specs.Flags.{is_sync_flags}
 use Rattle.desk_core.proofs.Sound.{first_of-none}

@@ -6,8 +6,7 @@ use Rattle.std.proofs.lemmas.List.Elements.{All-nil, All-push, All-weaker, All-a
 use Rattle.std.proofs.lemmas.Option.{same_Some}
 use Rattle.point_core.specs.declared.entry.Point.{Point}
 use Rattle.timeline_core.specs.Timeline.{Timeline}
-use Rattle.syncfile_core.specs.SyncFile.{File}
-use Rattle.syncfile_core.specs.Files.{file_at}
+use Rattle.syncfile_core.specs.SyncFile.{File, file_at}
 use Rattle.desk_core.specs.theorem.World.{World, MadeFile, file_named}
 use Rattle.desk_core.specs.theorem.Answer.{listed_points}
 use Rattle.desk_core.specs.theorem.Desk.{DeskState}

@@ -6,8 +6,7 @@ use Rattle.point_core.specs.declared.entry.Point.{Point}
 use Rattle.point_core.specs.declared.status.Status.{Status}
 use Rattle.point_core.specs.declared.status.Status.TheVariants.{Active}
 use Rattle.timeline_core.specs.Timeline.{clocks_of, name_at, value_of}
-use Rattle.syncfile_core.specs.SyncFile.{File}
-use Rattle.syncfile_core.specs.Files.{file_at}
+use Rattle.syncfile_core.specs.SyncFile.{File, file_at}
 use Rattle.desk_core.specs.theorem.Desk.{DeskState}
 use Rattle.picture_core.specs.Bars.{drawn_at}
 use Rattle.picture_core.specs.declared.bar.Bar.{Bar}

@@ -8,8 +8,7 @@ use Rattle.command_core.specs.declared.answer.Answer.TheVariants as answer
 use Rattle.command_core.specs.declared.answer.BufferRows.{BufferRows}
 use Rattle.command_core.specs.declared.answer.FileRow.{FileRow}
 use Rattle.command_core.specs.Tables.{Tables}
-use Rattle.syncfile_core.specs.SyncFile.{File}
-use Rattle.syncfile_core.specs.Files.{file_at}
+use Rattle.syncfile_core.specs.SyncFile.{File, file_at}
 use Rattle.timeline_core.specs.Timeline.{Timeline, clocks_of, name_at}
 use Rattle.desk_core.specs.theorem.Answer.{name_of}
 use Rattle.desk_core.specs.theorem.Desk.{DeskState}

@@ -4,8 +4,7 @@ use Rattle.command_core.specs.declared.answer.Answer.{Answer}
 use Rattle.line_core.specs.declared.line.Body.{Body}
 use Rattle.line_core.specs.declared.line.Body.TheVariants.{Cmd, Bad}
 use Rattle.line_core.specs.declared.line.Line.{Line}
-use Rattle.syncfile_core.specs.SyncFile.{File}
-use Rattle.syncfile_core.specs.Files.{file_at}
+use Rattle.syncfile_core.specs.SyncFile.{File, file_at}
 use Rattle.desk_core.specs.theorem.Answer.{is_refused}
 use Rattle.desk_core.specs.theorem.World.{World, file_named}
 use Rattle.desk_core.specs.theorem.Desk.{DeskState, HasHistory}

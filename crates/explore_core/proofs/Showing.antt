@@ -28,8 +28,8 @@ use Rattle.point_core.specs.Clocks.{clock_at, is_past_closing, reached_by, statu
 use Rattle.point_core.specs.Status.{is_signalled}
 use Rattle.point_core.proofs.Named.{is_some-named, has_named-names}
 use Rattle.timeline_core.specs.Timeline.{Timeline, clocks_of, reach_of, row_of as timeline_row, rows_of as timeline_rows}
-use Rattle.syncfile_core.specs.SyncFile.{File}
-use Rattle.syncfile_core.specs.Files.{file_at, has_file, file_name, names_of as file_names}
+use Rattle.syncfile_core.specs.SyncFile.{File, file_at, file_name}
+use Rattle.syncfile_core.specs.Files.{has_file, names_of as file_names}
 use Rattle.resv_core.specs.Resv.{Reservation, IsTable, row_of, rows_at, rows_of as table_rows}
 use Rattle.dmabuf_core.specs.Buffers.{Buffer, AreBuffers, has_buffer, table_at, entries_of, names_of as buffer_names}
 use Rattle.fence_core.specs.Watch.{Watch, IsWatchOf}

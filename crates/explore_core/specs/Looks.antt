@@ -3,8 +3,8 @@ use Rattle.std.specs.Prelude.{◌≡◌, ℕ, Bool, true, List, length, count_by
 use Rattle.std.specs.List.{AllZip}
 use Rattle.point_core.specs.Agreement.{AgreesAbove, as_entries}
 use Rattle.timeline_core.specs.Timeline.{reach_of}
-use Rattle.syncfile_core.specs.SyncFile.{File}
-use Rattle.syncfile_core.specs.Files.{is_named, file_at}
+use Rattle.syncfile_core.specs.SyncFile.{File, file_at}
+use Rattle.syncfile_core.specs.Files.{is_named}
 use Rattle.dmabuf_core.specs.Buffers.{names_of, entries_of}
 use Rattle.fence_core.specs.Watch.{Watch}
 use Rattle.desk_core.specs.theorem.Desk.{DeskState}

@@ -21,8 +21,8 @@ use Rattle.point_core.proofs.Named.{named-things_in, has_named-things_in, is_som
 use Rattle.syncfile_core.specs.declared.file_slots.NumberedFile.{NumberedFile}
 use Rattle.syncfile_core.specs.declared.file_slots.NumberedName.{NumberedName}
 use Rattle.syncfile_core.specs.Numbered.{put_in, by_number}
-use Rattle.syncfile_core.specs.SyncFile.{File}
-use Rattle.syncfile_core.specs.Files.{file_name, has_file, file_at, without_file, names_of, number_of, files_made, AreKept, HasDistinctNames}
+use Rattle.syncfile_core.specs.SyncFile.{File, file_name, file_at}
+use Rattle.syncfile_core.specs.Files.{has_file, without_file, names_of, number_of, files_made, AreKept, HasDistinctNames}
 use Rattle.syncfile_core.specs.Merge.{files_at}
 use Rattle.syncfile_core.proofs.Causes.{is_none}
 use Rattle.syncfile_core.proofs.InOrder.{Rises, IsPermutation-by_number, Rises-by_number, by_number-permuted, by_number-last, same_rising, Rises-from, remove_entry-put_in}

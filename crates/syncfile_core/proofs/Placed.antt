@@ -13,8 +13,8 @@ use Rattle.indexmap.proofs.SetLemmas.{map-swap_remove, keys_swap_remove_entry}
 use Rattle.point_core.specs.Named.{same_name}
 use Rattle.syncfile_core.specs.declared.file_slots.NumberedFile.{NumberedFile}
 use Rattle.syncfile_core.specs.declared.file_slots.NumberedName.{NumberedName}
-use Rattle.syncfile_core.specs.SyncFile.{File}
-use Rattle.syncfile_core.specs.Files.{has_file, file_at, without_file, files_made, files_in, entry_of, entries_of, entries_in, numbered_name_of, names_of, AreKept, AreInPlace}
+use Rattle.syncfile_core.specs.SyncFile.{File, file_at}
+use Rattle.syncfile_core.specs.Files.{has_file, without_file, files_made, files_in, entry_of, entries_of, entries_in, numbered_name_of, names_of, AreKept, AreInPlace}
 use Rattle.syncfile_core.proofs.Kept.{AreKept-none, AreKept-append, AreKept-swap_remove_entry, files_made-append, files_made-swap_remove_entry, file_at-made, has_file-made, numbered_name_in, names_of-places}
 
 abbrev file_in : NumberedFile → File

@@ -11,8 +11,8 @@ use Rattle.point_core.specs.declared.refusal.Refusal.{Refusal}
 use Rattle.point_core.specs.Agreement.{as_entry}
 use Rattle.point_core.proofs.Agreement.{AgreesAbove-refl}
 use Rattle.point_core.proofs.Named.{is_some-named}
-use Rattle.syncfile_core.specs.SyncFile.{File, plain_file, StandsFor}
-use Rattle.syncfile_core.specs.Files.{file_name, is_named, has_file, file_at, HasStanding}
+use Rattle.syncfile_core.specs.SyncFile.{File, plain_file, StandsFor, file_name, file_at}
+use Rattle.syncfile_core.specs.Files.{is_named, has_file, HasStanding}
 use Rattle.syncfile_core.proofs.Causes.{is_none, MatchOption-Some}
 
 -- a new file is found by its name, after files that lack it

@@ -5,25 +5,19 @@ use Rattle.std.specs.Map.{keys_of}
 use Rattle.point_core.specs.declared.refusal.Refusal.{Refusal}
 use Rattle.point_core.specs.declared.refusal.Refusal.TheVariants.{Exists, Limit}
 use Rattle.point_core.specs.declared.refusal.LimitKind.TheVariants.{Files as FilesKind}
-use Rattle.point_core.specs.Named.{same_name, is_named as has_the_name, has_named, named, without_named, HasDistinctNames as HaveDistinctNames, things_in}
+use Rattle.point_core.specs.Named.{same_name, is_named as has_the_name, has_named, without_named, HasDistinctNames as HaveDistinctNames, things_in}
 use Rattle.point_core.specs.declared.entry.Entry.{Entry}
 use Rattle.syncfile_core.specs.declared.files.TheConstants.{FILES}
 use Rattle.syncfile_core.specs.declared.file_slots.NumberedFile.{NumberedFile}
 use Rattle.syncfile_core.specs.declared.file_slots.NumberedName.{NumberedName}
 use Rattle.syncfile_core.specs.Numbered.{by_number}
-use Rattle.syncfile_core.specs.SyncFile.{File, StandsFor}
-
-abbrev pub file_name : File → List ℕ
-file_name f = f.name
+use Rattle.syncfile_core.specs.SyncFile.{File, StandsFor, file_name, file_at}
 
 abbrev pub is_named : List ℕ → File → Bool
 is_named name f = has_the_name file_name name f
 
 abbrev pub has_file : List File → List ℕ → Bool
 has_file fs name = has_named file_name fs name
-
-abbrev pub file_at : List File → List ℕ → Option File
-file_at fs name = named file_name fs name
 
 abbrev pub without_file : List File → List ℕ → List File
 without_file fs name = without_named file_name fs name

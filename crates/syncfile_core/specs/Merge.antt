@@ -8,8 +8,8 @@ use Rattle.point_core.specs.declared.entry.Entry.{Entry}
 use Rattle.point_core.specs.Agreement.{as_entries, listing, HasContexts}
 use Rattle.point_core.specs.Latest.{IsLatest}
 use Rattle.point_core.specs.Reach.{later_values}
-use Rattle.syncfile_core.specs.SyncFile.{File, file_of, StandsFor}
-use Rattle.syncfile_core.specs.Files.{has_file, file_at, cause_to_refuse}
+use Rattle.syncfile_core.specs.SyncFile.{File, file_of, StandsFor, file_at}
+use Rattle.syncfile_core.specs.Files.{has_file, cause_to_refuse}
 
 -- the files with these names, in the order of the names; a merge is refused if a name has none
 abbrev pub files_at : List File → List (List ℕ) → List File

@@ -8,7 +8,8 @@ ghost use Rattle.point_core.specs.Agreement.{HasRisingContexts};
 ghost use Rattle.point_core.specs.Named.{same_name};
 ghost use Rattle.point_core.specs.Refusal.{IsRefusedFor};
 ghost use Rattle.syncfile_core.specs.Drafts.{drafted};
-ghost use Rattle.syncfile_core.specs.Files.{has_file, file_at, without_file, names_of, numbered_name_of, entries_of, files_made, files_in, AreKept, AreInPlace, HasDistinctNames, cause_to_refuse};
+ghost use Rattle.syncfile_core.specs.Files.{has_file, without_file, names_of, numbered_name_of, entries_of, files_made, files_in, AreKept, AreInPlace, HasDistinctNames, cause_to_refuse};
+ghost use Rattle.syncfile_core.specs.SyncFile.{file_at};
 ghost use Rattle.syncfile_core.specs.Renumbered.{numbered_from, IsNumberedAnew};
 
 use crate::draft::Draft;

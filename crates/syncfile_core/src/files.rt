@@ -10,7 +10,8 @@ ghost use Rattle.point_core.specs.Agreement.{as_entry, HasRisingContexts};
 ghost use Rattle.point_core.specs.Clocks.{common_status};
 ghost use Rattle.syncfile_core.specs.Status.{info_of, ReportsSetsOf};
 ghost use Rattle.point_core.specs.Refusal.{IsRefusedFor};
-ghost use Rattle.syncfile_core.specs.Files.{has_file, file_at, without_file, names_of, HasDistinctNames, HasStanding, cause_to_refuse};
+ghost use Rattle.syncfile_core.specs.Files.{has_file, without_file, names_of, HasDistinctNames, HasStanding, cause_to_refuse};
+ghost use Rattle.syncfile_core.specs.SyncFile.{file_at};
 
 use crate::draft::Draft;
 use crate::file_slots::FileSlots;

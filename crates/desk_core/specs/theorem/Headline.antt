@@ -15,8 +15,7 @@ use Rattle.command_core.specs.declared.answer.Answer.{Answer}
 use Rattle.command_core.specs.declared.answer.Answer.TheVariants as answer
 use Rattle.timeline_core.specs.Timeline.{clocks_of, reach_of}
 use Rattle.timeline_core.specs.Sums.{incremented, AreSums}
-use Rattle.syncfile_core.specs.SyncFile.{File}
-use Rattle.syncfile_core.specs.Files.{file_at as sync_file_at}
+use Rattle.syncfile_core.specs.SyncFile.{File, file_at as sync_file_at}
 use Rattle.resv_core.specs.declared.resv.TheConstants.{PLACES}
 use Rattle.dmabuf_core.specs.Buffers.{has_buffer, entries_of}
 use Rattle.desk_core.specs.theorem.World.{MadeFile, MadeWatch, file_named, put_set, buffer_put_set, fired_watches, shut_watches, cookies_of}

@@ -1,5 +1,5 @@
 use Rattle.std.proofs.Common.{sym, ap, ◌∙◌}
-use Rattle.syncfile_core.specs.Files.{file_at}
+use Rattle.syncfile_core.specs.SyncFile.{file_at}
 use Rattle.syncfile_core.proofs.Placed.{file_at-found, file_at-missing}
 use Rattle.syncfile_core.proofs.file_slots.FileSlots.get.Goals as goal
 

@@ -3,7 +3,8 @@ use Rattle.std.specs.List.{cons_option}
 use Rattle.point_core.specs.declared.refusal.Refusal.TheVariants.{NoEntry}
 use Rattle.point_core.specs.Refusal.{IsRefusedFor}
 use Rattle.point_core.proofs.Named.{has_named-Some, has_named-None}
-use Rattle.syncfile_core.specs.Files.{file_name, file_at, cause_to_refuse}
+use Rattle.syncfile_core.specs.Files.{cause_to_refuse}
+use Rattle.syncfile_core.specs.SyncFile.{file_name, file_at}
 use Rattle.syncfile_core.specs.Merge.{files_at, merged_file, StandsForUnion}
 use Rattle.syncfile_core.proofs.Causes.{IsRefusedFor-Err, cause_to_refuse_merge-first_absent, cause_to_refuse_merge-second_absent, cause_to_refuse_merge-both}
 use Rattle.syncfile_core.proofs.Standing.{OnOk-drawn}

@@ -2,7 +2,8 @@ use Rattle.std.proofs.Common.{◌++◌, [], ◌∷◌, sym, subst, ap, ◌∙◌
 use Rattle.std.proofs.lemmas.List.{take_all}
 use Rattle.point_core.specs.declared.refusal.Refusal.TheVariants.{NoEntry}
 use Rattle.point_core.proofs.Named.{has_named-Some, has_named-None}
-use Rattle.syncfile_core.specs.Files.{file_name, has_file}
+use Rattle.syncfile_core.specs.Files.{has_file}
+use Rattle.syncfile_core.specs.SyncFile.{file_name}
 use Rattle.syncfile_core.specs.Merge.{files_at, merged_file, IsGathered}
 use Rattle.syncfile_core.proofs.Causes.{OnOk-always, IsRefusedFor-Err, cause_to_refuse_merge-absent}
 use Rattle.syncfile_core.proofs.Kept.{files_at-take_more, list_all-take_more, list_all-fails}
