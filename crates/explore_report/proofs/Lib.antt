@@ -1,0 +1,6 @@
+mod Exploring
+mod Marks
+mod Mistakes
+mod Notes
+mod Readings
+mod Rows

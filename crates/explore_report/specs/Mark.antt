@@ -1,0 +1,69 @@
+-- What a line says to the reader of a plan.
+use Rattle.std.specs.Prelude.{ℕ, ◌==◌, length, Bool, false, is_some, if◌then◌else◌, List, [], ◌∷◌, Option, None, Some, codes, unwrap_or}
+use Rattle.std.specs.Char.{is_ascii_alphabetic}
+use Rattle.std.specs.Str.{bytes_eq}
+use Rattle.line_core.specs.Following.{is_name}
+use Rattle.line_core.specs.Line.{body_of}
+use Rattle.line_core.specs.declared.line.Body.{Body}
+use Rattle.line_core.specs.declared.line.Body.TheVariants.{Cmd, Bad}
+use Rattle.explore_report.specs.declared.cause.Cause.TheVariants as cause
+use Rattle.explore_report.specs.declared.mark.Mark.{Mark}
+use Rattle.explore_report.specs.declared.mark.Mark.TheVariants as mark
+use Rattle.explore_report.specs.Words.{drop_spaces, first_word, strip_prefix, words_after}
+
+-- a letter follows the first byte
+abbrev pub begins_directive : List ℕ → Bool
+begins_directive [] = false
+begins_directive (a ∷ []) = false
+begins_directive (a ∷ b ∷ word) = is_ascii_alphabetic b
+
+-- a client of that name, if it is one
+abbrev pub client_named : List ℕ → Mark
+client_named name = if is_name name then mark.Client name else mark.Wrong cause.NoName
+
+-- if one word follows, and no other
+abbrev pub client_mark : List ℕ → Mark
+client_mark words = if length (words_after words) == 0 then client_named (first_word words) else mark.Wrong cause.NoName
+
+-- that mark, if no word follows
+abbrev pub alone : List ℕ → Mark → Mark
+alone [] said = said
+alone (b ∷ words) said = mark.Wrong cause.WordFollows
+
+-- by the first word of a note, and what follows it
+abbrev pub directive_of : List ℕ → List ℕ → Option Mark
+directive_of word words =
+    if bytes_eq word (codes "#client") then Some (client_mark words)
+    else if bytes_eq word (codes "#finally") then Some (alone words mark.Finally)
+    else if bytes_eq word (codes "#await") then Some (alone words mark.Await)
+    else if begins_directive word then Some (mark.Wrong cause.NoDirective)
+    else None
+
+-- of a note from its `#` on
+abbrev pub note_of : List ℕ → Option Mark
+note_of note =
+    if is_some (strip_prefix note (codes "#=")) then Some mark.Expected
+    else if is_some (strip_prefix note (codes "#|")) then Some mark.OrExpected
+    else directive_of (first_word note) (words_after note)
+
+abbrev pub mark_of_body : Body → Mark
+mark_of_body (Cmd command) = mark.Command command
+mark_of_body (Bad refusal) = mark.Wrong cause.NoCommand
+
+abbrev pub mark_or_note : Option Body → List ℕ → Option Mark
+mark_or_note None line = note_of (drop_spaces line)
+mark_or_note (Some body) line = Some (mark_of_body body)
+
+-- a command, or what a note says; nothing of an empty line and of a note to its reader
+abbrev pub mark_of : List ℕ → Option Mark
+mark_of line = mark_or_note (body_of line) line
+
+-- what follows the mark of a note that expects a line
+abbrev pub after_mark : List ℕ → List ℕ
+after_mark note = unwrap_or (strip_prefix note (codes "#=")) (unwrap_or (strip_prefix note (codes "#|")) note)
+
+-- the text that a note expects: what follows its mark, but for one space
+abbrev pub expected_text : List ℕ → List ℕ
+expected_text line =
+    let text = after_mark (drop_spaces line) in
+    unwrap_or (strip_prefix text (codes " ")) text

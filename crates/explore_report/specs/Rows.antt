@@ -1,0 +1,48 @@
+-- The rows of a plan: its lines that say something.
+use Rattle.std.specs.Prelude.{ℕ, ◌+◌, if◌then◌else◌, List, [], ◌∷◌, ◌++◌, Option, None, Some}
+use Rattle.command_core.specs.declared.command.Command.{Command}
+use Rattle.explore_report.specs.declared.context.Context.{Context}
+use Rattle.explore_report.specs.declared.context.Section.{Section}
+use Rattle.explore_report.specs.declared.mark.Mark.{Mark}
+use Rattle.explore_report.specs.declared.mark.Mark.TheVariants as mark
+use Rattle.explore_report.specs.declared.row.Row.{Row}
+use Rattle.explore_report.specs.Context.{after, is_same, start}
+use Rattle.explore_report.specs.Mark.{mark_of}
+
+abbrev pub row_if : Context → ℕ → Option Mark → List Row
+row_if at number None = []
+row_if at number (Some said) = record { number = number; context = at; mark = said } ∷ []
+
+-- the row of a line with that number and context
+abbrev pub rows_at : Context → ℕ → List ℕ → List Row
+rows_at at number line = row_if at number (mark_of line)
+
+abbrev pub after_if : Context → Option Mark → Context
+after_if at None = at
+after_if at (Some said) = after at said
+
+-- the context of the line below
+abbrev pub context_below : Context → List ℕ → Context
+context_below at line = after_if at (mark_of line)
+
+-- the rows of lines; the first line has that number and context
+abbrev pub rows_from : Context → ℕ → List (List ℕ) → List Row
+rows_from at number [] = []
+rows_from at number (line ∷ lines) = rows_at at number line ++ rows_from (context_below at line) (number + 1) lines
+
+-- the rows of all lines of a plan
+abbrev pub rows_of : List (List ℕ) → List Row
+rows_of lines = rows_from start 1 lines
+
+abbrev pub command_said : Mark → Option Command
+command_said (mark.Client name) = None
+command_said mark.Finally = None
+command_said mark.Await = None
+command_said mark.Expected = None
+command_said mark.OrExpected = None
+command_said (mark.Command command) = Some command
+command_said (mark.Wrong why) = None
+
+-- the command of a row, if it is in that section
+abbrev pub command_in : Section → Row → Option Command
+command_in section row = if is_same row.context.section section then command_said row.mark else None

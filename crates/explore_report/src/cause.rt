@@ -1,0 +1,48 @@
+//! `Cause`: why a script is no plan. `mistake.rt` finds it, and `fencectl` writes it behind the line's number.
+use thiserror::Error;
+
+/// The most clients of a plan.
+pub const PLAN_CLIENTS: usize = 16;
+
+/// The number of the last client, from 0.
+pub(crate) const LAST_CLIENT: usize = PLAN_CLIENTS - 1;
+
+/// The most lines that the clients of a plan have together.
+pub const PLAN_LINES: usize = 4096;
+
+/// Why a script is no plan, so that nothing of it is explored.
+#[derive(Clone, Copy, Debug, PartialEq, Eq, Error)]
+pub enum Cause {
+    #[error("the line is not a command")]
+    NoCommand,
+    #[error("there is no such directive; a note has a space after its #")]
+    NoDirective,
+    #[error("#client takes one name")]
+    NoName,
+    #[error("#finally and #await take no words")]
+    WordFollows,
+    #[error("there is already a client with this name")]
+    NameTaken,
+    #[error("a plan can have {0} clients")]
+    Clients(usize),
+    #[error("the clients can have {0} lines together")]
+    Lines(usize),
+    #[error("no client can follow #finally")]
+    ClientBelowFinally,
+    #[error("there is already a #finally")]
+    FinallyTwice,
+    #[error("#await is only allowed in a client's section")]
+    AwaitOutside,
+    #[error("a command of the client has to follow #await directly")]
+    AwaitsNothing,
+    #[error("there is no command above it whose answer this could be")]
+    ExpectsNothing,
+    #[error("report is only allowed above the first client; its rows are in the order of making, which schedules change")]
+    Report,
+    #[error("watch is only allowed below #finally, since schedules would change the order of callbacks")]
+    Watch,
+    #[error("a plan can have {0} bytes")]
+    Bytes(usize),
+    #[error("the plan has no client; #client NAME begins the lines of one")]
+    NoClient,
+}

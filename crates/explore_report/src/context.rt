@@ -1,0 +1,101 @@
+//! `Context`: the section of a plan's line, and what is directly above the line. `row.rt` carries it from line to line, and
+//! `mistake.rt` judges lines by it.
+ghost use Rattle.std.specs.Prelude.{◌≡◌};
+ghost use Rattle.explore_report.specs.Context.{after, is_same, next_client, start};
+
+use crate::cause::PLAN_CLIENTS;
+use crate::mark::Mark;
+
+/// A part of a plan.
+#[derive(Clone, Copy, Debug)]
+pub enum Section {
+    /// What is done first.
+    First,
+    /// The lines of a client, by its number from 0.
+    Client(usize),
+    /// What is done once all clients are done.
+    Last,
+}
+
+/// What is directly above a line in its section. Notes to the reader do not count.
+#[derive(Clone, Copy, Debug)]
+pub enum Above {
+    Nothing,
+    /// A command, or a note that expects its answer.
+    Command,
+    /// `#await`.
+    Await,
+}
+
+/// The section of a line, and what is directly above it.
+#[derive(Clone, Copy, Debug)]
+pub struct Context {
+    pub section: Section,
+    pub above: Above,
+}
+
+impl Context {
+    /// The beginning of a plan.
+    pub(crate) fn start() -> Context
+        ensures { result ≡ start }
+    {
+        Context {
+            section: Section::First,
+            above: Above::Nothing,
+        }
+    }
+
+    /// The context of the line below.
+    pub(crate) fn after(self, mark: &Mark) -> Context
+        ensures { result ≡ after self mark.now }
+    {
+        match mark {
+            Mark::Client(_) => Context {
+                section: self.section.next_client(),
+                above: Above::Nothing,
+            },
+            Mark::Finally => Context {
+                section: Section::Last,
+                above: Above::Nothing,
+            },
+            Mark::Await => self.below(Above::Await),
+            Mark::Expected | Mark::OrExpected | Mark::Command(_) | Mark::Wrong(_) => {
+                self.below(Above::Command)
+            }
+        }
+    }
+
+    fn below(self, above: Above) -> Context
+        ensures { result ≡ record { section = self.section; above = above } }
+    {
+        Context {
+            section: self.section,
+            above,
+        }
+    }
+}
+
+impl Section {
+    /// The section that a client begins below this one. Clients past the limit are all of one number.
+    pub(crate) fn next_client(self) -> Section
+        ensures { result ≡ next_client self }
+    {
+        match self {
+            Section::First => Section::Client(0),
+            Section::Client(number) if number < PLAN_CLIENTS => Section::Client(number + 1),
+            Section::Client(number) => Section::Client(number),
+            Section::Last => Section::Last,
+        }
+    }
+
+    pub(crate) fn is_same(self, other: Section) -> bool
+        ensures { result ≡ is_same self other }
+    {
+        match (self, other) {
+            (Section::First, Section::First) => true,
+            (Section::Client(number), Section::Client(client)) => number == client,
+            (Section::Last, Section::Last) => true,
+            _ => false,
+        }
+    }
+}

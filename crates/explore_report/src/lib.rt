@@ -1,0 +1,31 @@
+//! Reads plans for `explore_core`, and reports what is found of them: as text, as JSON, and as scripts of schedules.
+//!
+//! A plan is a script whose notes mark the clients. `specs/Plan.antt` defines the plan that a script's lines make.
+//! `fencectl explore` calls this crate.
+#![tactic(auto)]
+
+mod case;
+mod cause;
+mod context;
+mod expected;
+mod mark;
+mod mistake;
+mod objects;
+mod page;
+mod plan_script;
+mod report;
+mod row;
+mod schedule;
+mod sections;
+mod text;
+mod why;
+mod witness;
+mod words;
+
+pub use cause::{Cause, PLAN_CLIENTS, PLAN_LINES};
+pub use context::{Above, Context, Section};
+pub use mark::Mark;
+pub use mistake::Mistake;
+pub use plan_script::{PlanScript, Reading};
+pub use report::{Outcome, Report};
+pub use row::Row;

@@ -1,0 +1,171 @@
+//! `Mark`: what a line says to the reader of a plan. `row.rt` asks for it line by line.
+ghost use Rattle.std.specs.Prelude.{◌≡◌};
+ghost use Rattle.explore_report.specs.Mistake.{is_named};
+ghost use Rattle.explore_report.specs.Rows.{command_said};
+ghost use Rattle.explore_report.specs.Mark.{after_mark, alone, begins_directive, client_mark, client_named, directive_of, expected_text, mark_of, mark_of_body, note_of};
+
+use crate::cause::Cause;
+use crate::words::{first_word, strip_prefix, without_spaces, words_after};
+use command_core::Command;
+use line_core::{Body, body_of};
+use point_core::Name;
+
+/// What a line says to the reader of a plan.
+#[derive(Clone, Copy, Debug)]
+pub enum Mark {
+    /// `#client NAME`: the lines below are this client's.
+    Client(Name),
+    /// `#finally`: the lines below are made once all clients are done.
+    Finally,
+    /// `#await`: the next line waits until it would be accepted.
+    Await,
+    /// `#= TEXT`: a line of the answer that is expected of the line above.
+    Expected,
+    /// `#| TEXT`: the first line of another answer that is all right.
+    OrExpected,
+    Command(Command),
+    /// Nothing that a plan may have.
+    Wrong(Cause),
+}
+
+impl Mark {
+    pub(crate) fn command(&self) -> Option<Command>
+        ensures { result ≡ command_said self.now }
+    {
+        match self {
+            Mark::Command(command) => Some(*command),
+            _ => None,
+        }
+    }
+
+    /// Whether it begins the lines of a client with that name.
+    pub(crate) fn is_named(&self, name: &Name) -> bool
+        ensures { result ≡ is_named name.now self.now }
+    {
+        match self {
+            Mark::Client(other) => other == name,
+            _ => false,
+        }
+    }
+}
+
+const CLIENT: &[u8] = b"#client";
+
+const FINALLY: &[u8] = b"#finally";
+
+const AWAIT: &[u8] = b"#await";
+
+/// The front of a note that expects a line of an answer.
+const EXPECTED: &[u8] = b"#=";
+
+/// The front of a note that begins another answer.
+const OR_EXPECTED: &[u8] = b"#|";
+
+/// What a line says; none for a line without words, and for a note to the reader of the script.
+pub(crate) fn mark_of(line: &[u8]) -> Option<Mark>
+    ensures mark { result ≡ mark_of line.now }
+{
+    match body_of(line) {
+        Some(body) => Some(mark_of_body(body)),
+        None => note_of(without_spaces(line)),
+    }
+}
+
+fn mark_of_body(body: Body) -> Mark
+    ensures mark { result ≡ mark_of_body body }
+{
+    match body {
+        Body::Cmd(command) => Mark::Command(command),
+        Body::Bad(_) => Mark::Wrong(Cause::NoCommand),
+    }
+}
+
+/// What a note says, which begins with its `#`.
+fn note_of(note: &[u8]) -> Option<Mark>
+    ensures mark { result ≡ note_of note.now }
+{
+    if strip_prefix(note, EXPECTED).is_some() {
+        return Some(Mark::Expected);
+    }
+    if strip_prefix(note, OR_EXPECTED).is_some() {
+        return Some(Mark::OrExpected);
+    }
+    directive_of(first_word(note), words_after(note))
+}
+
+/// By the first word of a note, and what follows it.
+fn directive_of(word: &[u8], rest: &[u8]) -> Option<Mark>
+    ensures mark { result ≡ directive_of word.now rest.now }
+{
+    if word == CLIENT {
+        return Some(client_mark(rest));
+    }
+    if word == FINALLY {
+        return Some(alone(rest, Mark::Finally));
+    }
+    if word == AWAIT {
+        return Some(alone(rest, Mark::Await));
+    }
+    if begins_directive(word) {
+        return Some(Mark::Wrong(Cause::NoDirective));
+    }
+    None
+}
+
+/// The mark of `#client`, which one word has to follow.
+fn client_mark(rest: &[u8]) -> Mark
+    ensures mark { result ≡ client_mark rest.now }
+{
+    if words_after(rest).is_empty() {
+        client_named(first_word(rest))
+    } else {
+        Mark::Wrong(Cause::NoName)
+    }
+}
+
+fn client_named(name: &[u8]) -> Mark
+    ensures mark { result ≡ client_named name.now }
+{
+    match Name::read(name) {
+        Some(name) => Mark::Client(name),
+        None => Mark::Wrong(Cause::NoName),
+    }
+}
+
+/// The mark of a directive that no word follows.
+fn alone(rest: &[u8], mark: Mark) -> Mark
+    ensures mark { result ≡ alone rest.now mark }
+{
+    if rest.is_empty() {
+        mark
+    } else {
+        Mark::Wrong(Cause::WordFollows)
+    }
+}
+
+/// Whether a letter follows the `#`.
+fn begins_directive(word: &[u8]) -> bool
+    ensures letter { result ≡ begins_directive word.now }
+{
+    match word {
+        [_, second, ..] => second.is_ascii_alphabetic(),
+        _ => false,
+    }
+}
+
+/// The text that a note expects: what follows its mark, but for one space.
+pub(crate) fn expected_text(line: &[u8]) -> &[u8]
+    ensures text { result.now ≡ expected_text line.now }
+{
+    let text = after_mark(without_spaces(line));
+    strip_prefix(text, b" ").unwrap_or(text)
+}
+
+fn after_mark(note: &[u8]) -> &[u8]
+    ensures text { result.now ≡ after_mark note.now }
+{
+    match strip_prefix(note, EXPECTED) {
+        Some(text) => text,
+        None => strip_prefix(note, OR_EXPECTED).unwrap_or(note),
+    }
+}

@@ -1,0 +1,191 @@
+//! `PlanScript`: a script that is a plan, with its rows and the plan that they make. Its plan can be explored.
+//! `Report` and `fencectl` read it.
+ghost use Rattle.std.specs.Prelude.{◌≡◌, IfErr, IfOk, map, true};
+ghost use Rattle.line_core.specs.Script.{lines_of};
+ghost use Rattle.explore_core.specs.Found.{CanBeExplored, IsAll, IsTrue};
+ghost use Rattle.explore_report.specs.Reading.{IsReading};
+
+use crate::cause::Cause;
+use crate::context::Section;
+use crate::mark::{Mark, expected_text};
+use crate::mistake::{Mistake, mistake_of};
+use crate::row::{Row, rows_of};
+use crate::sections::plan_of;
+use crate::words::{without_last_spaces, without_spaces};
+use command_core::Command;
+use explore_core::{Found, Plan, explore};
+use line_core::{SCRIPT_BYTES, first_line};
+use point_core::Refusal;
+use std::alloc::{AllocError, Global};
+
+/// A script that is a plan.
+#[derive(Drop)]
+pub struct PlanScript<'a> {
+    pub(crate) lines: Vec<&'a [u8]>,
+    pub(crate) rows: Vec<Row>,
+    pub plan: Plan,
+}
+
+/// What a script is found to be.
+#[derive(Drop)]
+pub enum Reading<'a> {
+    Plan(PlanScript<'a>),
+    NoPlan(Mistake),
+}
+
+impl<'a> PlanScript<'a> {
+    /// Reads a plan, or finds why the script is none.
+    ///
+    /// Fails with `Memory` only.
+    pub fn read(alloc: Global, script: &'a [u8]) -> Result<Reading<'a>, Refusal>
+        ensures reading { IfOk result (IsReading script.now) }
+        ensures memory { IfErr result (λ refusal. refusal ≡ Refusal.Memory) }
+    {
+        let lines = lines_of(alloc, script)?;
+        if script.len() > SCRIPT_BYTES {
+            return Ok(Reading::NoPlan(Mistake {
+                line: lines.len(),
+                cause: Cause::Bytes(SCRIPT_BYTES),
+            }));
+        }
+        let rows = rows_of(alloc, lines.as_slice())?;
+        if let Some(mistake) = mistake_of(rows.as_slice(), lines.len()) {
+            return Ok(Reading::NoPlan(mistake));
+        }
+        let plan = plan_of(alloc, rows.as_slice())?;
+        Ok(Reading::Plan(PlanScript { lines, rows, plan }))
+    }
+
+    /// Explores the plan, unless it has more than `bound` states.
+    ///
+    /// Fails with `Memory` only.
+    pub fn explore(&self, alloc: Global, bound: usize) -> Result<Found, Refusal>
+        requires explorable { CanBeExplored self.now.plan }
+        ensures shown { IfOk result (λ found. IsTrue self.now.plan found) }
+        ensures all { IfOk result (λ found. found.covered ≡ true → IsAll self.now.plan found) }
+        ensures memory { IfErr result (λ refusal. refusal ≡ Refusal.Memory) }
+    {
+        explore(alloc, &self.plan, bound)
+    }
+
+    /// The text of a row, without the spaces around it.
+    pub(crate) fn text(&self, row: &Row) -> &'a [u8] {
+        match self.lines.get(row.number.saturating_sub(1)) {
+            Some(line) => without_last_spaces(without_spaces(line)),
+            None => b"",
+        }
+    }
+
+    /// The text that a note expects.
+    pub(crate) fn expected(&self, row: &Row) -> &'a [u8] {
+        match self.lines.get(row.number.saturating_sub(1)) {
+            Some(line) => expected_text(line),
+            None => b"",
+        }
+    }
+
+    /// The number of a row's line.
+    pub(crate) fn number_of(&self, index: usize) -> usize {
+        match self.rows.get(index) {
+            Some(row) => row.number,
+            None => 0,
+        }
+    }
+
+    pub(crate) fn section_of(&self, index: usize) -> Section {
+        match self.rows.get(index) {
+            Some(row) => row.context.section,
+            None => Section::Last,
+        }
+    }
+
+    /// The client whose line the row is.
+    pub(crate) fn client_at(&self, index: usize) -> Option<usize> {
+        match self.section_of(index) {
+            Section::Client(client) => Some(client),
+            Section::First | Section::Last => None,
+        }
+    }
+
+    pub(crate) fn command_of(&self, index: usize) -> Option<Command> {
+        match self.rows.get(index)?.mark {
+            Mark::Command(command) => Some(command),
+            _ => None,
+        }
+    }
+
+    /// The name of the client whose line the row is; the section's word, if it is no client's.
+    pub(crate) fn client_of(&self, row: &Row) -> &[u8] {
+        match row.context.section {
+            Section::First => b"first",
+            Section::Client(client) => self.client_name(client),
+            Section::Last => b"finally",
+        }
+    }
+
+    pub(crate) fn client_name(&self, client: usize) -> &[u8] {
+        let mut left = client;
+        for row in self.rows.as_slice() {
+            if let Mark::Client(name) = &row.mark {
+                if left == 0 {
+                    return name.as_bytes();
+                }
+                left -= 1;
+            }
+        }
+        b""
+    }
+
+    /// The notes below a row that expect its answer.
+    pub(crate) fn expectations(&self, index: usize) -> &[Row] {
+        let rows = self.rows.as_slice();
+        let below = rows.get(index.saturating_add(1)..).unwrap_or(&[]);
+        let count = below.iter().position(|row| !row.expects());
+        &below[..count.unwrap_or(below.len())]
+    }
+
+    pub(crate) fn client_count(&self) -> usize {
+        let plan = &self.plan;
+        plan.clients.len()
+    }
+
+    /// How many lines the clients have together.
+    pub(crate) fn line_count(&self) -> usize {
+        let mut count: usize = 0;
+        for row in self.rows.as_slice() {
+            if row.is_line() {
+                count = count.saturating_add(1);
+            }
+        }
+        count
+    }
+
+    /// Which row is the command of that place in its section.
+    pub(crate) fn row_at(&self, section: Section, place: usize) -> Option<usize> {
+        let mut left = place;
+        for (index, row) in self.rows.as_slice().iter().enumerate() {
+            if row.command_in(section).is_none() {
+                continue;
+            }
+            if left == 0 {
+                return Some(index);
+            }
+            left -= 1;
+        }
+        None
+    }
+}
+
+/// The lines of a script.
+fn lines_of<'a>(alloc: Global, script: &'a [u8]) -> Result<Vec<&'a [u8]>, AllocError>
+    ensures lines { IfOk result (λ lines. map (λ l. l.now) lines.items ≡ lines_of script.now) }
+{
+    let mut lines = Vec::new(alloc);
+    let mut rest = script;
+    while let Some((line, more)) = first_line(rest) {
+        lines.push(line)?;
+        rest = more;
+    }
+    lines.push(rest)?;
+    Ok(lines)
+}

@@ -1,0 +1,106 @@
+//! `Report`: what is found of a plan, by its lines, to be written as text, as JSON, or as scripts of schedules. `fencectl explore`
+//! makes one.
+use crate::case::{Case, cases_of};
+use crate::plan_script::PlanScript;
+use crate::schedule::Making;
+use crate::{objects, text, witness};
+use explore_core::Found;
+use point_core::Refusal;
+use std::alloc::Global;
+
+/// What came of an exploration.
+#[derive(Clone, Copy, Debug, PartialEq, Eq)]
+pub enum Outcome {
+    /// Every schedule was covered, and nothing was found.
+    Clean,
+    /// Every schedule was covered, and something was found.
+    Findings,
+    /// There are more states than were to be visited.
+    NotCovered,
+}
+
+/// What is found of a plan, by its lines.
+#[derive(Drop)]
+pub struct Report<'a> {
+    pub(crate) alloc: Global,
+    pub(crate) plan: &'a PlanScript<'a>,
+    pub(crate) found: &'a Found,
+    pub(crate) cases: Vec<Case>,
+}
+
+impl<'a> Report<'a> {
+    /// Judges what was found of the plan.
+    ///
+    /// Fails with `Memory` only.
+    pub fn of(
+        alloc: Global,
+        plan: &'a PlanScript<'a>,
+        found: &'a Found,
+    ) -> Result<Report<'a>, Refusal> {
+        let (_, first) = Making::of(alloc, plan, &[])?.run(alloc, plan)?;
+        let cases = cases_of(alloc, plan, first.as_slice(), found)?;
+        Ok(Report {
+            alloc,
+            plan,
+            found,
+            cases,
+        })
+    }
+
+    /// The report as text; `name` is the plan's file. With `everything` it has the answers of all lines.
+    ///
+    /// Fails with `Memory` only.
+    pub fn text(&self, name: &str, everything: bool) -> Result<Vec<u8>, Refusal> {
+        text::text_of(self, name, everything)
+    }
+
+    /// The report as JSON, an object on each line.
+    ///
+    /// Fails with `Memory` only.
+    pub fn json(&self) -> Result<Vec<u8>, Refusal> {
+        objects::json_of(self)
+    }
+
+    /// The schedule of that number as a script, with the answers as what it expects; none if the report shows fewer. The first
+    /// is number 1.
+    ///
+    /// Fails with `Memory` only.
+    pub fn script(&self, name: &str, number: usize) -> Result<Option<Vec<u8>>, Refusal> {
+        witness::script_of(self, name, number)
+    }
+
+    /// How many answers are wrong.
+    pub fn findings(&self) -> usize {
+        let mut count: usize = 0;
+        for case in self.cases.as_slice() {
+            if case.finding.is_some() {
+                count = count.saturating_add(1);
+            }
+        }
+        count
+    }
+
+    /// How many schedules that get stuck are shown.
+    pub fn stuck(&self) -> usize {
+        usize::from(self.found.stuck.is_some())
+    }
+
+    pub fn outcome(&self) -> Outcome {
+        if !self.found.covered {
+            Outcome::NotCovered
+        } else if self.stuck() > 0 || self.findings() > 0 {
+            Outcome::Findings
+        } else {
+            Outcome::Clean
+        }
+    }
+
+    /// The answers of a row.
+    pub(crate) fn cases_of(&self, row: usize) -> &[Case] {
+        let cases = self.cases.as_slice();
+        let first = cases.iter().position(|case| case.row == row);
+        let below = cases.get(first.unwrap_or(cases.len())..).unwrap_or(&[]);
+        let count = below.iter().position(|case| case.row != row);
+        &below[..count.unwrap_or(below.len())]
+    }
+}

@@ -1,0 +1,116 @@
+//! `Row`: a line of a plan that says something, with its context. `plan_script.rt` keeps the rows of a plan.
+ghost use Rattle.std.specs.Prelude.{◌≡◌, ◌+◌, ◌++◌, OnOk, IfOk, Some, map};
+ghost use Rattle.explore_report.specs.Context.{after};
+ghost use Rattle.explore_report.specs.Mistake.{is_client_row, is_line};
+ghost use Rattle.explore_report.specs.Rows.{command_in, command_said, context_below, row_if, rows_at, rows_of};
+
+use crate::context::{Context, Section};
+use crate::mark::{Mark, mark_of};
+use command_core::Command;
+use std::alloc::{AllocError, Global};
+
+/// A line of a plan that says something.
+#[derive(Clone, Copy, Debug)]
+pub struct Row {
+    /// Its number, from 1.
+    pub number: usize,
+    pub context: Context,
+    pub mark: Mark,
+}
+
+impl Row {
+    /// The command, if it is a line of the section.
+    pub(crate) fn command_in(&self, section: Section) -> Option<Command>
+        ensures { result ≡ command_in section self.now }
+    {
+        if self.context.section.is_same(section) {
+            self.command()
+        } else {
+            None
+        }
+    }
+
+    pub(crate) fn command(&self) -> Option<Command>
+        ensures { result ≡ command_said self.now.mark }
+    {
+        self.mark.command()
+    }
+
+    /// Whether it is a line of a client.
+    pub(crate) fn is_line(&self) -> bool
+        ensures { result ≡ is_line self.now }
+    {
+        matches!(
+            (self.mark, self.context.section),
+            (Mark::Command(_), Section::Client(_))
+        )
+    }
+
+    pub(crate) fn is_command(&self) -> bool {
+        matches!(self.mark, Mark::Command(_))
+    }
+
+    pub(crate) fn is_client(&self) -> bool
+        ensures { result ≡ is_client_row self.now }
+    {
+        matches!(self.mark, Mark::Client(_))
+    }
+
+    /// Whether it expects a line of an answer.
+    pub(crate) fn expects(&self) -> bool {
+        matches!(self.mark, Mark::Expected | Mark::OrExpected)
+    }
+
+    /// Whether it begins another answer than the row above.
+    pub(crate) fn begins_answer(&self) -> bool {
+        matches!(self.mark, Mark::OrExpected)
+    }
+}
+
+/// The rows of a plan with these lines.
+pub(crate) fn rows_of(alloc: Global, lines: &[&[u8]]) -> Result<Vec<Row>, AllocError>
+    ensures rows { IfOk result (λ rows. rows.items ≡ rows_of (map (λ l. l.now) lines.now)) }
+{
+    let mut rows = Vec::new(alloc);
+    let mut context = Context::start();
+    for (index, line) in lines.iter().enumerate() {
+        take_line(index + 1, line, &mut context, &mut rows)?;
+    }
+    Ok(rows)
+}
+
+/// Appends the row of a line, if it says something.
+fn take_line(
+    number: usize,
+    line: &[u8],
+    context: &mut Context,
+    rows: &mut Vec<Row>,
+) -> Result<(), AllocError>
+    ensures rows { OnOk result (rows.new.items ≡ rows.old.items ++ rows_at context.old number line.now) }
+    ensures context { OnOk result (context.new ≡ context_below context.old line.now) }
+{
+    match &mark_of(line) {
+        Some(mark) => push_row(number, mark, context, rows),
+        None => Ok(()),
+    }
+}
+
+fn push_row(
+    number: usize,
+    mark: &Mark,
+    context: &mut Context,
+    rows: &mut Vec<Row>,
+) -> Result<(), AllocError>
+    ensures rows { OnOk result (rows.new.items ≡ rows.old.items ++ row_if context.old number (Some mark.now)) }
+    ensures context { OnOk result (context.new ≡ after context.old mark.now) }
+{
+    rows.push(Row {
+        number,
+        context: *context,
+        mark: *mark,
+    })?;
+    *context = context.after(mark);
+    // The check of `push` has to see the type of a command.
+    let _command = mark.command();
+    Ok(())
+}

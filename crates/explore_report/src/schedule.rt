@@ -1,0 +1,117 @@
+//! `Making`: the rows of a plan in the order in which a schedule makes them. Reports and scripts of schedules go by it.
+use crate::context::Section;
+use crate::plan_script::PlanScript;
+use command_core::{Answer, Command};
+use desk_core::{Desk, run};
+use point_core::Refusal;
+use std::alloc::{AllocError, Global};
+
+/// The rows of a plan in the order in which a schedule makes them.
+#[derive(Drop)]
+pub(crate) struct Making {
+    /// The indices of the rows.
+    pub rows: Vec<usize>,
+    // how many lines each client has made
+    made: Vec<usize>,
+}
+
+impl Making {
+    /// The commands of the first section, and then the schedule's lines.
+    pub(crate) fn of(
+        alloc: Global,
+        plan: &PlanScript<'_>,
+        schedule: &[usize],
+    ) -> Result<Making, AllocError> {
+        let mut making = Making {
+            rows: Vec::new(alloc),
+            made: Vec::new(alloc),
+        };
+        making.push_section(plan, Section::First)?;
+        making.begin_clients(plan)?;
+        for client in schedule {
+            making.push_line(plan, *client)?;
+        }
+        Ok(making)
+    }
+
+    fn begin_clients(&mut self, plan: &PlanScript<'_>) -> Result<(), AllocError> {
+        for _ in 0..plan.client_count() {
+            self.made.push(0)?;
+        }
+        Ok(())
+    }
+
+    /// The commands of a section.
+    pub(crate) fn push_section(
+        &mut self,
+        plan: &PlanScript<'_>,
+        section: Section,
+    ) -> Result<(), AllocError> {
+        for (index, row) in plan.rows.as_slice().iter().enumerate() {
+            if row.command_in(section).is_some() {
+                self.rows.push(index)?;
+            }
+        }
+        Ok(())
+    }
+
+    /// The next line of a client.
+    pub(crate) fn push_line(
+        &mut self,
+        plan: &PlanScript<'_>,
+        client: usize,
+    ) -> Result<(), AllocError> {
+        if let Some(index) = self.next_of(plan, client) {
+            self.rows.push(index)?;
+        }
+        if let Some(made) = self.made.get_mut(client) {
+            *made = made.saturating_add(1);
+        }
+        Ok(())
+    }
+
+    /// The row of the line that a client comes to.
+    pub(crate) fn next_of(&self, plan: &PlanScript<'_>, client: usize) -> Option<usize> {
+        let made = self.made.get(client)?;
+        plan.row_at(Section::Client(client), *made)
+    }
+
+    /// The rows of the lines that clients come to.
+    pub(crate) fn next_lines(
+        &self,
+        alloc: Global,
+        plan: &PlanScript<'_>,
+    ) -> Result<Vec<usize>, AllocError> {
+        let mut lines = Vec::new(alloc);
+        for client in 0..plan.client_count() {
+            if let Some(index) = self.next_of(plan, client) {
+                lines.push(index)?;
+            }
+        }
+        Ok(lines)
+    }
+
+    /// Makes the rows on a fresh desk.
+    pub(crate) fn run(
+        &self,
+        alloc: Global,
+        plan: &PlanScript<'_>,
+    ) -> Result<(Desk, Vec<Answer>), Refusal> {
+        let commands = commands_of(alloc, plan, self.rows.as_slice())?;
+        run(alloc, commands.as_slice())
+    }
+}
+
+fn commands_of(
+    alloc: Global,
+    plan: &PlanScript<'_>,
+    rows: &[usize],
+) -> Result<Vec<Command>, AllocError> {
+    let mut commands = Vec::new(alloc);
+    for index in rows {
+        if let Some(command) = plan.command_of(*index) {
+            commands.push(command)?;
+        }
+    }
+    Ok(commands)
+}

@@ -1,0 +1,297 @@
+//! A report as text: a line for each finding, as editors read them, and the totals last.
+use crate::case::Case;
+use crate::context::Section;
+use crate::expected::Finding;
+use crate::page::Page;
+use crate::plan_script::PlanScript;
+use crate::report::Report;
+use crate::row::Row;
+use crate::schedule::Making;
+use crate::why::add_why;
+use desk_core::Desk;
+use point_core::Refusal;
+use std::alloc::AllocError;
+
+/// The most answers that are listed of a line.
+const LISTED: usize = 6;
+
+/// The most answers that are named beside one that is wrong.
+const NAMED: usize = 2;
+
+pub(crate) fn text_of(
+    report: &Report<'_>,
+    name: &str,
+    everything: bool,
+) -> Result<Vec<u8>, Refusal> {
+    let mut page = Page::new(report.alloc);
+    add_stuck(report, name, &mut page)?;
+    add_findings(report, name, &mut page)?;
+    add_answers(report, name, everything, &mut page);
+    if report.found.covered {
+        add_unreached(report, name, &mut page);
+        add_totals(report, &mut page);
+    } else {
+        add_bound(report, &mut page);
+    }
+    page.finish()
+}
+
+/// The schedule that gets stuck, and why each client waits.
+fn add_stuck(report: &Report<'_>, name: &str, page: &mut Page) -> Result<(), Refusal> {
+    let Some(schedule) = &report.found.stuck else {
+        return Ok(());
+    };
+    let making = Making::of(report.alloc, report.plan, schedule.as_slice())?;
+    page.text(name);
+    page.text(": stuck after ");
+    page.count(schedule.len());
+    page.text(" of ");
+    page.count(report.plan.line_count());
+    page.text(" steps");
+    if report.found.covered {
+        page.text("; no schedule gets stuck sooner");
+    }
+    page.text(" (schedule 1)\n");
+    let next = making.next_lines(report.alloc, report.plan)?;
+    let (mut desk, _) = making.run(report.alloc, report.plan)?;
+    for index in &next {
+        add_waiting(report, name, *index, &mut desk, page)?;
+    }
+    add_making(report.plan, making.rows.as_slice(), page);
+    Ok(())
+}
+
+/// A line at which a client waits. The desk refuses it, and so stays as it is.
+fn add_waiting(
+    report: &Report<'_>,
+    name: &str,
+    index: usize,
+    desk: &mut Desk,
+    page: &mut Page,
+) -> Result<(), Refusal> {
+    if let Some(command) = report.plan.command_of(index) {
+        add_head(report.plan, name, index, page);
+        add_why(desk, &command, page);
+        page.text("\n");
+    }
+    Ok(())
+}
+
+/// `FILE:LINE: CLIENT: COMMAND: `.
+fn add_head(plan: &PlanScript<'_>, name: &str, index: usize, page: &mut Page) {
+    let Some(row) = plan.rows.get(index) else {
+        return;
+    };
+    page.text(name);
+    page.text(":");
+    page.count(row.number);
+    page.text(": ");
+    page.bytes(plan.client_of(row));
+    page.text(": ");
+    page.bytes(plan.text(row));
+    page.text(": ");
+}
+
+/// `    by CLIENT LINE..LINE, ..`: the lines of clients, in the order of making.
+fn add_making(plan: &PlanScript<'_>, rows: &[usize], page: &mut Page) {
+    let mut front = "    by ";
+    let mut run: Option<Run> = None;
+    for index in rows {
+        let Some(line) = Run::of(plan, *index) else {
+            continue;
+        };
+        run = match run {
+            Some(run) if run.client == line.client => Some(Run {
+                last: line.last,
+                ..run
+            }),
+            Some(run) => {
+                run.add(plan, front, page);
+                front = ", ";
+                Some(line)
+            }
+            None => Some(line),
+        };
+    }
+    match run {
+        Some(run) => run.add(plan, front, page),
+        None => {
+            page.text("    by nobody");
+        }
+    }
+    page.text("\n");
+}
+
+/// Lines of one client that are made one after another, by the numbers of the first and the last.
+#[derive(Clone, Copy)]
+struct Run {
+    client: usize,
+    first: usize,
+    last: usize,
+}
+
+impl Run {
+    /// The line of that row, if it is a client's.
+    fn of(plan: &PlanScript<'_>, index: usize) -> Option<Run> {
+        let row = plan.rows.get(index)?;
+        match row.context.section {
+            Section::Client(client) => Some(Run {
+                client,
+                first: row.number,
+                last: row.number,
+            }),
+            Section::First | Section::Last => None,
+        }
+    }
+
+    fn add(&self, plan: &PlanScript<'_>, front: &str, page: &mut Page) {
+        page.text(front);
+        page.bytes(plan.client_name(self.client));
+        page.text(" ");
+        page.count(self.first);
+        if self.last != self.first {
+            page.text("..");
+            page.count(self.last);
+        }
+    }
+}
+
+/// Each answer that is wrong, with the number of its schedule.
+fn add_findings(report: &Report<'_>, name: &str, page: &mut Page) -> Result<(), Refusal> {
+    let mut number = report.stuck();
+    for case in report.cases.as_slice() {
+        if let Some(finding) = case.finding {
+            number = number.saturating_add(1);
+            add_finding(report, name, case, finding, number, page)?;
+        }
+    }
+    Ok(())
+}
+
+fn add_finding(
+    report: &Report<'_>,
+    name: &str,
+    case: &Case,
+    finding: Finding,
+    number: usize,
+    page: &mut Page,
+) -> Result<(), AllocError> {
+    add_head(report.plan, name, case.row, page);
+    match finding {
+        Finding::Unexpected => {
+            page.text("expected ");
+            add_expected(report.plan, case.row, page);
+            page.text(", came ");
+            page.quoted(case.text.as_slice());
+        }
+        Finding::Refused => {
+            page.text("can be refused: ");
+            page.quoted(case.text.as_slice());
+        }
+    }
+    add_others(report, case, page);
+    page.text(" (schedule ");
+    page.count(number);
+    page.text(")\n");
+    let making = case.making(report.alloc, report.plan)?;
+    add_making(report.plan, making.rows.as_slice(), page);
+    Ok(())
+}
+
+/// The answers that are expected of a row.
+fn add_expected(plan: &PlanScript<'_>, index: usize, page: &mut Page) {
+    let mut front = "\"";
+    for row in plan.expectations(index) {
+        if row.begins_answer() && front != "\"" {
+            front = "\" or \"";
+        }
+        page.text(front);
+        page.escaped(plan.expected(row));
+        front = "; ";
+    }
+    page.text("\"");
+}
+
+/// The answers of other schedules that are not wrong.
+fn add_others(report: &Report<'_>, case: &Case, page: &mut Page) {
+    let mut named: usize = 0;
+    for other in report.cases_of(case.row) {
+        if other.finding.is_none() && named < NAMED {
+            let front = if named == 0 {
+                ", though another schedule answers "
+            } else {
+                ", "
+            };
+            page.text(front);
+            page.quoted(other.text.as_slice());
+            named += 1;
+        }
+    }
+    if named == 0 && report.found.covered {
+        page.text(", in every schedule that gets there");
+    }
+}
+
+/// The lines that have several answers, none of them wrong; with `everything`, all lines.
+fn add_answers(report: &Report<'_>, name: &str, everything: bool, page: &mut Page) {
+    for (index, row) in report.plan.rows.as_slice().iter().enumerate() {
+        let cases = report.cases_of(index);
+        if row.is_command() && (everything || depends(cases)) && !cases.is_empty() {
+            add_head(report.plan, name, index, page);
+            add_listed(cases, page);
+        }
+    }
+}
+
+fn depends(cases: &[Case]) -> bool {
+    cases.len() > 1 && cases.iter().all(|case| case.finding.is_none())
+}
+
+fn add_listed(cases: &[Case], page: &mut Page) {
+    let mut front = if cases.len() > 1 {
+        "depends on the schedule: "
+    } else {
+        "always "
+    };
+    for case in cases.iter().take(LISTED) {
+        page.text(front);
+        page.quoted(case.text.as_slice());
+        front = " or ";
+    }
+    if cases.len() > LISTED {
+        page.text(" or ");
+        page.count(cases.len() - LISTED);
+        page.text(" more");
+    }
+    page.text("\n");
+}
+
+/// The lines of clients that no schedule makes.
+fn add_unreached(report: &Report<'_>, name: &str, page: &mut Page) {
+    for (index, row) in report.plan.rows.as_slice().iter().enumerate() {
+        if row.is_line() && report.cases_of(index).is_empty() {
+            add_head(report.plan, name, index, page);
+            page.text("is never reached\n");
+        }
+    }
+}
+
+fn add_totals(report: &Report<'_>, page: &mut Page) {
+    page.text("covered: every schedule; clients: ");
+    page.count(report.plan.client_count());
+    page.text(", lines: ");
+    page.count(report.plan.line_count());
+    page.text(", states: ");
+    page.count(report.found.states);
+    page.text(", stuck: ");
+    page.count(report.stuck());
+    page.text(", findings: ");
+    page.count(report.findings());
+    page.text("\n");
+}
+
+fn add_bound(report: &Report<'_>, page: &mut Page) {
+    page.text("not covered: more than ");
+    page.count(report.found.states);
+    page.text(" states; what is above was found in some of the schedules\n");
+}
