@@ -6,21 +6,22 @@ _fencectl() {
     while [ "${COMP_WORDS[at]-}" = --color ] && [ "$at" -lt "$COMP_CWORD" ]; do at=$((at + 2)); done
     [ "$at" -ge "$COMP_CWORD" ] || command="${COMP_WORDS[at]}"
     case "$command" in
-    "") words="run check explain trace draw clients help --help --version" ;;
+    "") words="run check explain trace draw clients explore help --help --version" ;;
     run) words="--json --help" ;;
     explain) words="--help" ;;
     check) words="--quiet --tap --allow-empty --update --help" ;;
     trace) words="--json --script --draw --perfetto --from --to --help" files="*" ;;
     draw) words="--graph --line --lines --output --help" ;;
     clients) words="--locks --help" takes_files="" ;;
-    help) words="run check explain trace draw clients" takes_files="" ;;
+    explore) words="--json --states --witness --answers --help" files="*.plan" ;;
+    help) words="run check explain trace draw clients explore" takes_files="" ;;
     *) takes_files="" ;;
     esac
     [ -z "$words" ] || [ "$command" = help ] || words+=" --color"
     case "${COMP_WORDS[COMP_CWORD - 1]}" in
     --color) words="auto always never" takes_files="" ;;
-    --output) words="" files="*" ;;
-    --from | --to | --line | --lines) words="" takes_files="" ;;
+    --output | --witness) words="" files="*" ;;
+    --from | --to | --line | --lines | --states) words="" takes_files="" ;;
     esac
     mapfile -t COMPREPLY < <(compgen -W "$words" -- "$word")
     [ -z "$takes_files" ] || mapfile -t -O "${#COMPREPLY[@]}" COMPREPLY < <(

@@ -1,6 +1,6 @@
 # Completion of fencectl for fish.
 
-set -l commands run check explain trace draw clients help
+set -l commands run check explain trace draw clients explore help
 
 complete -c fencectl -n "not __fish_seen_subcommand_from $commands" -a run -d 'Run a script, and print its answers'
 complete -c fencectl -n "not __fish_seen_subcommand_from $commands" -a check -d 'Run scripts, and compare their answers with those that they expect'
@@ -8,6 +8,7 @@ complete -c fencectl -n "not __fish_seen_subcommand_from $commands" -a explain -
 complete -c fencectl -n "not __fish_seen_subcommand_from $commands" -a trace -d 'Report what hangs in a trace of dma_fence events'
 complete -c fencectl -n "not __fish_seen_subcommand_from $commands" -a draw -d 'Draw what a script does, or what it leaves'
 complete -c fencectl -n "not __fish_seen_subcommand_from $commands" -a clients -d 'Run clients on threads against shared buffers'
+complete -c fencectl -n "not __fish_seen_subcommand_from $commands" -a explore -d 'Decide a plan of clients over every schedule'
 complete -c fencectl -n "not __fish_seen_subcommand_from $commands" -a help -d 'Print help'
 complete -c fencectl -n "not __fish_seen_subcommand_from $commands" -l version -d 'Print the version'
 complete -c fencectl -l color -x -a 'auto always never' -d 'Colour help, checks and explanations'
@@ -29,4 +30,8 @@ complete -c fencectl -n '__fish_seen_subcommand_from draw' -x -l lines -d 'Draw 
 complete -c fencectl -n '__fish_seen_subcommand_from draw' -r -l output -d 'Write this file'
 complete -c fencectl -n '__fish_seen_subcommand_from clients' -f
 complete -c fencectl -n '__fish_seen_subcommand_from clients' -l locks -d 'Share buffers under locks'
-complete -c fencectl -n '__fish_seen_subcommand_from help' -f -a 'run check explain trace draw clients'
+complete -c fencectl -n '__fish_seen_subcommand_from explore' -l json -d 'Write the report as JSON'
+complete -c fencectl -n '__fish_seen_subcommand_from explore' -x -l states -d 'Visit this many states at most'
+complete -c fencectl -n '__fish_seen_subcommand_from explore' -r -l witness -d 'Write the schedules that are shown as scripts'
+complete -c fencectl -n '__fish_seen_subcommand_from explore' -l answers -d 'List the answers of all lines'
+complete -c fencectl -n '__fish_seen_subcommand_from help' -f -a 'run check explain trace draw clients explore'

@@ -32,6 +32,7 @@ ends_among kinds kind (action.Explain script) among ends = tt
 ends_among kinds kind (action.Trace trace) among ends = tt
 ends_among kinds kind (action.Draw draw) among ends = tt
 ends_among kinds kind (action.Clients clients) among ends = tt
+ends_among kinds kind (action.Explore explore) among ends = tt
 
 -- the program ends by the kind of the error
 pub ends_by : (kinds : Kinds) (kind : ErrorKind) (result : Result Action Refusal) → (kind ≡ OutOfMemory → result ≡ Err Memory)
@@ -51,6 +52,7 @@ asked_stays kinds asked (action.Explain script) is = tt
 asked_stays kinds asked (action.Trace trace) is = tt
 asked_stays kinds asked (action.Draw draw) is = tt
 asked_stays kinds asked (action.Clients clients) is = tt
+asked_stays kinds asked (action.Explore explore) is = tt
 
 pub usage_fault : (words : List Text) (refusal : Refusal) → (refusal ≡ WriteFault) ⊎ (refusal ≡ Memory) → IsUsageFault words refusal
 usage_fault words refusal (inl write) = inl write

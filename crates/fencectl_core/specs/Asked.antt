@@ -14,6 +14,7 @@ use Rattle.fencectl_core.specs.declared.action.Action.{Action}
 use Rattle.fencectl_core.specs.declared.action.Action.TheVariants as action
 use Rattle.fencectl_core.specs.declared.action.Check.{Check as CheckAction}
 use Rattle.fencectl_core.specs.declared.action.Draw.{Draw as DrawAction}
+use Rattle.fencectl_core.specs.declared.action.Explore.{Explore as ExploreAction}
 use Rattle.fencectl_core.specs.declared.action.Trace.{Trace as TraceAction}
 use Rattle.fencectl_core.specs.declared.action.Report.{Report}
 use Rattle.fencectl_core.specs.declared.action.Report.TheVariants as report
@@ -45,6 +46,14 @@ pub record AskedDraw : Type 0 where
   pub lines : Option Text
   pub output : Option Text
 
+-- an exploration of a plan: of its file, or of standard input; what is written, and the texts of the options
+pub record AskedExplore : Type 0 where
+  pub file : Option Text
+  pub is_json : Bool
+  pub states : Option Text
+  pub witness : Option Text
+  pub answers : Bool
+
 -- a script has the name of its file, or none on standard input; clients have their number, their rounds and their table
 pub data Asked : Type 0 where
   Run : Option Text → Asked
@@ -55,6 +64,7 @@ pub data Asked : Type 0 where
   Trace : AskedTrace → Asked
   Draw : AskedDraw → Asked
   Clients : ℕ → ℕ → Table → Asked
+  Explore : AskedExplore → Asked
 
 abbrev pub number_named : Option Text → ℕ
 number_named None = 0
@@ -120,6 +130,15 @@ draw_after rows = record {
   output = first_of (codes "output") rows;
 }
 
+abbrev pub explore_after : List Row → AskedExplore
+explore_after rows = record {
+  file = file_named (first_of (codes "FILE") rows);
+  is_json = flag_named (one_of (codes "json") rows);
+  states = first_of (codes "states") rows;
+  witness = first_of (codes "witness") rows;
+  answers = flag_named (one_of (codes "answers") rows);
+}
+
 -- of a script, by the word of a subcommand
 abbrev pub asked_on : Text → List Row → Asked
 asked_on word rows = if bytes_eq word (codes "explain") then Explain (script_named rows) else run_or_json rows
@@ -131,6 +150,7 @@ asked_after word rows =
     else if bytes_eq word (codes "check") then check_or_update rows
     else if bytes_eq word (codes "trace") then Trace (trace_after rows)
     else if bytes_eq word (codes "draw") then Draw (draw_after rows)
+    else if bytes_eq word (codes "explore") then Explore (explore_after rows)
     else asked_on word rows
 
 -- without a subcommand the script of standard input is run
@@ -165,6 +185,15 @@ asked_of_draw draw = record {
   output = option_map (λ t. t.now) draw.output;
 }
 
+abbrev pub asked_of_explore : ExploreAction → AskedExplore
+asked_of_explore explore = record {
+  file = file_of explore.script;
+  is_json = explore.is_json;
+  states = option_map (λ t. t.now) explore.states;
+  witness = option_map (λ t. t.now) explore.witness;
+  answers = explore.answers;
+}
+
 -- nothing if the program is to end
 abbrev pub asked_of : Action → Option Asked
 asked_of (action.Run script) = Some (Run (file_of script))
@@ -175,6 +204,7 @@ asked_of (action.Explain script) = Some (Explain (file_of script))
 asked_of (action.Trace trace) = Some (Trace (asked_of_trace trace))
 asked_of (action.Draw draw) = Some (Draw (asked_of_draw draw))
 asked_of (action.Clients clients) = Some (Clients clients.count clients.rounds clients.table)
+asked_of (action.Explore explore) = Some (Explore (asked_of_explore explore))
 asked_of (action.End status) = None
 
 -- the second of two words is asked for as the name of a script's file
@@ -211,6 +241,7 @@ EndsBy kinds (action.Explain script) = Unit {0}
 EndsBy kinds (action.Trace trace) = Unit {0}
 EndsBy kinds (action.Draw draw) = Unit {0}
 EndsBy kinds (action.Clients clients) = Unit {0}
+EndsBy kinds (action.Explore explore) = Unit {0}
 
 abbrev pub asks_clients : Option (Text × List Row) → Bool
 asks_clients None = false

@@ -62,8 +62,13 @@ abbrev pub clients_app : App
 clients_app = with_rules (new_app (codes "clients"))
     (number_rule (codes "N") CLIENTS ∷ number_rule (codes "ROUNDS") ROUNDS ∷ flag_rule (codes "locks") ∷ [])
 
+abbrev pub explore_app : App
+explore_app = with_rules (new_app (codes "explore"))
+    (file_rule (codes "FILE") ∷ flag_rule (codes "json") ∷ option_rule (codes "states") ∷ option_rule (codes "witness")
+    ∷ flag_rule (codes "answers") ∷ [])
+
 abbrev pub apps : List App
-apps = run_app ∷ check_app ∷ explain_app ∷ trace_app ∷ draw_app ∷ clients_app ∷ []
+apps = run_app ∷ check_app ∷ explain_app ∷ trace_app ∷ draw_app ∷ clients_app ∷ explore_app ∷ []
 
 -- without its subcommands
 abbrev pub program_app : App

@@ -24,6 +24,8 @@ pub(crate) enum Action<'a> {
     Draw(Draw<'a>),
     /// Run clients on threads, and print what they settle.
     Clients(Clients),
+    /// Decide a plan over every schedule, and report what is found.
+    Explore(Explore<'a>),
     /// End with this status: help or the version is printed, or wrong usage is reported.
     End(u8),
 }
@@ -80,6 +82,20 @@ pub(crate) struct Trace<'a> {
     pub from: Option<&'a str>,
     /// The end of the window.
     pub to: Option<&'a str>,
+}
+
+/// The options of `explore`. The texts are as the command line has them.
+#[derive(Clone, Copy)]
+pub(crate) struct Explore<'a> {
+    pub script: Input<'a>,
+    /// Whether the report is JSON.
+    pub is_json: bool,
+    /// The most states that are visited.
+    pub states: Option<&'a str>,
+    /// The front of the names of the files that get the schedules.
+    pub witness: Option<&'a str>,
+    /// Whether the answers of all lines are listed.
+    pub answers: bool,
 }
 
 /// The number of clients, the rounds that each makes, and the table that they share.

@@ -81,12 +81,17 @@ buffer the points that are pending.
 
 `fencectl run --json` writes a JSON object for each answer, on a line of its own.
 
+`fencectl explore` reads a plan, a script whose notes `#client NAME` begin the lines of a client.
+It decides the plan over every schedule of the clients: whether it can get stuck, and what each line
+can be answered.
+
 Exit status:
   0  every line was accepted; of a check: every script passes; of clients: they settled;
-     of a report of a trace: nothing hangs, and no rule is broken
+     of a report of a trace: nothing hangs, and no rule is broken; of a plan: nothing is found
   1  a line was refused; of a check: an answer differs, or a script expects nothing;
-     of a report of a trace: a fence hangs, or a rule is broken
-  2  wrong usage, or a fault of reading, writing, memory or threads
+     of a report of a trace: a fence hangs, or a rule is broken; of a plan: something is found
+  2  wrong usage, no plan, a plan of too many states, or a fault of reading, writing, memory or
+     threads
 
 Examples:
   printf 'timeline gpu\\nfence frame gpu 5\\ninfo frame\\n' | fencectl
@@ -94,6 +99,7 @@ Examples:
   fencectl check examples
   fencectl draw --output first.svg examples/first.fence
   fencectl clients 2 3
+  fencectl explore examples/plans/compositor.plan
 ";
 
 /// Parses the words of the command line; the first is the program's name. A failed allocation is an error of its own kind.

@@ -13,11 +13,13 @@ ghost use Rattle.fencectl_core.specs.Asked.{
   asked_of,
   asked_of_check,
   asked_of_draw,
+  asked_of_explore,
   asked_of_trace,
   asked_on,
   check_after,
   check_or_update,
   draw_after,
+  explore_after,
   flag_named,
   number_named,
   paths_named,
@@ -27,10 +29,11 @@ ghost use Rattle.fencectl_core.specs.Asked.{
   trace_after,
 };
 
-use crate::action::{Action, Check, Clients, Draw, Report, Table, Trace};
+use crate::action::{Action, Check, Clients, Draw, Explore, Report, Table, Trace};
 use crate::subcommands::{
-    ALLOW_EMPTY, CHECK, CLIENTS_WORD, COUNT, DRAW, EXPLAIN, FILE, FROM, GRAPH, JSON, LINE, LINES,
-    LOCKS, OUTPUT, PATH, PERFETTO, QUIET, ROUNDS_WORD, SCRIPT, TAP, TO, TRACE, UPDATE,
+    ALLOW_EMPTY, ANSWERS, CHECK, CLIENTS_WORD, COUNT, DRAW, EXPLAIN, EXPLORE, FILE, FROM, GRAPH,
+    JSON, LINE, LINES, LOCKS, OUTPUT, PATH, PERFETTO, QUIET, ROUNDS_WORD, SCRIPT, STATES_OPTION,
+    TAP, TO, TRACE, UPDATE, WITNESS,
 };
 use clap::ArgMatches;
 use clients_core::{CLIENTS, ROUNDS};
@@ -73,6 +76,9 @@ fn action_after<'a>(
     }
     if word == DRAW {
         return Ok(Action::Draw(draw_of(matches)));
+    }
+    if word == EXPLORE {
+        return Ok(Action::Explore(explore_of(matches)));
     }
     Ok(action_on(word, matches))
 }
@@ -142,6 +148,18 @@ fn draw_of<'a>(matches: &ArgMatches<'a>) -> Draw<'a>
         line: text_of(matches, LINE),
         lines: text_of(matches, LINES),
         output: text_of(matches, OUTPUT),
+    }
+}
+
+fn explore_of<'a>(matches: &ArgMatches<'a>) -> Explore<'a>
+    ensures asked { asked_of_explore result ≡ explore_after (rows_of (found_of matches.now)) }
+{
+    Explore {
+        script: script_of(matches),
+        is_json: has_flag(matches, JSON),
+        states: text_of(matches, STATES_OPTION),
+        witness: text_of(matches, WITNESS),
+        answers: has_flag(matches, ANSWERS),
     }
 }
 

@@ -171,7 +171,7 @@ pub(crate) fn report_mistake(rt: &HostRuntime, message: &str) -> Result<u8, Refu
     Ok(FAULT)
 }
 
-fn script_of(rt: &HostRuntime, script: Input<'_>) -> Result<Vec<u8>, Refusal> {
+pub(crate) fn script_of(rt: &HostRuntime, script: Input<'_>) -> Result<Vec<u8>, Refusal> {
     let mut source = Source::open(rt, script, rt.stdin())?;
     read_script(rt, &mut source)
 }

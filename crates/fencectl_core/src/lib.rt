@@ -10,6 +10,7 @@ mod asked;
 mod clients;
 mod color;
 mod drawing;
+mod exploring;
 mod fault;
 mod paint;
 mod reasons;

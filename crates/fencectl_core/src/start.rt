@@ -3,6 +3,7 @@ use crate::action::{Action, Check, Clients, Report};
 use crate::clients::report_clients;
 use crate::color::{ColorChoice, Colors, take_color};
 use crate::drawing::draw;
+use crate::exploring::explore;
 use crate::fault::{FAULT, tell_fault};
 use crate::run::run_script;
 use crate::scripts::{explain_script, json_script};
@@ -95,6 +96,7 @@ fn act<T: Threads + Wait + Sync>(
             write_clients(threads, rt.alloc(), &clients, &mut rt.stdout())?;
             Ok(ACCEPTED)
         }
+        Action::Explore(asked) => explore(rt, &asked),
         Action::End(status) => Ok(status),
     }
 }

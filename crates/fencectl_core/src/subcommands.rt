@@ -90,6 +90,15 @@ pub(crate) const ROUNDS_WORD: &str = "ROUNDS";
 /// Asks for buffers under locks.
 pub(crate) const LOCKS: &str = "locks";
 
+/// The word for an exploration of a plan, and its options.
+pub(crate) const EXPLORE: &str = "explore";
+
+pub(crate) const STATES_OPTION: &str = "states";
+
+pub(crate) const WITNESS: &str = "witness";
+
+pub(crate) const ANSWERS: &str = "answers";
+
 static SUBCOMMANDS: &[Subcommand] = &[
     Subcommand {
         word: RUN,
@@ -237,6 +246,37 @@ static SUBCOMMANDS: &[Subcommand] = &[
                 name: LOCKS,
                 form: ArgumentForm::Flag,
                 help: "Shares buffers under locks instead of a lock-free board",
+            },
+        ],
+    },
+    Subcommand {
+        word: EXPLORE,
+        about: "Decides a plan of clients over every schedule, and reports what can go wrong",
+        arguments: &[
+            Argument {
+                name: FILE,
+                form: ArgumentForm::File,
+                help: "The plan's file, or - for standard input",
+            },
+            Argument {
+                name: JSON,
+                form: ArgumentForm::Flag,
+                help: "Writes the report as JSON, an object on each line",
+            },
+            Argument {
+                name: STATES_OPTION,
+                form: ArgumentForm::Option("N"),
+                help: "Visits N states at most instead of 1,000,000",
+            },
+            Argument {
+                name: WITNESS,
+                form: ArgumentForm::Option("PREFIX"),
+                help: "Writes the schedules that are shown as scripts PREFIX-1.fence, PREFIX-2.fence ..",
+            },
+            Argument {
+                name: ANSWERS,
+                form: ArgumentForm::Flag,
+                help: "Lists the answers of all lines",
             },
         ],
     },
