@@ -1,0 +1,192 @@
+#!/usr/bin/env python3
+"""Random plans, each decided by `fencectl explore --json` and by running all of its schedules, which must agree.
+
+usage: tests/explore/schedules.py PROGRAM [--plans N] [--from SEED]
+
+Compared are the answers of each line, whether a schedule gets stuck, and after how many steps at least. Each schedule that is
+reported is run too, and has to give its answer. What a schedule answers is asked of `PROGRAM run`.
+"""
+import argparse
+import concurrent.futures
+import functools
+import json
+import random
+import subprocess
+import sys
+
+TIMELINES, FILES, BUFFERS = ("t", "u"), ("f", "g", "h", "i"), ("b", "c")
+USAGES, FLAGS = ("kernel", "write", "read", "bookkeep"), ("read", "write", "rw")
+
+
+def command(rng):
+    """Returns a random command that any section may have."""
+    one = rng.choice
+    return one((
+        lambda: f"inc {one(TIMELINES)} {rng.randint(0, 2)}",
+        lambda: f"inc {one(TIMELINES)} 1",
+        lambda: f"fence {one(FILES)} {one(TIMELINES)} {rng.randint(0, 3)}",
+        lambda: f"fence {one(FILES)} {one(TIMELINES)} {rng.randint(1, 3)}",
+        lambda: f"merge {one(FILES)} {one(FILES)} {one(FILES)}",
+        lambda: f"wait {one(FILES)}",
+        lambda: f"wait {one(FILES)}",
+        lambda: f"info {one(FILES)}",
+        lambda: f"close {one(FILES)}",
+        lambda: f"test {one(BUFFERS)} {one(USAGES)}",
+        lambda: f"export {one(FILES)} {one(BUFFERS)} {one(FLAGS)}",
+        lambda: f"import {one(BUFFERS)} {one(FILES)} {one(FLAGS)}",
+        lambda: f"add {one(BUFFERS)} {one(TIMELINES)} {rng.randint(0, 3)} {one(USAGES)}",
+        lambda: f"value {one(TIMELINES)}",
+        lambda: f"shut {one(TIMELINES)}",
+        lambda: f"show {one(BUFFERS)}",
+        lambda: f"trim {one(BUFFERS)}",
+        lambda: f"timeline {one(TIMELINES)}",
+        lambda: f"buffer {one(BUFFERS)}",
+    ))()
+
+
+class Plan:
+    """A random plan: its commands by number of line, and the lines of its sections."""
+
+    def __init__(self, seed):
+        rng = random.Random(seed)
+        self.text, self.commands = [], {}
+        self.first = [self.add(line) for line in ["timeline t", "timeline u", "buffer b", "buffer c"][:rng.randint(2, 4)]]
+        self.first += [self.add(f"fence {name} {rng.choice(TIMELINES)} {rng.randint(1, 3)}") for name in FILES[:rng.randint(0, 2)]]
+        self.clients, self.waits = [], set()
+        for client, most in enumerate(rng.choice(((4, 4), (3, 4), (2, 2, 2), (3, 3)))):
+            self.text.append(f"#client c{client}")
+            self.clients.append([self.add_line(rng) for _ in range(rng.randint(1, most))])
+        self.text.append("#finally")
+        self.last = [self.add(command(rng)) for _ in range(rng.randint(0, 3))]
+
+    def add(self, line):
+        self.text.append(line)
+        self.commands[len(self.text)] = line
+        return len(self.text)
+
+    def add_line(self, rng):
+        awaited = rng.random() < 0.1
+        if awaited:
+            self.text.append("#await")
+        number = self.add(command(rng))
+        if awaited or self.commands[number].startswith("wait "):
+            self.waits.add(number)
+        return number
+
+    def script(self):
+        return "\n".join(self.text) + "\n"
+
+
+class Schedules:
+    """Runs all schedules of a plan."""
+
+    def __init__(self, program, plan):
+        self.program, self.plan = program, plan
+        self.given, self.stuck = set(), None
+        self.answers = functools.lru_cache(maxsize=None)(self.answers)
+
+    def answers(self, numbers):
+        """Returns the answers of these lines, one after another."""
+        objects = run([self.program, "run"], "".join(self.plan.commands[number] + "\n" for number in numbers)).stdout
+        found = []
+        for line in objects.splitlines():
+            if line.startswith(("ok", "err")) or not found:
+                found.append([])
+            found[-1].append(line)
+        return tuple(map(tuple, found))
+
+    def made(self, schedule):
+        """Returns the lines that a schedule makes, those of the first section included."""
+        left = [iter(lines) for lines in self.plan.clients]
+        return tuple(self.plan.first) + tuple(next(left[client]) for client in schedule)
+
+    def decide(self):
+        first = tuple(self.plan.first)
+        self.given |= set(zip(first, self.answers(first)))
+        self.go(first, tuple(0 for _ in self.plan.clients))
+        return self
+
+    def go(self, made, at):
+        """Makes each line that can be made now, and everything after it."""
+        moved = False
+        for client, lines in enumerate(self.plan.clients):
+            if at[client] == len(lines):
+                continue
+            number = lines[at[client]]
+            answer = self.answers(made + (number,))[-1]
+            if number in self.plan.waits and answer[0].startswith("err"):
+                continue
+            moved = True
+            self.given.add((number, answer))
+            self.go(made + (number,), at[:client] + (at[client] + 1,) + at[client + 1:])
+        if not moved:
+            self.end(made, at)
+
+    def end(self, made, at):
+        if any(place < len(lines) for place, lines in zip(at, self.plan.clients)):
+            steps = sum(at)
+            self.stuck = steps if self.stuck is None else min(steps, self.stuck)
+            return
+        ended = self.answers(made + tuple(self.plan.last))[len(made):]
+        self.given |= set(zip(self.plan.last, ended))
+
+
+def run(words, text):
+    return subprocess.run(words, input=text, capture_output=True, text=True, check=False)
+
+
+def difference(program, seed):
+    """Returns how the report of a plan differs from its schedules, or None."""
+    plan = Plan(seed)
+    told = run([program, "explore", "--json"], plan.script())
+    if told.returncode not in (0, 1) or told.stderr:
+        return f"its status is {told.returncode}: {told.stderr}"
+    objects = [json.loads(line) for line in told.stdout.splitlines()]
+    there = Schedules(program, plan).decide()
+    stuck = next((it["stuck"]["steps"] for it in objects if "stuck" in it and "covered" not in it), None)
+    if stuck != there.stuck:
+        return f"stuck after {stuck} steps, and not {there.stuck}"
+    if objects[-1]["covered"] is not True or objects[-1]["stuck"] != (there.stuck is not None):
+        return f"the totals are {objects[-1]}"
+    lines = [it for it in objects if "line" in it]
+    given = {(it["line"], tuple(one["answer"])) for it in lines for one in it["answers"]}
+    if given != there.given:
+        return f"only reported: {sorted(given - there.given)}; only there: {sorted(there.given - given)}"
+    for it in lines:
+        for one in it["answers"]:
+            wrong = wrong_schedule(there, it["line"], one)
+            if wrong:
+                return wrong
+    return None
+
+
+def wrong_schedule(there, number, one):
+    """Returns what is wrong with the schedule of an answer, or None."""
+    made = there.made([int(name[1:]) for name in one["schedule"]])
+    if number in there.plan.last:
+        made += tuple(there.plan.last)
+    if number not in made:
+        return f"the schedule of line {number} does not make it: {one}"
+    if there.answers(made)[made.index(number)] != tuple(one["answer"]):
+        return f"the schedule of line {number} answers otherwise: {one}"
+    return None
+
+
+def main():
+    parser = argparse.ArgumentParser(description=__doc__.splitlines()[0])
+    parser.add_argument("program")
+    parser.add_argument("--plans", type=int, default=60)
+    parser.add_argument("--from", type=int, default=1, dest="first")
+    asked = parser.parse_args()
+    seeds = range(asked.first, asked.first + asked.plans)
+    with concurrent.futures.ThreadPoolExecutor() as pool:
+        for seed, wrong in zip(seeds, pool.map(lambda seed: difference(asked.program, seed), seeds)):
+            if wrong:
+                print(f"seed {seed}: {wrong}\n{Plan(seed).script()}", end="")
+                return 1
+    print(f"plans: {asked.plans}, no difference")
+    return 0
+
+
+if __name__ == "__main__":
+    sys.exit(main())
