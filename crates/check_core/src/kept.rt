@@ -1,5 +1,5 @@
-//! The lines of a script that an update keeps: all but empty ones and those that expect a line of an answer. `update.rt` compares
-//! those of a rewritten script with the script's.
+//! The lines of a script that an update keeps: all but empty ones and notes that expect a line of an answer. `update.rt` checks
+//! that a rewritten script has them.
 ghost use Rattle.std.specs.Prelude.{◌≡◌, ◌++◌, IfOk, OnOk};
 ghost use Rattle.check_core.specs.Expected.{ended};
 ghost use Rattle.check_core.specs.Kept.{is_passing, kept, kept_line};
@@ -9,7 +9,7 @@ use line_core::first_line;
 use point_core::Refusal;
 use std::alloc::{AllocError, Global};
 
-/// Compares the lines that a rewritten script keeps with those of the script.
+/// Checks that a rewritten script has the lines that an update of the script keeps.
 ///
 /// Fails with `Torn` if one was lost, added or changed, and with `Memory`.
 pub(crate) fn compare_kept(alloc: Global, script: &[u8], text: &[u8]) -> Result<(), Refusal>

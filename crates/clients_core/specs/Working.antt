@@ -130,7 +130,8 @@ pub record HasRefused (puts : Puts) (exports : Exports) (words : WordsModel) (pl
 
 -- Why a run whose plans have no cause of refusal fails. Memory was refused; or on a table made for the plans a client was refused,
 -- and of the refused clients the one with the least number was refused so; or all plans were worked off, and the table is torn
-abbrev pub HasFailed : {T : Type 0} → (T → Puts) → (T → Exports) → (T → WordsModel) → ℕ → List (List Act) → Refusal → Type 0
+abbrev pub HasFailed : {T : Type 0} → (T → Puts) → (T → Exports) → (T → WordsModel) →
+    ℕ → List (List Act) → Refusal → Type 0
 HasFailed {T} puts exports made_for buffers plans refusal =
     (refusal ≡ Memory)
     ⊎ ((table : T) × ((made_for table).contexts ≡ length plans) × ((made_for table).buffers ≡ buffers)

@@ -12,7 +12,7 @@ use Rattle.command_core.specs.declared.answer.Answer.{Answer}
 use Rattle.desk_core.specs.theorem.World.{World, MadeFile, MadeBuffer, MadeWatch, after, file_named, put_set, buffer_put_set}
 use Rattle.desk_core.specs.theorem.Answer.{answer_to, is_refused, listed_points}
 
--- `info` is asked of such files alone, and no report, whose rows are in the order of making
+-- `info` is asked of such files only, and a report of none, since its rows are in the order of making
 abbrev pub AsksOnly : (List ℕ → Bool) → Command → Type 0
 AsksOnly asked (command.Info f) = asked f ≡ true
 AsksOnly asked command.Report = ⊥

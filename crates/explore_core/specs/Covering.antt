@@ -16,14 +16,15 @@ pub record GoOnAlike (asked : List ℕ → Bool) (now other : Standing) : Type 0
   pub made : now.made ≡ other.made
   pub worlds : AreAlike asked (world_of now.history) (world_of other.history)
 
--- one of them goes on as that standing does
+-- one of them continues as that standing does
 abbrev pub HasAlike : (List ℕ → Bool) → List Standing → Standing → Type 0
 HasAlike asked kept now = (other : Standing) × Contains kept other × GoOnAlike asked now other
 
 -- the beginning is alike to one of them, and so is what one of them comes to by a line of a client
 pub record AreEnough (asked : List ℕ → Bool) (plan : Lines) (kept : List Standing) : Type 0 where
   pub begins : HasAlike asked kept (beginning plan)
-  pub goes_on : (now next : Standing) (client : ℕ) → Contains kept now → after_one plan now client ≡ Some next → HasAlike asked kept next
+  pub goes_on : (now next : Standing) (client : ℕ) → Contains kept now →
+      after_one plan now client ≡ Some next → HasAlike asked kept next
 
 -- at one of them the client makes its line of that place, which is answered so
 pub record AnswersThere (plan : Lines) (kept : List Standing) (client place : ℕ) (given : Answer) : Type 0 where

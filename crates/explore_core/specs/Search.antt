@@ -128,7 +128,7 @@ pub record IsState (plan : Lines) (depth : ℕ) (state : State) : Type 0 where
   pub history : HasHistory desk (standing_of plan state.schedule.items).history
   pub look : Shows (is_asked plan) state.look desk
 
--- one of the states goes on as that standing does
+-- one of the states continues as that standing does
 abbrev pub HasLike : Lines → List State → Standing → Type 0
 HasLike plan states now =
     (state : State) × Contains states state × GoOnAlike (is_asked plan) now (standing_of plan state.schedule.items)
@@ -146,8 +146,10 @@ Keeps old state new =
 -- whatever was found is found still, and what is found anew comes about by schedules of that length
 pub record Grows (plan : Lines) (depth : ℕ) (old new : Found) : Type 0 where
   pub shown : IsTrue plan old → IsTrue plan new
-  pub given : (client place : ℕ) (answer : Answer) → Lists old.given.items client place answer → Lists new.given.items client place answer
-  pub ended : (client place : ℕ) (answer : Answer) → Lists old.ended.items client place answer → Lists new.ended.items client place answer
+  pub given : (client place : ℕ) (answer : Answer) →
+      Lists old.given.items client place answer → Lists new.given.items client place answer
+  pub ended : (client place : ℕ) (answer : Answer) →
+      Lists old.ended.items client place answer → Lists new.ended.items client place answer
   pub stuck : (shown : List ℕ) → stuck_of old ≡ Some shown → stuck_of new ≡ Some shown
   pub soon : ((shown : List ℕ) → stuck_of old ≡ Some shown → length shown ≤ depth)
       → (shown : List ℕ) → stuck_of new ≡ Some shown → length shown ≤ depth
@@ -179,7 +181,7 @@ pub record IsListed (plan : Lines) (found : Found) (now : Standing) : Type 0 whe
   pub ended : (place : ℕ) (answer : Answer) → Ends plan now place answer → Lists found.ended.items (length plan.clients) place answer
   pub stuck : IsStuck plan now → (shown : List ℕ) × (stuck_of found ≡ Some shown)
 
--- wherever a client comes by its next line, one of the states goes on alike
+-- wherever a client comes by its next line, one of the states continues alike
 abbrev pub IsExpanded : Lines → List State → Standing → Type 0
 IsExpanded plan next now = (client : ℕ) (later : Standing) → after_one plan now client ≡ Some later → HasLike plan next later
 
@@ -198,7 +200,7 @@ IsReached plan schedule client (reached.Made place given state) =
     × (after_one plan (standing_of plan schedule) client ≡ Some (standing_at plan state))
     × IsState plan (length schedule + 1) state
 
--- the client is done, waits, or goes on
+-- the client is done, waits, or makes its line
 abbrev pub IsMove : Lines → Standing → ℕ → Move → Type 0
 IsMove plan now client move.Done = next_line plan now client ≡ None
 IsMove plan now client move.Waits = (after_one plan now client ≡ None) × IsSome (next_line plan now client)
@@ -213,7 +215,7 @@ pub record IsTried (plan : Lines) (found : Found) (next : List State) (state : S
   pub followed : IsFollowed plan found next (standing_at plan state) client
   pub is : IsMove plan (standing_at plan state) client move
 
--- the first clients are done, wait, or one of them goes on
+-- the first clients are done, wait, or one of them makes its line
 abbrev pub AreMoves : Lines → Standing → ℕ → Move → Type 0
 AreMoves plan now clients move.Done = (client : ℕ) → client < clients → next_line plan now client ≡ None
 AreMoves plan now clients move.Waits =
@@ -253,7 +255,8 @@ pub record EndsAre (plan : Lines) (history : List Command) (schedule : Schedule)
 
 -- all answers at the end are listed
 abbrev pub HasEnds : Lines → Found → Standing → Type 0
-HasEnds plan found now = (place : ℕ) (answer : Answer) → Ends plan now place answer → Lists found.ended.items (length plan.clients) place answer
+HasEnds plan found now = (place : ℕ) (answer : Answer) →
+    Ends plan now place answer → Lists found.ended.items (length plan.clients) place answer
 
 -- nothing is found
 pub record IsEmptyFound (found : Found) : Type 0 where
@@ -261,11 +264,13 @@ pub record IsEmptyFound (found : Found) : Type 0 where
   pub ended : found.ended.items ≡ []
   pub stuck : found.stuck ≡ None
 
--- All schedules of that length come to standings that go on as a state does; whatever comes about by a shorter one is listed.
+-- All schedules of that length come to standings that continue as a state does; whatever comes about by a shorter one is listed.
 pub record IsCovered (plan : Lines) (found : Found) (depth : ℕ) (states : List State) : Type 0 where
   pub are : All (IsState plan depth) states
-  pub reached : (schedule : Schedule) (now : Standing) → length schedule ≡ depth → ComesTo plan schedule now → HasLike plan states now
-  pub listed : (schedule : Schedule) (now : Standing) → length schedule < depth → ComesTo plan schedule now → IsListed plan found now
+  pub reached : (schedule : Schedule) (now : Standing) →
+      length schedule ≡ depth → ComesTo plan schedule now → HasLike plan states now
+  pub listed : (schedule : Schedule) (now : Standing) →
+      length schedule < depth → ComesTo plan schedule now → IsListed plan found now
   pub soonest : (schedule : Schedule) (now : Standing) → length schedule < depth → ComesTo plan schedule now → IsStuck plan now
       → (shown : List ℕ) × (stuck_of found ≡ Some shown) × (length shown ≤ length schedule)
   pub soon : (shown : List ℕ) → stuck_of found ≡ Some shown → length shown ≤ depth

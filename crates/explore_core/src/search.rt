@@ -43,7 +43,7 @@ enum Move {
     Done,
     /// None can go on, and one of them waits.
     Waits,
-    /// One of them goes on.
+    /// One of them makes its line.
     Goes,
 }
 

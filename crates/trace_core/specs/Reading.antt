@@ -75,7 +75,8 @@ pub record IsPast (span : Span) (rest : Unpassed) (seen : List (Seen × Printed)
 
 -- The pieces of a text up to the end of a window: all of them, or those before the first event after the window. The newest come
 -- first.
-pub record HasReadWindow (span : Span) (before now : Option (List ℕ)) (items : List Meaning) (seen : List (Seen × Printed)) : Type 0 where
+pub record HasReadWindow (span : Span) (before now : Option (List ℕ)) (items : List Meaning) (seen : List (Seen × Printed))
+    : Type 0 where
   pub rest : Unpassed
   pub passed : HasPassed before now rest (reverse items)
   pub over : HasReadAll before now (reverse items) ⊎ IsPast span rest seen
