@@ -65,8 +65,8 @@ impl<'a> Report<'a> {
     /// is number 1.
     ///
     /// Fails with `Memory` only.
-    pub fn script(&self, name: &str, number: usize) -> Result<Option<Vec<u8>>, Refusal> {
-        witness::script_of(self, name, number)
+    pub fn script(&self, number: usize) -> Result<Option<Vec<u8>>, Refusal> {
+        witness::script_of(self, number)
     }
 
     /// How many answers are wrong.

@@ -228,7 +228,15 @@ fn add_others(report: &Report<'_>, case: &Case, page: &mut Page) {
         }
     }
     if named == 0 && report.found.covered {
-        page.text(", in every schedule that gets there");
+        page.text(no_other(case.finding));
+    }
+}
+
+/// What is said if every schedule was covered, and none gives a line an answer that is right.
+fn no_other(finding: Option<Finding>) -> &'static str {
+    match finding {
+        Some(Finding::Refused) => ", and no schedule accepts it",
+        _ => ", and no schedule answers as expected",
     }
 }
 
@@ -238,7 +246,7 @@ fn add_answers(report: &Report<'_>, name: &str, everything: bool, page: &mut Pag
         let cases = report.cases_of(index);
         if row.is_command() && (everything || depends(cases)) && !cases.is_empty() {
             add_head(report.plan, name, index, page);
-            add_listed(cases, page);
+            add_listed(cases, report.found.covered, page);
         }
     }
 }
@@ -247,11 +255,14 @@ fn depends(cases: &[Case]) -> bool {
     cases.len() > 1 && cases.iter().all(|case| case.finding.is_none())
 }
 
-fn add_listed(cases: &[Case], page: &mut Page) {
+/// The answers of a line. While schedules are left, its one answer is only the one that was seen.
+fn add_listed(cases: &[Case], is_covered: bool, page: &mut Page) {
     let mut front = if cases.len() > 1 {
         "depends on the schedule: "
-    } else {
+    } else if is_covered {
         "always "
+    } else {
+        "so far "
     };
     for case in cases.iter().take(LISTED) {
         page.text(front);
@@ -271,7 +282,7 @@ fn add_unreached(report: &Report<'_>, name: &str, page: &mut Page) {
     for (index, row) in report.plan.rows.as_slice().iter().enumerate() {
         if row.is_line() && report.cases_of(index).is_empty() {
             add_head(report.plan, name, index, page);
-            page.text("is never reached\n");
+            page.text("is never made\n");
         }
     }
 }
@@ -291,7 +302,7 @@ fn add_totals(report: &Report<'_>, page: &mut Page) {
 }
 
 fn add_bound(report: &Report<'_>, page: &mut Page) {
-    page.text("not covered: more than ");
+    page.text("not covered: stopped after ");
     page.count(report.found.states);
     page.text(" states; what is above was found in some of the schedules\n");
 }

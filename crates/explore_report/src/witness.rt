@@ -10,39 +10,27 @@ use point_core::Refusal;
 use script_core::print;
 use std::alloc::Global;
 
-pub(crate) fn script_of(
-    report: &Report<'_>,
-    name: &str,
-    number: usize,
-) -> Result<Option<Vec<u8>>, Refusal> {
+pub(crate) fn script_of(report: &Report<'_>, number: usize) -> Result<Option<Vec<u8>>, Refusal> {
     match &report.found.stuck {
-        Some(schedule) if number == 1 => {
-            Ok(Some(stuck_script(report, name, schedule.as_slice())?))
-        }
-        _ => finding_script(report, name, number),
+        Some(schedule) if number == 1 => Ok(Some(stuck_script(report, schedule.as_slice())?)),
+        _ => finding_script(report, number),
     }
 }
 
 /// A schedule that gets stuck, with the lines at which the clients are.
-fn stuck_script(report: &Report<'_>, name: &str, schedule: &[usize]) -> Result<Vec<u8>, Refusal> {
+fn stuck_script(report: &Report<'_>, schedule: &[usize]) -> Result<Vec<u8>, Refusal> {
     let mut making = Making::of(report.alloc, report.plan, schedule)?;
     let going = making.rows.len();
     let mut next = making.next_lines(report.alloc, report.plan)?;
     making.rows.append(&mut next)?;
     let mut page = Page::new(report.alloc);
-    page.text("# a shortest schedule of ");
-    page.text(name);
-    page.text(" that gets stuck\n");
+    page.text("# a shortest schedule that gets stuck\n");
     add_steps(report, &making, going, &mut page)?;
     page.finish()
 }
 
 /// The schedule of an answer that is wrong.
-fn finding_script(
-    report: &Report<'_>,
-    name: &str,
-    number: usize,
-) -> Result<Option<Vec<u8>>, Refusal> {
+fn finding_script(report: &Report<'_>, number: usize) -> Result<Option<Vec<u8>>, Refusal> {
     let mut reached = report.stuck();
     for case in report.cases.as_slice() {
         if case.finding.is_none() {
@@ -50,25 +38,21 @@ fn finding_script(
         }
         reached = reached.saturating_add(1);
         if reached == number {
-            return Ok(Some(case_script(report, name, case)?));
+            return Ok(Some(case_script(report, case)?));
         }
     }
     Ok(None)
 }
 
-fn case_script(report: &Report<'_>, name: &str, case: &Case) -> Result<Vec<u8>, Refusal> {
+fn case_script(report: &Report<'_>, case: &Case) -> Result<Vec<u8>, Refusal> {
     let mut making = case.making(report.alloc, report.plan)?;
     if report.plan.section_of(case.row).is_same(Section::Last) {
         making.push_section(report.plan, Section::Last)?;
     }
     let mut page = Page::new(report.alloc);
-    page.text("# a schedule of ");
-    page.text(name);
-    page.text(" in which line ");
+    page.text("# a schedule that gives line ");
     page.count(report.plan.number_of(case.row));
-    page.text(" answers ");
-    page.escaped(case.text.as_slice());
-    page.text("\n");
+    page.text(" a wrong answer\n");
     let going = making.rows.len();
     add_steps(report, &making, going, &mut page)?;
     page.finish()
