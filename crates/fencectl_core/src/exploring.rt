@@ -88,27 +88,24 @@ fn report_found(
     write_report(rt, asked, &report)
 }
 
+/// Writes the report, and then the schedules, so that a file in their place doesn't cost the report.
 fn write_report(rt: &HostRuntime, asked: &Explore<'_>, report: &Report<'_>) -> Result<u8, Refusal> {
-    if let Some(prefix) = asked.witness {
-        write_schedules(rt, name_of(asked), prefix, report)?;
-    }
     let document = if asked.is_json {
         report.json()?
     } else {
         report.text(name_of(asked), asked.answers)?
     };
-    write_output(rt, document.as_slice(), status_of(report.outcome()))
+    let status = write_output(rt, document.as_slice(), status_of(report.outcome()))?;
+    if let Some(prefix) = asked.witness {
+        write_schedules(rt, prefix, report)?;
+    }
+    Ok(status)
 }
 
 /// Writes each schedule to a file of its own. A file that is there stays, and is a fault.
-fn write_schedules(
-    rt: &HostRuntime,
-    name: &str,
-    prefix: &str,
-    report: &Report<'_>,
-) -> Result<(), Refusal> {
+fn write_schedules(rt: &HostRuntime, prefix: &str, report: &Report<'_>) -> Result<(), Refusal> {
     for number in 1..usize::MAX {
-        let Some(script) = report.script(name, number)? else {
+        let Some(script) = report.script(number)? else {
             break;
         };
         let file = format!(in rt.alloc(); "{prefix}-{number}.fence")?;
