@@ -92,14 +92,32 @@ impl Making {
     }
 
     /// Makes the rows on a fresh desk.
+    ///
+    /// Fails with `Memory` only, also if a command was refused memory: that is no answer of the plan's.
     pub(crate) fn run(
         &self,
         alloc: Global,
         plan: &PlanScript<'_>,
     ) -> Result<(Desk, Vec<Answer>), Refusal> {
         let commands = commands_of(alloc, plan, self.rows.as_slice())?;
-        run(alloc, commands.as_slice())
+        let made = run(alloc, commands.as_slice())?;
+        if lacks_memory(made.1.as_slice()) {
+            return Err(Refusal::Memory);
+        }
+        Ok(made)
     }
+}
+
+/// Whether a command was refused memory.
+fn lacks_memory(answers: &[Answer]) -> bool {
+    for answer in answers {
+        if let Answer::Refused(refusal) = answer {
+            if *refusal == Refusal::Memory {
+                return true;
+            }
+        }
+    }
+    false
 }
 
 fn commands_of(

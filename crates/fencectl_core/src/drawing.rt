@@ -11,6 +11,7 @@ use picture_core::{History, dot_text};
 use point_core::Refusal;
 use report_core::write_whole;
 use source_core::{Input, Source, put_file, reported};
+use std::io;
 use std::io::{Read, Write};
 
 /// Draws a script's run, and writes the picture or the graph to standard output or to a file, which is written as a whole or not
@@ -182,7 +183,16 @@ fn read_script<S: Read>(rt: &HostRuntime, source: &mut S) -> Result<Vec<u8>, Ref
     let most = SCRIPT_BYTES as u64;
     match source.take(most.saturating_add(1)).read_to_end(&mut script) {
         Ok(_) => Ok(script),
-        Err(_) => Err(Refusal::Read),
+        Err(error) => Err(fault_of(&error)),
+    }
+}
+
+/// The fault of a failed read, which may have been refused memory.
+fn fault_of(error: &io::Error) -> Refusal {
+    if error.kind() == io::ErrorKind::OutOfMemory {
+        Refusal::Memory
+    } else {
+        Refusal::Read
     }
 }
 
