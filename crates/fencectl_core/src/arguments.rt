@@ -13,16 +13,15 @@ use std::alloc::{AllocError, Global};
 
 const PROGRAM: &str = "fencectl";
 
-const ABOUT: &str =
-    "Runs a script of GPU fence commands and prints their answers, or runs clients on threads";
+const ABOUT: &str = "Runs, checks, explains, draws and explores scripts of GPU fence commands";
 
 /// The version, and the logic in which the program is proved: kits of one logic prove the same.
 const VERSION: &str = "0.1.0 (proved in Rattle's logic dac8208d650f15bf)";
 
 const HELP: &str = "\
 A script is read from standard input or from FILE, one command a line; a line that begins with # is
-a note. A lone FILE that is no subcommand is run. At a terminal each line is prompted for, and a
-refused one is explained.
+a note. A single word that is no subcommand is a FILE to run. At a terminal each line is prompted
+for, and a refused line is explained.
 
 Options of every command:
   --color <WHEN>  Colours help, checks and explanations: auto, always or never [default: auto]
@@ -55,9 +54,9 @@ timelines, 64 buffers, 1,024 files and 4,096 watches, lines of 256 bytes, and sc
 bytes.
 
 A refused line is answered `err NUMBER NAME`, and changes nothing:
-  1 Syntax    it is no command               7 Signalled  there is nothing to watch
-  2 NoEntry   there is none of that name     8 TimedOut   the file is not signalled
-  3 Exists    there is one of that name     12 LongLine   it has more than 256 bytes
+  1 Syntax    it is no command               7 Signalled  the file is signalled already
+  2 NoEntry   no object has that name        8 TimedOut   the file is not signalled
+  3 Exists    an object has that name       12 LongLine   it has more than 256 bytes
   4 Overflow  the value would be too great  15 Cancelled  its timeline is closed
   6 Limit     a limit is reached            16 Memory     memory was refused
 

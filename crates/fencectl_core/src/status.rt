@@ -9,9 +9,10 @@ use point_core::Refusal;
 use script_core::Totals;
 use std::io::Write;
 
-/// Every line was accepted, every answer was as expected, the clients settled, or nothing hangs.
+/// Every line was accepted, every answer was as expected, the clients settled, nothing hangs, or a plan is right in every
+/// schedule.
 pub const ACCEPTED: u8 = 0;
-/// A line was refused, an answer differs, or something hangs.
+/// A line was refused, an answer differs, something hangs, or a plan gets stuck or answers wrongly.
 pub const REFUSED: u8 = 1;
 
 /// The status of a script that was answered to its end: 0 if every line was accepted, 1 if one was refused.

@@ -102,7 +102,7 @@ pub(crate) const ANSWERS: &str = "answers";
 static SUBCOMMANDS: &[Subcommand] = &[
     Subcommand {
         word: RUN,
-        about: "Runs the script of a file, or that of standard input",
+        about: "Runs the script of a file or of standard input",
         arguments: &[
             Argument {
                 name: FILE,
@@ -118,7 +118,7 @@ static SUBCOMMANDS: &[Subcommand] = &[
     },
     Subcommand {
         word: CHECK,
-        about: "Runs scripts, and compares their answers with those that their notes expect",
+        about: "Runs scripts, and checks their answers against their notes",
         arguments: &[
             Argument {
                 name: PATH,
@@ -128,7 +128,7 @@ static SUBCOMMANDS: &[Subcommand] = &[
             Argument {
                 name: QUIET,
                 form: ArgumentForm::Flag,
-                help: "Reports the counts alone",
+                help: "Reports only the counts, and files that can't be read",
             },
             Argument {
                 name: TAP,
@@ -143,7 +143,7 @@ static SUBCOMMANDS: &[Subcommand] = &[
             Argument {
                 name: UPDATE,
                 form: ArgumentForm::Flag,
-                help: "Writes the answers that come into the files, as what they expect",
+                help: "Rewrites the notes, so that they expect the actual answers",
             },
         ],
     },
@@ -188,18 +188,18 @@ static SUBCOMMANDS: &[Subcommand] = &[
             Argument {
                 name: FROM,
                 form: ArgumentForm::Option("SECONDS"),
-                help: "Begins the script, the picture or the events at that time",
+                help: "Begins the script, the picture or the events at this time",
             },
             Argument {
                 name: TO,
                 form: ArgumentForm::Option("SECONDS"),
-                help: "Ends them at that time",
+                help: "Ends them at this time",
             },
         ],
     },
     Subcommand {
         word: DRAW,
-        about: "Draws what a script does as SVG, or what it leaves as a graph",
+        about: "Draws a run of a script as SVG, or its end as a graph",
         arguments: &[
             Argument {
                 name: FILE,
@@ -219,7 +219,7 @@ static SUBCOMMANDS: &[Subcommand] = &[
             Argument {
                 name: LINES,
                 form: ArgumentForm::Option("A..B"),
-                help: "Draws these lines alone",
+                help: "Draws only these lines",
             },
             Argument {
                 name: OUTPUT,
@@ -240,7 +240,7 @@ static SUBCOMMANDS: &[Subcommand] = &[
             Argument {
                 name: ROUNDS_WORD,
                 form: ArgumentForm::Number(ROUNDS as u16),
-                help: "How many rounds each of them makes, 1 to 10000",
+                help: "How many rounds each client makes, 1 to 10000",
             },
             Argument {
                 name: LOCKS,
