@@ -1,19 +1,24 @@
 -- Which files are asked what they list.
-use Rattle.std.proofs.Common.{◌≡◌, ℕ, zero, suc, Bool, true, false, ◌||◌, refl, sym, ap, ◌∙◌, List, [], ◌∷◌, map, Option, None, Some, unwrap_or, slice_get}
-use Rattle.std.specs.Prelude.{All}
+use Rattle.std.proofs.Common.{◌≡◌, ℕ, zero, suc, ◌+◌, ◌<◌, Bool, true, false, ◌||◌, if◌then◌else◌, refl, sym, ap, ◌∙◌, List, [], ◌∷◌, ◌++◌, length, map, filter, take, get_or, Option, None, Some, unwrap_or, slice_get}
+use Rattle.std.specs.Prelude.{All, Vec}
+use Rattle.std.specs.Global.{Global}
 use Rattle.std.specs.List.{list_any}
 use Rattle.std.specs.Cmp.Lexicographic.{nat_list_eq_equiv}
 use Rattle.std.proofs.lemmas.Bool.{false≢true}
 use Rattle.std.proofs.lemmas.List.Elements.{All-nil, All-cons, All-head, All-tail}
+use Rattle.std.proofs.lemmas.List.{take_more}
 use Rattle.std.proofs.lemmas.Option.{same_Some, none-some}
 use Rattle.command_core.specs.declared.command.Command.{Command}
 use Rattle.command_core.specs.declared.command.Command.TheVariants as command
+use Rattle.desk_core.specs.Keeping.{points_at}
+use Rattle.desk_core.specs.theorem.Desk.{DeskState}
+use Rattle.explore_core.specs.declared.look.FileLook.{FileLook}
 use Rattle.explore_core.specs.declared.plan.Step.{Step}
 use Rattle.explore_core.specs.Alike.{AsksOnly}
 use Rattle.explore_core.specs.Covering.{MayAsk}
 use Rattle.explore_core.specs.Found.{CanBeExplored}
 use Rattle.explore_core.specs.Schedule.{Lines}
-use Rattle.explore_core.specs.Search.{asks_for, client_asks, is_asked}
+use Rattle.explore_core.specs.Search.{asked_file, asks_for, client_asks, is_asked, is_name, has_name, Adds, is_to_come, file_look}
 
 or-left : (a b : Bool) → a ≡ true → (a || b) ≡ true
 or-left true b is = refl
@@ -60,12 +65,56 @@ pub any-map : {X Y : Type 0} (p : Y → Bool) (f : X → Y) (xs : List X) → li
 any-map p f [] = refl
 any-map p f (x ∷ xs) = ap (λ b. p (f x) || b) (any-map p f xs)
 
-or-other : (a b : Bool) → a ≡ false → (a || b) ≡ b
-or-other true b is = absurd (false≢true (sym is))
-or-other false b is = refl
+-- the names of the files that are asked, one after another
 
-pub asked-client : (plan : Lines) (f : List ℕ) (client : Bool) → client ≡ list_any (client_asks f) plan.clients → client ≡ true → client ≡ is_asked plan f
-asked-client plan f client is asks = asks ∙ sym (or-left (list_any (client_asks f) plan.clients) (list_any (asks_for f) plan.last) (sym is ∙ asks))
+or-nil : (b : Bool) → (b || false) ≡ b
+or-nil true = refl
+or-nil false = refl
 
-pub asked-last : (plan : Lines) (f : List ℕ) (client last : Bool) → client ≡ list_any (client_asks f) plan.clients → client ≡ false → last ≡ list_any (asks_for f) plan.last → last ≡ is_asked plan f
-asked-last plan f client last is none other = other ∙ sym (or-other (list_any (client_asks f) plan.clients) (list_any (asks_for f) plan.last) (sym is ∙ none))
+or-assoc : (a b c : Bool) → ((a || b) || c) ≡ (a || (b || c))
+or-assoc true b c = refl
+or-assoc false b c = refl
+
+any-push : {X : Type 0} (p : X → Bool) (xs : List X) (x : X) → list_any p (xs ++ x ∷ []) ≡ (list_any p xs || p x)
+any-push p [] x = or-nil (p x)
+any-push p (y ∷ ys) x = ap (λ b. p y || b) (any-push p ys x) ∙ sym (or-assoc (p y) (list_any p ys) (p x))
+
+pub Adds-none : (names : List (List ℕ)) → Adds (λ name. false) names names
+Adds-none names = λ name. sym (or-nil (has_name names name))
+
+pub Adds-next : {X : Type 0} (p : List ℕ → X → Bool) (xs : List X) (i : ℕ) (x : X) (old names new : List (List ℕ)) → i < length xs → x ≡ get_or xs i x
+    → Adds (λ name. list_any (p name) (take i xs)) old names → Adds (λ name. p name x) names new → Adds (λ name. list_any (p name) (take (i + 1) xs)) old new
+Adds-next p xs i x old names new low at before more = λ name.
+    let first = list_any (p name) (take i xs) in
+    let is = take_more xs i x low ∙ ap (λ d. take i xs ++ d ∷ []) (sym at) in
+    more name ∙ ap (λ b. b || p name x) (before name) ∙ or-assoc (has_name old name) first (p name x)
+    ∙ ap (λ b. has_name old name || b) (sym (ap (list_any (p name)) is ∙ any-push (p name) (take i xs) x))
+
+asks-file : (c : Command) (f name : List ℕ) → asked_file c ≡ Some f → asks_for name c ≡ is_name name f
+asks-file (command.Info g) f name is = ap (is_name name) (same_Some g f is)
+asks-file _ f name is = absurd (none-some f is)
+
+asks-none : (c : Command) (name : List ℕ) → asked_file c ≡ None → asks_for name c ≡ false
+asks-none (command.Info g) name is = absurd (none-some g (sym is))
+asks-none _ name is = refl
+
+pub Adds-push : (c : Command) (f : List ℕ) (old new : List (List ℕ)) → asked_file c ≡ Some f → new ≡ old ++ f ∷ [] → Adds (λ name. asks_for name c) old new
+Adds-push c f old new is pushed = λ name.
+    ap (λ names. has_name names name) pushed ∙ any-push (is_name name) old f ∙ ap (λ (b : Bool). has_name old name || b) (sym (asks-file c f name is))
+
+pub Adds-same : (c : Command) (names : List (List ℕ)) → asked_file c ≡ None → Adds (λ name. asks_for name c) names names
+Adds-same c names is = λ name. sym (or-nil (has_name names name)) ∙ ap (λ (b : Bool). has_name names name || b) (sym (asks-none c name is))
+
+pub asked-all : (plan : Lines) (clients : List (Vec Step Global)) (last : List Command) (names asked : List (List ℕ)) → map (λ (lines : Vec Step Global). lines.items) clients ≡ plan.clients → last ≡ plan.last
+    → Adds (λ name. list_any (λ (lines : Vec Step Global). client_asks name lines.items) clients) [] names → Adds (λ name. list_any (asks_for name) last) names asked
+    → (name : List ℕ) → has_name asked name ≡ is_asked plan name
+asked-all plan clients last names asked are ends first more = λ name.
+    more name ∙ ap (λ b. b || list_any (asks_for name) last) (first name ∙ sym (any-map (client_asks name) (λ (lines : Vec Step Global). lines.items) clients) ∙ ap (list_any (client_asks name)) are)
+    ∙ ap (λ cs. list_any (client_asks name) plan.clients || list_any (asks_for name) cs) ends
+
+-- a look by one of two tests that are the same
+pub looks-same : (asked other : List ℕ → Bool) (d : DeskState) → ((name : List ℕ) → asked name ≡ other name) → (names : List (List ℕ)) → map (file_look asked d) names ≡ map (file_look other d) names
+looks-same asked other d is [] = refl
+looks-same asked other d is (name ∷ names) =
+    let look : Bool → FileLook = λ b. record { name = name; points = if b then points_at d.files name else filter (is_to_come d.timelines) (points_at d.files name) } in
+    ap (λ (l : FileLook). l ∷ map (file_look asked d) names) (ap look (is name)) ∙ ap (λ ls. file_look other d name ∷ ls) (looks-same asked other d is names)

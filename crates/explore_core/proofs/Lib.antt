@@ -12,3 +12,4 @@ pub mod Same
 pub mod Trying
 pub mod Positions
 pub mod SameAnswers
+pub mod Visiting

@@ -1,5 +1,5 @@
 -- A search by levels: the states of a level are those that schedules of one length come to.
-use Rattle.std.specs.Prelude.{◌≡◌, ◌⊎◌, ℕ, ◌+◌, ◌<◌, ◌≤◌, Bool, true, false, not, ◌||◌, if◌then◌else◌, filter, List, [], ◌∷◌, ◌++◌, length, map, take, All, Contains, None, Some, IsSome, slice_get, unwrap_or}
+use Rattle.std.specs.Prelude.{◌≡◌, ◌⊎◌, ℕ, ◌+◌, ◌<◌, ◌≤◌, Bool, true, false, not, ◌||◌, if◌then◌else◌, filter, List, [], ◌∷◌, ◌++◌, length, map, take, All, Contains, Option, None, Some, IsSome, slice_get, unwrap_or}
 use Rattle.std.specs.List.{list_any}
 use Rattle.point_core.specs.declared.entry.Point.{Point}
 use Rattle.point_core.specs.Clocks.{status_at}
@@ -12,6 +12,7 @@ use Rattle.timeline_core.specs.Timeline.{Timeline, clocks_of, reach_of, rows_of 
 use Rattle.syncfile_core.specs.Files.{HasDistinctNames, names_of as file_names}
 use Rattle.dmabuf_core.specs.Buffers.{names_of as buffer_names, entries_of}
 use Rattle.resv_core.specs.Resv.{rows_of as table_rows}
+use Rattle.desk_core.specs.theorem.Answer.{is_refused}
 use Rattle.desk_core.specs.theorem.Desk.{DeskState, HasHistory}
 use Rattle.desk_core.specs.Keeping.{points_at}
 use Rattle.explore_core.specs.declared.plan.Step.{Step}
@@ -23,6 +24,7 @@ use Rattle.explore_core.specs.declared.position.Position.{Position}
 use Rattle.explore_core.specs.declared.position.Turn.{Turn}
 use Rattle.explore_core.specs.declared.position.Turn.TheVariants.{Done, Waits, Made}
 use Rattle.explore_core.specs.declared.state.State.{State}
+use Rattle.explore_core.specs.declared.visit.Visit.{Visit}
 use Rattle.explore_core.specs.declared.search.Reached.{Reached}
 use Rattle.explore_core.specs.declared.search.Reached.TheVariants as reached
 use Rattle.explore_core.specs.declared.search.Move.{Move}
@@ -55,6 +57,25 @@ pub record IsAt (position : Position) (now : Standing) : Type 0 where
   pub desk : HasHistory position.desk now.history
   pub made : position.made.items ≡ now.made
 
+-- the desk is at that standing, unless it has left it
+abbrev pub IsVisitOf : Visit → Standing → Type 0
+IsVisitOf visit now = visit.has_left ≡ false → IsAt visit.position now
+
+-- the command changes no world
+abbrev pub keeps_world : Command → Bool
+keeps_world (command.Value t) = true
+keeps_world (command.Wait f) = true
+keeps_world (command.Info f) = true
+keeps_world (command.Test b u) = true
+keeps_world (command.Trim b) = true
+keeps_world (command.Show b) = true
+keeps_world command.Report = true
+keeps_world _ = false
+
+-- after that answer the world is the same
+abbrev pub stays : Command → Answer → Bool
+stays command given = keeps_world command || is_refused given
+
 -- at that standing the client makes its line of that place, which is answered so
 pub record Answers (plan : Lines) (now : Standing) (client place : ℕ) (given : Answer) : Type 0 where
   pub at : made_by now client ≡ place
@@ -76,6 +97,11 @@ IsTurn plan now client Done = next_line plan now client ≡ None
 IsTurn plan now client Waits = (step : Step) × (next_line plan now client ≡ Some step) × (can_be_made now step ≡ false)
 IsTurn plan now client (Made place given) = Answers plan now client place given
 
+-- the file that the command asks what it lists
+abbrev pub asked_file : Command → Option (List ℕ)
+asked_file (command.Info f) = Some f
+asked_file _ = None
+
 -- the command asks what the file of that name lists
 abbrev pub asks_for : List ℕ → Command → Bool
 asks_for name (command.Info f) = same_name f name
@@ -88,6 +114,17 @@ client_asks name lines = list_any (λ (step : Step). asks_for name step.command)
 -- a line of a client, or a command at the end, asks what the file of that name lists
 abbrev pub is_asked : Lines → List ℕ → Bool
 is_asked plan name = list_any (client_asks name) plan.clients || list_any (asks_for name) plan.last
+
+-- one of the names is that name
+abbrev pub is_name : List ℕ → List ℕ → Bool
+is_name name n = same_name n name
+
+abbrev pub has_name : List (List ℕ) → List ℕ → Bool
+has_name names name = list_any (is_name name) names
+
+-- the names are those before, and others
+abbrev pub Adds : (List ℕ → Bool) → List (List ℕ) → List (List ℕ) → Type 0
+Adds others old new = (name : List ℕ) → has_name new name ≡ (has_name old name || others name)
 
 -- its timeline has not reached the point
 abbrev pub is_to_come : List Timeline → Point → Bool
@@ -177,8 +214,10 @@ standing_at plan state = standing_of plan state.schedule.items
 
 -- all that comes about at that standing is listed
 pub record IsListed (plan : Lines) (found : Found) (now : Standing) : Type 0 where
-  pub given : (client place : ℕ) (answer : Answer) → Answers plan now client place answer → Lists found.given.items client place answer
-  pub ended : (place : ℕ) (answer : Answer) → Ends plan now place answer → Lists found.ended.items (length plan.clients) place answer
+  pub given : (client place : ℕ) (answer : Answer)
+      → Answers plan now client place answer → Lists found.given.items client place answer
+  pub ended : (place : ℕ) (answer : Answer)
+      → Ends plan now place answer → Lists found.ended.items (length plan.clients) place answer
   pub stuck : IsStuck plan now → (shown : List ℕ) × (stuck_of found ≡ Some shown)
 
 -- wherever a client comes by its next line, one of the states continues alike

@@ -16,6 +16,7 @@ mod plan;
 mod position;
 mod search;
 mod state;
+mod visit;
 
 pub use explorer::{STATES, explore};
 pub use found::{Found, Given};

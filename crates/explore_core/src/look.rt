@@ -2,7 +2,7 @@
 //! ever (`laws.rt`), so a state keeps a look and no desk.
 ghost use Rattle.std.specs.Prelude.{◌≡◌, true, ◌++◌, ◌∷◌, [], length, map, filter, IfOk, IfErr, OnOk, Contains, All};
 ghost use Rattle.explore_core.specs.declared.look.FileLook.{FileLook as SeenFile};
-ghost use Rattle.explore_core.specs.Search.{Shows, AreSameLooks, is_asked, is_to_come, seen_points, file_look, buffer_look};
+ghost use Rattle.explore_core.specs.Search.{Shows, AreSameLooks, is_asked, is_name, has_name, is_to_come, seen_points, file_look, buffer_look};
 
 use crate::plan::Plan;
 use desk_core::Desk;
@@ -40,8 +40,9 @@ impl Look {
         ensures memory { IfErr result (λ e. e ≡ Refusal.Memory) }
     {
         let timelines = desk.timeline_rows()?;
+        let asked = plan.asked_files(alloc)?;
         let names = desk.file_names()?;
-        let files = file_looks(alloc, plan, desk, names.as_slice())?;
+        let files = file_looks(alloc, asked.as_slice(), desk, names.as_slice())?;
         let names = desk.buffer_names()?;
         let buffers = buffer_looks(alloc, desk, names.as_slice())?;
         Ok(Look {
@@ -120,45 +121,63 @@ fn is_among(file: &FileLook, others: &[FileLook]) -> bool
 
 fn file_looks(
     alloc: Global,
-    plan: &Plan,
+    asked: &[Name],
     desk: &Desk,
     names: &[Name],
 ) -> Result<Vec<FileLook>, Refusal>
-    ensures looks { IfOk result (λ looks. looks.items ≡ map (file_look (is_asked plan.now) desk.now) names.now) }
+    ensures looks { IfOk result (λ looks. looks.items ≡ map (file_look (has_name asked.now) desk.now) names.now) }
     ensures memory { IfErr result (λ e. e ≡ Refusal.Memory) }
 {
     let mut looks = Vec::new(alloc);
     for name in names {
-        let look = file_look(alloc, plan, desk, name)?;
+        let look = file_look(alloc, asked, desk, name)?;
         looks.push(look).map_err(|_| Refusal::Memory)?;
     }
     Ok(looks)
 }
 
-fn file_look(alloc: Global, plan: &Plan, desk: &Desk, name: &Name) -> Result<FileLook, Refusal>
-    ensures look { IfOk result (λ look. look ≡ file_look (is_asked plan.now) desk.now name.now) }
+fn file_look(alloc: Global, asked: &[Name], desk: &Desk, name: &Name) -> Result<FileLook, Refusal>
+    ensures look { IfOk result (λ look. look ≡ file_look (has_name asked.now) desk.now name.now) }
     ensures memory { IfErr result (λ e. e ≡ Refusal.Memory) }
 {
-    let points = seen_points(alloc, plan, desk, name)?;
+    let points = seen_points(alloc, asked, desk, name)?;
     Ok(FileLook {
         name: *name,
         points: Items::of(points),
     })
 }
 
-fn seen_points(alloc: Global, plan: &Plan, desk: &Desk, file: &Name) -> Result<Vec<Point>, Refusal>
-    ensures points { IfOk result (λ points. points.items ≡ seen_points (is_asked plan.now) desk.now file.now) }
+fn seen_points(
+    alloc: Global,
+    asked: &[Name],
+    desk: &Desk,
+    file: &Name,
+) -> Result<Vec<Point>, Refusal>
+    ensures points { IfOk result (λ points. points.items ≡ seen_points (has_name asked.now) desk.now file.now) }
     ensures memory { IfErr result (λ e. e ≡ Refusal.Memory) }
 {
     let Some(listed) = desk.file_points(file) else {
         return Ok(Vec::new(alloc));
     };
-    if !plan.asks_for(file) {
+    if !has_name(asked, file) {
         return points_to_come(alloc, desk, listed);
     }
     let mut points = Vec::new(alloc);
     points.extend_from_slice(listed)?;
     Ok(points)
+}
+
+/// Whether one of the names is the file's.
+fn has_name(names: &[Name], file: &Name) -> bool
+    ensures { result ≡ has_name names.now file.now }
+{
+    names.iter().any(|name| is_name(name, file))
+}
+
+fn is_name(name: &Name, file: &Name) -> bool
+    ensures { result ≡ is_name file.now name.now }
+{
+    *name == *file
 }
 
 /// The points that their timelines have not reached.

@@ -1,13 +1,14 @@
 //! `Plan`: the lines of each client, and the commands before and after them. Whoever reads plans makes it, and `explore`
 //! decides it.
-ghost use Rattle.std.specs.Prelude.{◌≡◌, Vec};
+ghost use Rattle.std.specs.Prelude.{◌≡◌, ℕ, List, Vec, IfOk, IfErr, OnOk};
 ghost use Rattle.std.specs.Global.{Global};
 ghost use Rattle.std.specs.List.{list_any};
 ghost use Rattle.explore_core.specs.declared.plan.Step.{Step as Line};
-ghost use Rattle.explore_core.specs.Search.{asks_for, client_asks, is_asked};
+ghost use Rattle.explore_core.specs.Search.{asked_file, asks_for, client_asks, is_asked, has_name, Adds};
 
 use command_core::Command;
-use point_core::Name;
+use point_core::{Name, Refusal};
+use std::alloc::Global;
 use std::marker::Model;
 
 /// A line of a client.
@@ -43,39 +44,66 @@ impl Model for Plan {
 }
 
 impl Plan {
-    /// Whether a line of a client, or a command at the end, asks what the file of that name lists.
-    pub(crate) fn asks_for(&self, file: &Name) -> bool
-        ensures { result ≡ is_asked self.now file.now }
+    /// The names of the files that a line of a client, or a command at the end, asks what they list.
+    pub(crate) fn asked_files(&self, alloc: Global) -> Result<Vec<Name>, Refusal>
+        ensures asked { IfOk result (λ asked. (name : List ℕ) → has_name asked.items name ≡ is_asked self.now name) }
+        ensures memory { IfErr result (λ e. e ≡ Refusal.Memory) }
     {
-        a_client_asks(self.clients.as_slice(), file) || commands_ask(self.last.as_slice(), file)
+        let mut asked = Vec::new(alloc);
+        add_of_clients(&mut asked, self.clients.as_slice())?;
+        add_of_commands(&mut asked, self.last.as_slice())?;
+        Ok(asked)
     }
 }
 
-fn a_client_asks(clients: &[Vec<Step>], file: &Name) -> bool
-    ensures { result ≡ list_any (λ (lines : Vec Line Global). client_asks file.now lines.items) clients.now }
+fn add_of_clients(asked: &mut Vec<Name>, clients: &[Vec<Step>]) -> Result<(), Refusal>
+    ensures adds { OnOk result (Adds (λ name. list_any (λ (lines : Vec Line Global). client_asks name lines.items) clients.now)
+        asked.old.items asked.new.items) }
+    ensures memory { IfErr result (λ e. e ≡ Refusal.Memory) }
 {
-    clients
-        .iter()
-        .any(|lines| client_asks(lines.as_slice(), file))
+    for lines in clients {
+        add_of_lines(asked, lines.as_slice())?;
+    }
+    Ok(())
 }
 
-fn client_asks(lines: &[Step], file: &Name) -> bool
-    ensures { result ≡ client_asks file.now lines.now }
+fn add_of_lines(asked: &mut Vec<Name>, lines: &[Step]) -> Result<(), Refusal>
+    ensures adds { OnOk result (Adds (λ name. client_asks name lines.now) asked.old.items asked.new.items) }
+    ensures memory { IfErr result (λ e. e ≡ Refusal.Memory) }
 {
-    lines.iter().any(|line| asks_for(&line.command, file))
+    for line in lines {
+        add_of(asked, &line.command)?;
+    }
+    Ok(())
 }
 
-fn commands_ask(commands: &[Command], file: &Name) -> bool
-    ensures { result ≡ list_any (asks_for file.now) commands.now }
+fn add_of_commands(asked: &mut Vec<Name>, commands: &[Command]) -> Result<(), Refusal>
+    ensures adds { OnOk result (Adds (λ name. list_any (asks_for name) commands.now) asked.old.items asked.new.items) }
+    ensures memory { IfErr result (λ e. e ≡ Refusal.Memory) }
 {
-    commands.iter().any(|command| asks_for(command, file))
+    for command in commands {
+        add_of(asked, command)?;
+    }
+    Ok(())
 }
 
-fn asks_for(command: &Command, file: &Name) -> bool
-    ensures { result ≡ asks_for file.now command.now }
+/// Adds the name of the file that the command asks what it lists, if it asks one.
+fn add_of(asked: &mut Vec<Name>, command: &Command) -> Result<(), Refusal>
+    ensures adds { OnOk result (Adds (λ name. asks_for name command.now) asked.old.items asked.new.items) }
+    ensures memory { IfErr result (λ e. e ≡ Refusal.Memory) }
+{
+    let Some(name) = asked_file(command) else {
+        return Ok(());
+    };
+    asked.push(name).map_err(|_| Refusal::Memory)?;
+    Ok(())
+}
+
+fn asked_file(command: &Command) -> Option<Name>
+    ensures { result ≡ asked_file command.now }
 {
     match command {
-        Command::Info(name) => *name == *file,
-        _ => false,
+        Command::Info(name) => Some(*name),
+        _ => None,
     }
 }

@@ -1,5 +1,5 @@
 //! `Position`: a desk along a schedule, and how many lines each client has made on it.
-ghost use Rattle.std.specs.Prelude.{◌≡◌, ◌&&◌, List, IsTrue, IfOk, IfErr, OnOk, replicate, get_or, set, slice_get};
+ghost use Rattle.std.specs.Prelude.{◌≡◌, ◌&&◌, true, List, None, IsTrue, IfOk, IfErr, OnOk, replicate, get_or, set, slice_get};
 ghost use Rattle.command_core.specs.declared.command.Command.{Command};
 ghost use Rattle.desk_core.specs.theorem.Answer.{is_refused};
 ghost use Rattle.desk_core.specs.theorem.Desk.{HasHistory};
@@ -77,6 +77,24 @@ impl Position {
         set(self.made.as_mut_slice(), client, next);
         Ok(Turn::Made(place, answer))
     }
+
+    /// Takes back the client's line of that place, which has left the desk as it was.
+    pub(crate) fn take_back(&mut self, client: usize, place: usize)
+        ensures desk { self.new.desk ≡ self.old.desk }
+        ensures made { self.new.made.items ≡ set self.old.made.items client place }
+    {
+        set(self.made.as_mut_slice(), client, place);
+    }
+}
+
+/// Whether the client has made all its lines, if clients have made so many.
+pub(crate) fn is_done(plan: &Plan, made: &[usize], client: usize) -> bool
+    ensures { result ≡ true → slice_get (lines_of plan.now client) (get_or made.now client 0) ≡ None }
+{
+    let Some(_line) = line_at(plan, client, place_of(made, client)) else {
+        return true;
+    };
+    false
 }
 
 fn none_made(alloc: Global, clients: usize) -> Result<Vec<usize>, Refusal>
@@ -105,7 +123,7 @@ fn set(made: &mut [usize], client: usize, place: usize)
 }
 
 /// The client's line of that place.
-fn line_at(plan: &Plan, client: usize, place: usize) -> Option<Step>
+pub(crate) fn line_at(plan: &Plan, client: usize, place: usize) -> Option<Step>
     ensures { result ≡ slice_get (lines_of plan.now client) place }
 {
     let lines = plan.clients.get(client)?;
@@ -152,7 +170,7 @@ fn is_held(step: &Step, answer: &Answer) -> bool
     step.waits && is_refused(answer)
 }
 
-fn is_refused(answer: &Answer) -> bool
+pub(crate) fn is_refused(answer: &Answer) -> bool
     ensures { result ≡ is_refused answer.now }
 {
     match answer {

@@ -5,15 +5,16 @@ ghost use Rattle.explore_core.specs.declared.state.State.{State as Kept};
 ghost use Rattle.desk_core.specs.theorem.Desk.{HasHistory};
 ghost use Rattle.explore_core.specs.Found.{CanBeExplored, IsTrue, IsAll, stuck_of};
 ghost use Rattle.explore_core.specs.Schedule.{Lines, ComesTo, IsStuck, next_line};
-ghost use Rattle.explore_core.specs.Search.{Grows, Extends, IsAt, IsState, IsVisited, IsReached, IsTried, AreTried, HasEnds, EndsAre, AreEndsListed, standing_of, IsEmptyFound, together};
+ghost use Rattle.explore_core.specs.Search.{Grows, Extends, IsAt, IsState, IsVisitOf, IsVisited, IsReached, IsTried, AreTried, HasEnds, EndsAre, AreEndsListed, standing_of, standing_at, IsEmptyFound, together};
 
 use crate::found::{Found, Given};
 use crate::level::Level;
 use crate::list::{copied, with_client};
 use crate::listing::record;
 use crate::plan::Plan;
-use crate::position::{Position, Turn, make};
+use crate::position::{Position, Turn, is_done, make};
 use crate::state::State;
+use crate::visit::Visit;
 use command_core::Answer;
 use desk_core::Desk;
 use point_core::Refusal;
@@ -185,9 +186,33 @@ fn try_clients(
     ensures extends { Extends plan.now (depth + 1) next.old next.new }
     ensures tried { IfOk result (λ moves. AreTried plan.now found.new next.new state.now (length plan.now.clients) moves) }
 {
+    let Ok(mut visit) = Visit::at(alloc, plan, state.schedule.as_slice()) else {
+        return Err(Stop::Memory);
+    };
+    try_each(alloc, plan, depth, state, &mut visit, found, next)
+}
+
+/// Each client makes its next line on a visit of the state, if it can.
+fn try_each(
+    alloc: Global,
+    plan: &Plan,
+    depth: usize,
+    state: &State,
+    visit: &mut Visit,
+    found: &mut Found,
+    next: &mut Level,
+) -> Result<Move, Stop>
+    requires explorable { CanBeExplored plan.now }
+    requires state { IsState plan.now depth state.now }
+    requires at { IsVisitOf visit.old (standing_at plan.now state.now) }
+    requires next { All (IsState plan.now (depth + 1)) next.old }
+    ensures grows { Grows plan.now depth found.old found.new }
+    ensures extends { Extends plan.now (depth + 1) next.old next.new }
+    ensures tried { IfOk result (λ moves. AreTried plan.now found.new next.new state.now (length plan.now.clients) moves) }
+{
     let mut moves = Move::Done;
     for client in 0..plan.clients.len() {
-        let one = try_client(alloc, plan, depth, state, client, found, next)?;
+        let one = try_client(alloc, plan, depth, state, client, visit, found, next)?;
         moves = together(moves, one);
     }
     Ok(moves)
@@ -213,24 +238,27 @@ fn try_client(
     depth: usize,
     state: &State,
     client: usize,
+    visit: &mut Visit,
     found: &mut Found,
     next: &mut Level,
 ) -> Result<Move, Stop>
     requires explorable { CanBeExplored plan.now }
     requires state { IsState plan.now depth state.now }
+    requires at { IsVisitOf visit.old (standing_at plan.now state.now) }
     requires next { All (IsState plan.now (depth + 1)) next.old }
     ensures grows { Grows plan.now depth found.old found.new }
     ensures extends { Extends plan.now (depth + 1) next.old next.new }
     ensures tried { IfOk result (λ move. IsTried plan.now found.new next.new state.now client move) }
+    ensures at { OnOk result (IsVisitOf visit.new (standing_at plan.now state.now)) }
 {
-    let schedule = state.schedule.as_slice();
-    let Ok(reached) = reach(alloc, plan, schedule, client) else {
+    let Ok(reached) = reach(alloc, plan, state, client, visit) else {
         return Err(Stop::Memory);
     };
     match reached {
         Reached::Done => Ok(Move::Done),
         Reached::Waits => Ok(Move::Waits),
         Reached::Made(place, answer, later) => {
+            let schedule = state.schedule.as_slice();
             let Ok(_done) = record(&mut found.given, client, place, answer, schedule) else {
                 return Err(Stop::Memory);
             };
@@ -240,34 +268,50 @@ fn try_client(
     }
 }
 
-/// What the client does after the schedule.
-fn reach(alloc: Global, plan: &Plan, schedule: &[usize], client: usize) -> Result<Reached, Refusal>
-    requires comes { ComesTo plan.now schedule.now (standing_of plan.now schedule.now) }
-    ensures reached { IfOk result (λ reached. IsReached plan.now schedule.now client reached) }
+/// What the client does at the state.
+fn reach(
+    alloc: Global,
+    plan: &Plan,
+    state: &State,
+    client: usize,
+    visit: &mut Visit,
+) -> Result<Reached, Refusal>
+    requires comes { ComesTo plan.now state.now.schedule.items (standing_at plan.now state.now) }
+    requires made { state.now.made.items ≡ (standing_at plan.now state.now).made }
+    requires at { IsVisitOf visit.old (standing_at plan.now state.now) }
+    ensures reached { IfOk result (λ reached. IsReached plan.now state.now.schedule.items client reached) }
+    ensures at { OnOk result (IsVisitOf visit.new (standing_at plan.now state.now)) }
     ensures memory { IfErr result (λ e. e ≡ Refusal.Memory) }
 {
-    let mut position = Position::at(alloc, plan, schedule)?;
-    reach_from(alloc, plan, schedule, client, &mut position)
+    if is_done(plan, state.made.as_slice(), client) {
+        return Ok(Reached::Done);
+    }
+    let schedule = state.schedule.as_slice();
+    visit.come_back(alloc, plan, schedule)?;
+    reach_from(alloc, plan, schedule, client, visit)
 }
 
+/// What the client does after the schedule, by a visit that is there.
 fn reach_from(
     alloc: Global,
     plan: &Plan,
     schedule: &[usize],
     client: usize,
-    position: &mut Position,
+    visit: &mut Visit,
 ) -> Result<Reached, Refusal>
     requires comes { ComesTo plan.now schedule.now (standing_of plan.now schedule.now) }
-    requires at { IsAt position.old (standing_of plan.now schedule.now) }
+    requires at { IsAt visit.old.position (standing_of plan.now schedule.now) }
     ensures reached { IfOk result (λ reached. IsReached plan.now schedule.now client reached) }
+    ensures at { OnOk result (IsVisitOf visit.new (standing_of plan.now schedule.now)) }
     ensures memory { IfErr result (λ e. e ≡ Refusal.Memory) }
 {
-    match position.go(plan, client)? {
+    match visit.position.go(plan, client)? {
         Turn::Done => Ok(Reached::Done),
         Turn::Waits => Ok(Reached::Waits),
         Turn::Made(place, answer) => {
             let more = with_client(alloc, schedule, client)?;
-            let state = State::of(alloc, plan, more, position)?;
+            let state = State::of(alloc, plan, more, &visit.position)?;
+            visit.take_back(plan, client, place, &answer);
             Ok(Reached::Made(place, answer, state))
         }
     }

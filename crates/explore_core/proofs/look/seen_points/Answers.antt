@@ -1,7 +1,7 @@
 use Rattle.std.proofs.Common.{◌≡◌, ◌++◌, [], sym, ap, ◌∙◌, filter, unwrap_or}
 use Rattle.syncfile_core.proofs.Causes.{IfOk-then}
 use Rattle.desk_core.specs.Keeping.{points_at}
-use Rattle.explore_core.specs.Search.{is_asked, is_to_come}
+use Rattle.explore_core.specs.Search.{has_name, is_to_come}
 use Rattle.explore_core.proofs.Showing.{all-seen, part-seen, none-seen}
 use Rattle.explore_core.proofs.look.seen_points.Goals as goal
 
@@ -9,13 +9,13 @@ pub returns-in_default-clause-points : goal.returns-in_default-clause-points
 returns-in_default-clause-points c =
     let ts = c.args.desk.now.timelines in
     let none : [] ≡ points_at c.args.desk.now.files c.args.file.now = ap (λ o. unwrap_or o []) c.in_default.ensures.points in
-    c.new.ensures.items ∙ sym (none-seen (is_asked c.args.plan.now c.args.file.now) ts (points_at c.args.desk.now.files c.args.file.now) (sym none))
+    c.new.ensures.items ∙ sym (none-seen (has_name c.args.asked.now c.args.file.now) ts (points_at c.args.desk.now.files c.args.file.now) (sym none))
 
-pub returns-then-not-asks_for-clause-points : goal.returns-then-not-asks_for-clause-points
-returns-then-not-asks_for-clause-points c =
+pub returns-then-not-has_name-clause-points : goal.returns-then-not-has_name-clause-points
+returns-then-not-has_name-clause-points c =
     let ts = c.args.desk.now.timelines in
     let points : c.in-Some.listed.now ≡ points_at c.args.desk.now.files c.args.file.now = ap (λ o. unwrap_or o []) c.in-Some.ensures.points in
-    let seen = part-seen (is_asked c.args.plan.now c.args.file.now) ts (points_at c.args.desk.now.files c.args.file.now) (sym c.asks_for.ensures ∙ c.if-not-asks_for.true) in
+    let seen = part-seen (has_name c.args.asked.now c.args.file.now) ts (points_at c.args.desk.now.files c.args.file.now) (sym c.has_name.ensures ∙ c.if-not-has_name.true) in
     IfOk-then c.points_to_come.result c.points_to_come.ensures.points (λ v is. is ∙ ap (filter (is_to_come ts)) points ∙ sym seen)
 
 pub returns-clause-points : goal.returns-clause-points
@@ -23,4 +23,4 @@ returns-clause-points c =
     let ts = c.args.desk.now.timelines in
     let points : c.in-Some.listed.now ≡ points_at c.args.desk.now.files c.args.file.now = ap (λ o. unwrap_or o []) c.in-Some.ensures.points in
     c.in_ok-extend_from_slice.ensures.items ∙ ap (λ ps. ps ++ c.in-Some.listed.now) c.new-points.ensures.items ∙ points
-    ∙ sym (all-seen (is_asked c.args.plan.now c.args.file.now) ts (points_at c.args.desk.now.files c.args.file.now) (sym c.asks_for.ensures ∙ c.if-not-asks_for.false))
+    ∙ sym (all-seen (has_name c.args.asked.now c.args.file.now) ts (points_at c.args.desk.now.files c.args.file.now) (sym c.has_name.ensures ∙ c.if-not-has_name.false))

@@ -1,13 +1,12 @@
 use Rattle.std.proofs.Common.{◌+◌, refl, sym, subst}
-use Rattle.explore_core.specs.Schedule.{Schedule, ComesTo}
-use Rattle.explore_core.specs.Search.{Extends, IsReached, standing_of}
+use Rattle.explore_core.specs.Search.{Extends, IsReached, Records}
 use Rattle.explore_core.proofs.Levels.{Grows-refl, Extends-refl}
 use Rattle.explore_core.proofs.Finding.{Extends-kept}
 use Rattle.explore_core.proofs.Trying.{tried-done, tried-waits, tried-made, later-state, Grows-reached}
 use Rattle.explore_core.proofs.search.try_client.Goals as goal
 
 pub reach-requires : goal.reach-requires
-reach-requires c = record { comes = subst (λ (s : Schedule). ComesTo c.args.plan.now s (standing_of c.args.plan.now s)) (sym c.as_slice-schedule.ensures.value) c.requires.state.comes }
+reach-requires c = record { comes = c.requires.state.comes; made = c.requires.state.made; at = c.requires.at }
 
 pub returns-in_default-clause-grows : goal.returns-in_default-clause-grows
 returns-in_default-clause-grows c = Grows-refl c.args.plan.now c.args.depth c.args.found.now
@@ -23,9 +22,7 @@ returns-in-Done-clause-extends c = Extends-refl c.args.plan.now (c.args.depth + 
 
 pub returns-in-Done-clause-tried : goal.returns-in-Done-clause-tried
 returns-in-Done-clause-tried c =
-    let plan = c.args.plan.now in
-    let is = c.as_slice-schedule.ensures.value in
-    tried-done is c.args.found.now c.args.next.now (subst (IsReached plan c.as_slice-schedule.result.now c.args.client) c.in-Done.is c.in-Ok.ensures.reached)
+    tried-done refl c.args.found.now c.args.next.now (subst (IsReached c.args.plan.now c.args.state.now.schedule.items c.args.client) c.in-Done.is c.in-Ok.ensures.reached)
 
 pub returns-in-Waits-clause-grows : goal.returns-in-Waits-clause-grows
 returns-in-Waits-clause-grows c = Grows-refl c.args.plan.now c.args.depth c.args.found.now
@@ -35,24 +32,25 @@ returns-in-Waits-clause-extends c = Extends-refl c.args.plan.now (c.args.depth +
 
 pub returns-in-Waits-clause-tried : goal.returns-in-Waits-clause-tried
 returns-in-Waits-clause-tried c =
-    let plan = c.args.plan.now in
-    let is = c.as_slice-schedule.ensures.value in
-    tried-waits is c.args.found.now c.args.next.now (subst (IsReached plan c.as_slice-schedule.result.now c.args.client) c.in-Waits.is c.in-Ok.ensures.reached)
+    tried-waits refl c.args.found.now c.args.next.now (subst (IsReached c.args.plan.now c.args.state.now.schedule.items c.args.client) c.in-Waits.is c.in-Ok.ensures.reached)
 
 pub returns-in_default-record-clause-grows : goal.returns-in_default-record-clause-grows
 returns-in_default-record-clause-grows c =
-    let reached = subst (IsReached c.args.plan.now c.as_slice-schedule.result.now c.args.client) c.in-Made.is c.in-Ok.ensures.reached in
-    Grows-reached c.as_slice-schedule.ensures.value c.requires.state reached c.args.found.now _ c.record.ensures.records refl refl
+    let reached = subst (IsReached c.args.plan.now c.args.state.now.schedule.items c.args.client) c.in-Made.is c.in-Ok.ensures.reached in
+    let records = subst (Records c.args.found.now.given.items c.record.new.list.items c.args.client c.in-Made.place c.in-Made.answer) c.as_slice-schedule.ensures.value c.record.ensures.records in
+    Grows-reached refl c.requires.state reached c.args.found.now _ records refl refl
 
 pub returns-in_err-keep-in-Made-clause-grows : goal.returns-in_err-keep-in-Made-clause-grows
 returns-in_err-keep-in-Made-clause-grows c =
-    let reached = subst (IsReached c.args.plan.now c.as_slice-schedule.result.now c.args.client) c.in-Made.is c.in-Ok.ensures.reached in
-    Grows-reached c.as_slice-schedule.ensures.value c.requires.state reached c.args.found.now _ c.record.ensures.records refl refl
+    let reached = subst (IsReached c.args.plan.now c.args.state.now.schedule.items c.args.client) c.in-Made.is c.in-Ok.ensures.reached in
+    let records = subst (Records c.args.found.now.given.items c.record.new.list.items c.args.client c.in-Made.place c.in-Made.answer) c.as_slice-schedule.ensures.value c.record.ensures.records in
+    Grows-reached refl c.requires.state reached c.args.found.now _ records refl refl
 
 pub returns-in_ok-keep-in-Made-clause-grows : goal.returns-in_ok-keep-in-Made-clause-grows
 returns-in_ok-keep-in-Made-clause-grows c =
-    let reached = subst (IsReached c.args.plan.now c.as_slice-schedule.result.now c.args.client) c.in-Made.is c.in-Ok.ensures.reached in
-    Grows-reached c.as_slice-schedule.ensures.value c.requires.state reached c.args.found.now _ c.record.ensures.records refl refl
+    let reached = subst (IsReached c.args.plan.now c.args.state.now.schedule.items c.args.client) c.in-Made.is c.in-Ok.ensures.reached in
+    let records = subst (Records c.args.found.now.given.items c.record.new.list.items c.args.client c.in-Made.place c.in-Made.answer) c.as_slice-schedule.ensures.value c.record.ensures.records in
+    Grows-reached refl c.requires.state reached c.args.found.now _ records refl refl
 
 pub returns-in_default-record-clause-extends : goal.returns-in_default-record-clause-extends
 returns-in_default-record-clause-extends c = Extends-refl c.args.plan.now (c.args.depth + 1) c.args.next.now
@@ -63,10 +61,10 @@ returns-in_err-keep-in-Made-clause-extends c =
 
 pub returns-in_ok-keep-in-Made-clause-extends : goal.returns-in_ok-keep-in-Made-clause-extends
 returns-in_ok-keep-in-Made-clause-extends c =
-    let reached = subst (IsReached c.args.plan.now c.as_slice-schedule.result.now c.args.client) c.in-Made.is c.in-Ok.ensures.reached in
-    Extends-kept c.in_ok-keep-in-Made.ensures.keeps (later-state c.as_slice-schedule.ensures.value c.requires.state reached)
+    let reached = subst (IsReached c.args.plan.now c.args.state.now.schedule.items c.args.client) c.in-Made.is c.in-Ok.ensures.reached in
+    Extends-kept c.in_ok-keep-in-Made.ensures.keeps (later-state refl c.requires.state reached)
 
 pub returns-in_ok-keep-in-Made-clause-tried : goal.returns-in_ok-keep-in-Made-clause-tried
 returns-in_ok-keep-in-Made-clause-tried c =
-    let reached = subst (IsReached c.args.plan.now c.as_slice-schedule.result.now c.args.client) c.in-Made.is c.in-Ok.ensures.reached in
-    tried-made c.as_slice-schedule.ensures.value c.requires.state reached c.requires.explorable c.requires.next c.in-Ok-record.ensures.lists c.in_ok-keep-in-Made.ensures.keeps
+    let reached = subst (IsReached c.args.plan.now c.args.state.now.schedule.items c.args.client) c.in-Made.is c.in-Ok.ensures.reached in
+    tried-made refl c.requires.state reached c.requires.explorable c.requires.next c.in-Ok-record.ensures.lists c.in_ok-keep-in-Made.ensures.keeps

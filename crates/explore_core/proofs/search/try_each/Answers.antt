@@ -4,10 +4,13 @@ use Rattle.explore_core.specs.Search.{AreTried}
 use Rattle.explore_core.proofs.Levels.{Grows-refl, Grows-trans, Extends-refl, Extends-trans}
 use Rattle.explore_core.proofs.Finding.{AreTried-none, AreTried-push}
 use Rattle.explore_core.proofs.Trying.{AreTried-fewer, clients-count}
-use Rattle.explore_core.proofs.search.try_clients.Goals as goal
+use Rattle.explore_core.proofs.search.try_each.Goals as goal
 
 pub try_client-requires-clause-next : goal.try_client-requires-clause-next
 try_client-requires-clause-next c = c.loop-client.invariant.extends.states c.requires.next
+
+pub try_client-requires-clause-at : goal.try_client-requires-clause-at
+try_client-requires-clause-at c = c.loop-client.invariant.at
 
 pub returns-in_err-one-clause-grows : goal.returns-in_err-one-clause-grows
 returns-in_err-one-clause-grows c = Grows-trans c.loop-client.invariant.grows c.try_client.ensures.grows
@@ -19,6 +22,7 @@ pub loop-client-init : goal.loop-client-init
 loop-client-init c = record {
   grows = Grows-refl c.args.plan.now c.args.depth c.args.found.now;
   extends = Extends-refl c.args.plan.now (c.args.depth + 1) c.args.next.now;
+  at = c.requires.at;
   tried = AreTried-none c.args.plan.now c.args.found.now c.args.next.now c.args.state.now;
 }
 
@@ -29,6 +33,7 @@ loop-client-preserved c =
     record {
       grows = Grows-trans before.grows one.grows;
       extends = Extends-trans before.extends one.extends;
+      at = c.in_ok-one.ensures.at;
       tried = subst (AreTried c.args.plan.now c.try_client.new.found c.try_client.new.next c.args.state.now (c.loop-client.client + 1)) (sym c.together-moves.ensures)
           (AreTried-push before.tried one.grows one.extends c.in_ok-one.ensures.tried);
     }
