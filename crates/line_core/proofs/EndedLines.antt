@@ -1,5 +1,5 @@
 -- Lines whose line feed was read, and the lines of the whole script.
-use Rattle.std.proofs.Common.{◌≡◌, ℕ, ◌+◌, ◌-◌, ◌<◌, ◌≤◌, inl, inr, cond, List, [], ◌∷◌, ◌++◌, length, take, Option, Some, refl, sym, ap, ◌∙◌, length-append, length-take, arith}
+use Rattle.std.proofs.Common.{◌≡◌, ℕ, ◌+◌, ◌<◌, ◌≤◌, inl, inr, cond, List, [], ◌∷◌, ◌++◌, length, take, Option, Some, refl, sym, ap, ◌∙◌, length-append, length-take, arith}
 use Rattle.std.proofs.lemmas.Bool.{cases_lt, lt-ltb}
 use Rattle.std.proofs.lemmas.List.{take_all}
 use Rattle.point_core.specs.declared.refusal.Refusal.TheVariants.{LongLine}
@@ -11,15 +11,13 @@ use Rattle.line_core.specs.declared.line.TheConstants.{LINE_BYTES}
 use Rattle.line_core.specs.declared.script.Ending.{Ending}
 use Rattle.line_core.specs.declared.script.Ending.TheVariants as ending
 use Rattle.line_core.specs.declared.script.TheConstants.{SCRIPT_BYTES}
-use Rattle.line_core.specs.Reading.{IsInput, EndsSo, ConsumesAtMost}
+use Rattle.line_core.specs.Reading.{EndsSo, ConsumesAtMost}
 use Rattle.line_core.specs.Cutting.{cut}
 use Rattle.line_core.specs.Line.{body_from, body_of}
-use Rattle.line_core.specs.Script.{lines_of, last_body, answered, numbered, lines_until, ending_of, script_of}
+use Rattle.line_core.specs.Script.{last_body, answered, numbered, lines_until}
 use Rattle.line_core.specs.ScriptLines.{LinesState, HasGiven, HasEnded}
 use Rattle.line_core.specs.Words.{words_of}
-use Rattle.line_core.proofs.Cutting.{take-append}
-use Rattle.line_core.proofs.Fronts.{answered-append, some_lines}
-use Rattle.line_core.proofs.Inputs.{input_from}
+use Rattle.line_core.proofs.Fronts.{answered-append}
 use Rattle.line_core.proofs.LineLemmas.{numbered-cons}
 
 -- the kept bytes of a line have the same body as the line
@@ -67,18 +65,6 @@ pub last-answered : (before now : Option (List ℕ)) (s : LinesState) (end : End
 last-answered before now s end given e bytes number body n held is =
     let place : number ≡ 1 + length given = omega (arith, e.number) in
     ap (λ b. ended_lines 1 given ++ answered number b []) (is ∙ ap (last_body end) (held ∙ e.is.held) ∙ last_body-cut end e.last) ∙ ap (λ k. ended_lines 1 given ++ answered k (last_body end e.last) []) place ∙ sym (ap (numbered end 1) e.split ∙ numbered-given end 1 given (e.last ∷ []) (omega arith))
-
--- the lines that were returned come first among the script's
-pub given-first : (before now : Option (List ℕ)) (s : LinesState) (given : List (List ℕ)) → HasGiven before now s given → (script : List ℕ) × IsInput before script × (rest : List Line) × (script_of script ≡ ended_lines 1 given ++ rest)
-given-first before now s given p =
-    let input = input_from before now p.bytes p.consumed in
-    let script = input.0 in
-    let behind = take (SCRIPT_BYTES - length p.bytes) input.1.more in
-    let within : take SCRIPT_BYTES script ≡ take SCRIPT_BYTES p.bytes ++ behind = ap (λ xs. take SCRIPT_BYTES xs) input.1.whole ∙ take-append SCRIPT_BYTES p.bytes input.1.more in
-    let tail = lines_of (p.front ++ (s.ready ++ behind)) in
-    let lines : lines_of (take SCRIPT_BYTES script) ≡ given ++ tail = ap lines_of within ∙ p.split behind in
-    let first : script_of script ≡ ended_lines 1 given ++ numbered (ending_of script) (1 + length given) tail = ap (numbered (ending_of script) 1) lines ∙ numbered-given (ending_of script) 1 given tail (some_lines (p.front ++ (s.ready ++ behind))) in
-    (script, input.1.input, numbered (ending_of script) (1 + length given) tail, first)
 
 pub given-within : (before now : Option (List ℕ)) (s : LinesState) (given : List (List ℕ)) → HasGiven before now s given → ConsumesAtMost (SCRIPT_BYTES + 1) before now
 given-within before now s given p = record { bytes = p.bytes; consumed = p.consumed; few = omega (arith, p.read, p.few) }

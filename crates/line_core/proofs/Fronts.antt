@@ -1,14 +1,10 @@
 -- The lines of a prefix of a script, and the lines of the whole script.
-use Rattle.std.proofs.Common.{◌≡◌, ℕ, ◌+◌, ◌<◌, Bool, true, false, cond, List, [], ◌∷◌, ◌++◌, length, Option, None, Some, refl, ap, ◌∙◌, arith}
+use Rattle.std.proofs.Common.{◌≡◌, ℕ, ◌<◌, Bool, true, false, cond, List, [], ◌∷◌, ◌++◌, length, Option, None, Some, refl, ap, ◌∙◌, arith}
 use Rattle.std.specs.List.{onto_first}
 use Rattle.std.proofs.lemmas.List.Splits.{length-slice_split}
 use Rattle.line_core.specs.declared.line.Body.{Body}
 use Rattle.line_core.specs.declared.line.Line.{Line}
-use Rattle.line_core.specs.declared.script.Ending.{Ending}
-use Rattle.line_core.specs.declared.script.Ending.TheVariants as ending
-use Rattle.line_core.specs.Line.{body_of}
-use Rattle.line_core.specs.Script.{is_line_feed, lines_of, answered, numbered, lines_until}
-use Rattle.line_core.proofs.LineLemmas.{numbered-cons}
+use Rattle.line_core.specs.Script.{is_line_feed, lines_of, answered}
 
 -- the last of the first pieces is joined to the first of the second
 abbrev pub glue : List (List ℕ) → List (List ℕ) → List (List ℕ)
@@ -45,22 +41,3 @@ lines_of-append (x ∷ xs) ys = ap (λ ls. cond (is_line_feed x) ([] ∷ ls) (on
 pub answered-append : (number : ℕ) (body : Option Body) (front rest : List Line) → answered number body (front ++ rest) ≡ answered number body front ++ rest
 answered-append number None front rest = refl
 answered-append number (Some body) front rest = refl
-
-length-glue : (ps qs : List (List ℕ)) → 0 < length ps → 0 < length (glue ps qs)
-length-glue [] qs h = absurd (omega arith)
-length-glue (p ∷ []) [] h = omega arith
-length-glue (p ∷ []) (q ∷ qs) h = omega arith
-length-glue (p ∷ r ∷ ps) qs h = omega arith
-
--- the lines whose line feed was read come first, whatever follows them
-numbered-front : (end : Ending) (number : ℕ) (ps qs : List (List ℕ)) → 0 < length ps → (rest : List Line) × (numbered end number (glue ps qs) ≡ numbered ending.Failed number ps ++ rest)
-numbered-front end number [] qs h = absurd (omega arith)
-numbered-front end number (p ∷ []) qs h = (numbered end number (glue (p ∷ []) qs), refl)
-numbered-front end number (p ∷ r ∷ ps) qs h =
-    let more = numbered-front end (number + 1) (r ∷ ps) qs (omega arith) in
-    (more.0, numbered-cons end number p (glue (r ∷ ps) qs) (length-glue (r ∷ ps) qs (omega arith)) ∙ ap (answered number (body_of p)) more.1 ∙ answered-append number (body_of p) (numbered ending.Failed (number + 1) (r ∷ ps)) more.0)
-
-pub lines_until-front : (end : Ending) (xs ys : List ℕ) → (rest : List Line) × (lines_until end (xs ++ ys) ≡ lines_until ending.Failed xs ++ rest)
-lines_until-front end xs ys =
-    let front = numbered-front end 1 (lines_of xs) (lines_of ys) (some_lines xs) in
-    (front.0, ap (numbered end 1) (lines_of-append xs ys) ∙ front.1)

@@ -1,21 +1,14 @@
 -- The part of a script that was read, and the whole script.
-use Rattle.std.proofs.Common.{◌≡◌, ◌⊎◌, inl, inr, ℕ, ◌+◌, ◌-◌, ◌<◌, ◌≤◌, cond, List, [], ◌++◌, length, take, Option, None, Some, IfSome, refl, sym, ap, ◌∙◌, subst, append-nil, length-append, arith}
+use Rattle.std.proofs.Common.{◌≡◌, ◌⊎◌, inl, inr, ℕ, ◌+◌, ◌<◌, ◌≤◌, cond, List, [], ◌++◌, length, take, Option, None, Some, IfSome, refl, sym, ap, ◌∙◌, subst, append-nil, length-append, arith}
 use Rattle.std.specs.Io.KnownBytes.{Consumes, IsAtEnd}
-use Rattle.std.proofs.Math.Seq.{take-append-add, take-append_seam}
+use Rattle.std.proofs.Math.Seq.{take-append_seam}
 use Rattle.std.proofs.lemmas.Bool.{le-leb, lt-leb}
 use Rattle.std.proofs.lemmas.List.{take-append-le, take_all}
-use Rattle.line_core.specs.declared.line.Line.{Line}
 use Rattle.line_core.specs.declared.script.Ending.{Ending}
 use Rattle.line_core.specs.declared.script.Ending.TheVariants as ending
 use Rattle.line_core.specs.declared.script.TheConstants.{SCRIPT_BYTES}
 use Rattle.line_core.specs.Reading.{IsInput, WasRead, EndsSo}
 use Rattle.line_core.specs.Script.{lines_until, ending_of, script_of}
-use Rattle.line_core.proofs.Fronts.{lines_until-front}
-
-take-front : (limit : ℕ) (xs ys : List ℕ) → length xs ≤ limit → take limit (xs ++ ys) ≡ xs ++ take (limit - length xs) ys
-take-front limit xs ys h =
-    let split : limit ≡ length xs + (limit - length xs) = omega arith in
-    ap (λ n. take n (xs ++ ys)) split ∙ take-append-add xs ys (limit - length xs)
 
 -- the bytes that were read are a prefix of the script, which is what the reader had
 pub record IsFrontOfInput (known new : Option (List ℕ)) (bytes script : List ℕ) : Type 0 where
@@ -47,20 +40,8 @@ module _ (known new : Option (List ℕ)) (bytes script : List ℕ) (p : IsFrontO
       let within : take SCRIPT_BYTES script ≡ take SCRIPT_BYTES bytes = ap (λ xs. take SCRIPT_BYTES xs) p.whole ∙ take-append-le SCRIPT_BYTES bytes p.more (omega (arith, e)) in
       ap (λ xs. lines_until (ending_of script) xs) within ∙ ap (λ end. lines_until end (take SCRIPT_BYTES bytes)) ends
 
-  pub script_of-failed : EndsSo new bytes ending.Failed → (rest : List Line) × (script_of script ≡ lines_until ending.Failed (take SCRIPT_BYTES bytes) ++ rest)
-  script_of-failed e =
-      let within : take SCRIPT_BYTES script ≡ bytes ++ take (SCRIPT_BYTES - length bytes) p.more = ap (λ xs. take SCRIPT_BYTES xs) p.whole ∙ take-front SCRIPT_BYTES bytes p.more e in
-      let front = lines_until-front (ending_of script) bytes (take (SCRIPT_BYTES - length bytes) p.more) in
-      (front.0, ap (λ xs. lines_until (ending_of script) xs) within ∙ front.1 ∙ ap (λ xs. lines_until ending.Failed xs ++ front.0) (sym (take_all SCRIPT_BYTES bytes e)))
-
 pub lines_until-short : (end : Ending) (bytes : List ℕ) → length bytes ≤ SCRIPT_BYTES → lines_until end (take SCRIPT_BYTES bytes) ≡ lines_until end bytes
 lines_until-short end bytes h = ap (lines_until end) (take_all SCRIPT_BYTES bytes h)
-
--- the lines of the bytes that were read come first among the script's
-pub first_lines : (known new : Option (List ℕ)) (bytes script : List ℕ) (end : Ending) → IsFrontOfInput known new bytes script → EndsSo new bytes end → (rest : List Line) × (script_of script ≡ lines_until end (take SCRIPT_BYTES bytes) ++ rest)
-first_lines known new bytes script ending.Whole p e = ([], script_of-whole known new bytes script p e ∙ sym (append-nil (lines_until ending.Whole (take SCRIPT_BYTES bytes))))
-first_lines known new bytes script ending.TooLong p e = ([], script_of-too_long known new bytes script p e ∙ sym (append-nil (lines_until ending.TooLong (take SCRIPT_BYTES bytes))))
-first_lines known new bytes script ending.Failed p e = script_of-failed known new bytes script p e
 
 -- the bytes that were read are all that the reader had, up to the byte after the limit
 pub reads_front : (known left : Option (List ℕ)) (bytes : List ℕ) (end : Ending) → WasRead known left bytes end → (end ≡ ending.Whole) ⊎ (end ≡ ending.TooLong) → IfSome known (λ input. Consumes known left (take (SCRIPT_BYTES + 1) input))

@@ -5,6 +5,7 @@ pub mod FirstByte
 pub mod Fitting
 pub mod Fronts
 pub mod GivenLines
+pub mod Handling
 pub mod Inputs
 pub mod LineLemmas
 pub mod Lowest
@@ -14,5 +15,6 @@ pub mod Notes
 pub mod Numbers
 pub mod Runs
 pub mod Scans
+pub mod Spaces
 pub mod Spelled
 pub mod Taking

@@ -1,5 +1,7 @@
 pub mod Cutting
 pub mod Following
+pub mod Fronts
+pub mod Handling
 pub mod Line
 pub mod Lines
 pub mod Marks

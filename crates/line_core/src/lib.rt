@@ -5,10 +5,12 @@
 
 mod command;
 mod cutter;
+mod handler;
 pub mod laws;
 mod line;
 mod marks;
 mod number;
+mod prefix;
 mod raw_line;
 mod scan;
 mod script;
@@ -20,8 +22,10 @@ mod usages;
 mod words;
 
 pub use cutter::LineCutter;
+pub use handler::{LineHandler, for_each_line};
 pub use line::{Body, LINE_BYTES, Line};
 pub use number::{DIGITS, is_number};
+pub use prefix::{strip_prefix, without_spaces};
 pub use raw_line::RawLine;
 pub use script::{Ending, SCRIPT_BYTES, first_line, last_body, read_script};
 pub use script_lines::ScriptLines;

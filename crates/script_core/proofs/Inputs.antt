@@ -12,13 +12,12 @@ use Rattle.line_core.specs.declared.script.Ending.{Ending}
 use Rattle.line_core.specs.declared.script.Ending.TheVariants as ending
 use Rattle.line_core.specs.declared.script.TheConstants.{SCRIPT_BYTES}
 use Rattle.script_core.specs.declared.totals.Totals.{Totals}
+use Rattle.line_core.specs.Handling.{BeginsScript}
 use Rattle.line_core.specs.Reading.{IsInput, WasRead, EndsSo}
 use Rattle.line_core.specs.Script.{lines_until, script_of}
-use Rattle.line_core.specs.ScriptLines.{LinesState, HasGiven}
 use Rattle.report_core.specs.Answer.{text_of}
 use Rattle.script_core.specs.Output.{answer_of_line, history_after_line, output_from, IsLineAnswer, AreLineAnswers, texts_of, NoneIsMemory, WritesAnswers, WritesPrefix, Counts, AnswersScript, AnswersEndedLines}
-use Rattle.line_core.proofs.EndedLines.{ended_lines, given-first}
-use Rattle.line_core.proofs.Inputs.{input_from, script_of-whole, script_of-too_long, lines_until-short, first_lines}
+use Rattle.line_core.proofs.Inputs.{input_from, script_of-whole, script_of-too_long, lines_until-short}
 use Rattle.script_core.proofs.Progress.{AppendsFront-all}
 
 -- unless it is Memory, the answer of a line is unique
@@ -65,16 +64,11 @@ WritesPrefix-all lines given old new w = record {
   written = AppendsFront-all old new (texts_of lines given) w.written;
 }
 
-module _ (known left : Option (List ℕ)) (bytes shown : List ℕ) (end : Ending) (lines : List Line) (read : WasRead known left bytes end) (same : shown ≡ bytes) (of : lines ≡ lines_until end (take SCRIPT_BYTES shown)) (old new : Option (List ℕ)) where
-  among : lines ≡ lines_until end (take SCRIPT_BYTES bytes)
-  among = of ∙ ap (λ xs. lines_until end (take SCRIPT_BYTES xs)) same
+-- the lines that were answered are the script's first
+pub prefix_written : (known : Option (List ℕ)) (lines : List (List ℕ)) (said : List Line) (old new : Option (List ℕ)) → BeginsScript known lines said → WritesPrefix said old new → (script : List ℕ) × IsInput known script × WritesPrefix (script_of script) old new
+prefix_written known lines said old new b w = (b.script, b.is, WritesPrefix-more said b.rest (script_of b.script) old new b.first w)
 
-  pub prefix_written : WritesPrefix lines old new → (script : List ℕ) × IsInput known script × WritesPrefix (script_of script) old new
-  prefix_written w =
-      let input = input_from known left bytes read.consumed in
-      let first = first_lines known left bytes input.0 end input.1 read.ends in
-      (input.0, input.1.input, WritesPrefix-more lines first.0 (script_of input.0) old new (first.1 ∙ ap (λ ls. ls ++ first.0) (sym among)) w)
-
+module _ (known left : Option (List ℕ)) (bytes : List ℕ) (end : Ending) (lines : List Line) (read : WasRead known left bytes end) (among : lines ≡ lines_until end (take SCRIPT_BYTES bytes)) (old new : Option (List ℕ)) where
   pub all_written : (totals : Totals) → (end ≡ ending.Whole) ⊎ (end ≡ ending.TooLong) → (given : List Answer) × WritesAnswers lines given old new × Counts totals given → (script : List ℕ) × IsInput known script × AnswersScript script totals old new
   all_written totals ends w =
       let input = input_from known left bytes read.consumed in
@@ -90,9 +84,3 @@ module _ (known left : Option (List ℕ)) (bytes shown : List ℕ) (end : Ending
       let lines_are : lines ≡ lines_until ending.Failed bytes = among ∙ ap (λ x. lines_until x (take SCRIPT_BYTES bytes)) e ∙ lines_until-short ending.Failed bytes short in
       let answers : WritesAnswers (lines_until ending.Failed bytes) w.0 old new = subst (λ ls. WritesAnswers ls w.0 old new) lines_are w.1 in
       record { bytes = bytes; consumed = read.consumed; few = short; given = w.0; answers = answers }
-
--- the lines that were returned come first among the script's
-pub given-front : (before now : Option (List ℕ)) (s : LinesState) (given : List (List ℕ)) (old new : Option (List ℕ)) → HasGiven before now s given → WritesPrefix (ended_lines 1 given) old new → (script : List ℕ) × IsInput before script × WritesPrefix (script_of script) old new
-given-front before now s given old new p w =
-    let first = given-first before now s given p in
-    (first.0, first.1, WritesPrefix-more (ended_lines 1 given) first.2 (script_of first.0) old new first.3 w)

@@ -1,5 +1,5 @@
 -- Lines that are answered one after another.
-use Rattle.std.specs.Prelude.{◌≡◌, ◌≤◌, ◌+◌, ◌⊎◌, ℕ, List, [], ◌∷◌, ◌++◌, take, Option, None, Some, Result, Ok, OnOk, OnErr, IfOk, IfErr}
+use Rattle.std.specs.Prelude.{◌≡◌, ◌≤◌, ◌+◌, ◌⊎◌, ℕ, List, [], ◌∷◌, ◌++◌, Option, None, Some, Result, Ok, OnOk, OnErr, IfOk, IfErr}
 use Rattle.std.specs.Io.KnownBytes.{Appends}
 use Rattle.point_core.specs.declared.refusal.Refusal.{Refusal}
 use Rattle.point_core.specs.declared.refusal.Refusal.TheVariants.{Write as WriteFault, Memory}
@@ -8,14 +8,10 @@ use Rattle.command_core.specs.declared.command.Command.{Command}
 use Rattle.command_core.specs.declared.answer.Answer.{Answer}
 use Rattle.desk_core.specs.theorem.Desk.{DeskState, HasHistory}
 use Rattle.line_core.specs.declared.line.Line.{Line}
-use Rattle.line_core.specs.declared.script.Ending.{Ending}
-use Rattle.line_core.specs.declared.script.TheConstants.{SCRIPT_BYTES}
 use Rattle.script_core.specs.declared.totals.Totals.{Totals}
-use Rattle.line_core.specs.Reading.{WasRead}
 use Rattle.report_core.specs.Bytes.{PassesOn}
 use Rattle.report_core.specs.Answer.{text_of}
 use Rattle.script_core.specs.Output.{history_after_line, IsLineAnswer, AreLineAnswers, refusal_of, texts_of, Grows, WritesAnswers, WritesPrefix, Counts}
-use Rattle.line_core.specs.Script.{lines_until}
 
 -- the history after lines with these answers
 abbrev pub history_along : List Command → List Line → List Answer → List Command
@@ -60,13 +56,6 @@ pub record AnswersLines (lines : List Line) (totals : Totals) (old new : Option 
   pub given : List Answer
   pub answers : WritesAnswers lines given old new
   pub counts : Counts totals given
-
--- bytes of a script were read, which end so, and their lines are answered
-pub record HasAnsweredBytes (before after : Option (List ℕ)) (end : Ending) (s : AnswersState)
-    (old new : Option (List ℕ)) : Type 0 where
-  pub bytes : List ℕ
-  pub read : WasRead before after bytes end
-  pub answered : HasAnswered (lines_until end (take SCRIPT_BYTES bytes)) s old new
 
 -- Line `number` was answered, or an answer could not be passed on: all clauses of `answer_body` as one proposition.
 pub record IsAnswered (number : ℕ) (body : Body) (given : Result (Option Refusal) Refusal) (before after : AnswersState)

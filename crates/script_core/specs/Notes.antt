@@ -9,15 +9,13 @@ use Rattle.line_core.specs.declared.line.Line.{Line}
 use Rattle.script_core.specs.Answering.{AnswersState, HasAnswered}
 use Rattle.script_core.specs.Output.{AreLineAnswers, WritesAnswers, texts_of}
 
--- The script has a line `number`. All lines up to it have their answers, and the texts of these were written, whatever
+-- One of the lines is line `number`. All lines up to it have their answers, and the texts of these were written, whatever
 -- was written after them.
-pub record AnswersUpTo (known : Option (List ℕ)) (number : ℕ) (old new : Option (List ℕ)) : Type 0 where
-  pub script : List ℕ
-  pub is : IsInput known script
+pub record AnswersUpTo (lines : List Line) (number : ℕ) (old new : Option (List ℕ)) : Type 0 where
   pub before : List Line
   pub line : Line
   pub after : List Line
-  pub whole : script_of script ≡ (before ++ line ∷ []) ++ after
+  pub whole : lines ≡ (before ++ line ∷ []) ++ after
   pub numbered : line.number ≡ number
   pub given : List Answer
   pub each : AreLineAnswers [] (before ++ line ∷ []) given
@@ -30,13 +28,19 @@ abbrev pub AreNoted : {N : Type 0} → (ℕ → N → N → Type 0) → List ℕ
 AreNoted {N} noted [] old new = new ≡ old
 AreNoted {N} noted (number ∷ numbers) old new = (between : N) × noted number old between × AreNoted noted numbers between new
 
--- The notes are on some lines, and the answers of all lines up to each of these were written. `known` is the reader's
--- script, `old` and `new` are the writer's bytes before and after the run, `before` and `after` the notes.
-pub record NotesFollow {N : Type 0} (noted : ℕ → N → N → Type 0) (known old new : Option (List ℕ)) (before after : N)
+-- Notes on some of the lines were written, and the answers of all lines up to each of these. `old` and `new` are the
+-- writer's bytes before and after the run, `before` and `after` the notes.
+pub record NotesAmong {N : Type 0} (noted : ℕ → N → N → Type 0) (lines : List Line) (old new : Option (List ℕ)) (before after : N)
     : Type 0 where
   pub numbers : List ℕ
   pub notes : AreNoted noted numbers before after
-  pub follow : All (λ (number : ℕ). AnswersUpTo known number old new) numbers
+  pub follow : All (λ (number : ℕ). AnswersUpTo lines number old new) numbers
+
+-- the lines are the ones of the script that the reader had
+abbrev pub NotesFollow : {N : Type 0} → (ℕ → N → N → Type 0) → Option (List ℕ) → Option (List ℕ) → Option (List ℕ) → N → N
+    → Type 0
+NotesFollow noted known old new before after =
+    (script : List ℕ) × IsInput known script × NotesAmong noted (script_of script) old new before after
 
 -- ---- one line
 

@@ -4,6 +4,7 @@
 #![tactic(auto)]
 
 mod answerer;
+mod answering;
 mod answers;
 mod next_line;
 mod reading;

@@ -1,17 +1,15 @@
 //! Runs a script from a reader to a writer. It reads only when no answer is pending, so an interactive user sees each
 //! answer.
-ghost use Rattle.std.specs.Prelude.{◌≡◌, ◌+◌, ◌⊎◌, [], IfOk, OnErr, IfErr};
-ghost use Rattle.point_core.specs.declared.refusal.Refusal.TheVariants.{Write as WriteFault, Memory};
-ghost use Rattle.line_core.specs.Reading.{ConsumesAtMost};
-ghost use Rattle.script_core.specs.Answering.{HasAnswered, HasAnsweredBytes};
+ghost use Rattle.std.specs.Prelude.{[]};
+ghost use Rattle.script_core.specs.Answering.{HasAnswered};
 ghost use Rattle.script_core.specs.Notes.{NotesFollow};
-ghost use Rattle.script_core.specs.Output.{WritesInputPrefix};
 ghost use Rattle.script_core.specs.Run.{RunsScript};
 
 use crate::answerer::{Answerer, NoNotes};
+use crate::answering::Answering;
 use crate::answers::Answers;
 use crate::totals::Totals;
-use line_core::{Ending, SCRIPT_BYTES, ScriptLines};
+use line_core::{Ending, for_each_line};
 use point_core::Refusal;
 use std::alloc::Global;
 use std::io::{Read, Write};
@@ -71,45 +69,11 @@ fn with_answers<R: Read, W: Write, N, A: Answerer<N>>(
     ensures follows { NotesFollow A.noted (R.remaining reader.old) (W.contents writer.old) (W.contents writer.new)
         notes.old notes.new }
 {
-    let ending = answer_lines(answerer, answers, reader, writer, notes)?;
-    let totals = answers.finish(writer)?;
+    let mut answering = Answering { answerer, answers };
+    let ending = for_each_line(reader, &mut answering, writer, notes)?;
+    let totals = answering.answers.finish(writer)?;
     match ending {
         Ending::Failed => Err(Refusal::Read),
         Ending::Whole | Ending::TooLong => Ok(totals),
-    }
-}
-
-/// Reads lines and answers each as soon as its line feed (or the end of the script) has been read; never reads while
-/// output is pending.
-fn answer_lines<R: Read, W: Write, N, A: Answerer<N>>(
-    answerer: &mut A,
-    answers: &mut Answers,
-    reader: &mut R,
-    writer: &mut W,
-    notes: &mut N,
-) -> Result<Ending, Refusal>
-    requires fresh { HasAnswered [] answers.old (W.contents writer.old) (W.contents writer.old) }
-    ensures ok { IfOk result (λ ending. HasAnsweredBytes (R.remaining reader.old) (R.remaining reader.new) ending
-        answers.new (W.contents writer.old) (W.contents writer.new)) }
-    ensures within { ConsumesAtMost (SCRIPT_BYTES + 1) (R.remaining reader.old) (R.remaining reader.new) }
-    ensures err { OnErr result (WritesInputPrefix (R.remaining reader.old)
-        (W.contents writer.old) (W.contents writer.new)) }
-    ensures follows { NotesFollow A.noted (R.remaining reader.old) (W.contents writer.old) (W.contents writer.new)
-        notes.old notes.new }
-    ensures refusals { IfErr result (λ refusal. (refusal ≡ WriteFault) ⊎ (refusal ≡ Memory)) }
-{
-    let mut lines = ScriptLines::new();
-    loop {
-        if lines.advance() {
-            let line = lines.line();
-            answerer.answer(answers, &line, writer, notes)?;
-        } else {
-            answers.write(writer)?;
-            if let Some(ending) = lines.read(reader) {
-                let line = lines.line();
-                answerer.answer_last(answers, &line, ending, writer, notes)?;
-                return Ok(ending);
-            }
-        }
     }
 }
