@@ -1,6 +1,6 @@
 -- Lines that are answered one after another, and their objects.
-use Rattle.std.proofs.Common.{◌≡◌, ℕ, ◌+◌, ◌-◌, ◌⊎◌, inl, inr, List, [], ◌∷◌, ◌++◌, length, take, Option, None, Some, Bool, cond, refl, sym, ap, ◌∙◌, append_assoc, append-nil, zero-add, subst, arith}
-use Rattle.std.specs.Prelude.{MatchOption, OnOk, Result, Ok, Err}
+use Rattle.std.proofs.Common.{◌≡◌, ℕ, ◌+◌, ◌-◌, ◌⊎◌, inl, inr, List, [], ◌∷◌, ◌++◌, length, take, Option, None, Some, Bool, cond, refl, sym, ap, ◌∙◌, append_assoc, append-nil, zero-add, subst, length-append, arith}
+use Rattle.std.specs.Prelude.{MatchOption}
 use Rattle.std.specs.List.{count_by}
 use Rattle.std.specs.Io.KnownBytes.{Appends}
 use Rattle.std.specs.Str.Lossy.{utf8_lossy}
@@ -23,7 +23,7 @@ use Rattle.line_core.proofs.Inputs.{input_from, script_of-whole, script_of-too_l
 use Rattle.script_core.specs.declared.totals.Totals.{Totals}
 use Rattle.script_core.specs.Answering.{history_along}
 use Rattle.script_core.specs.Output.{AreLineAnswers, Counts, history_after_line}
-use Rattle.script_core.proofs.Progress.{AreLineAnswers-push, history_along-push, length-answers}
+use Rattle.script_core.proofs.Progress.{AreLineAnswers-push, history_along-push}
 use Rattle.json_core.specs.Json.{line_text}
 use Rattle.json_core.specs.Reporting.{ReportsLine}
 use Rattle.json_core.specs.Written.{HasWritten, WritesEndedObjects, WritesObjects, objects_of, shown}
@@ -55,16 +55,17 @@ module _ {lines : List (List ℕ)} {said : List Line} {desk : DeskState} {out : 
       ∙ ap (λ front. front ++ line_text l.number (utf8_lossy (cut line)) a) (p.objects (line ∷ more))
       ∙ append_assoc p.written out (line_text l.number (utf8_lossy (cut line)) a)
 
-  -- a line without an answer
-  written-none : (line : List ℕ) → HasWritten (lines ++ line ∷ []) said desk out totals old now
-  written-none line = record {
+  -- lines without an answer
+  written-more : (rest : List (List ℕ)) → HasWritten (lines ++ rest) said desk out totals old now
+  written-more rest = record {
     given = p.given;
     each = p.each;
     stands = p.stands;
     written = p.written;
-    objects = λ more. ap (λ all. objects_of all said p.given) (append_assoc lines (line ∷ []) more) ∙ p.objects (line ∷ more);
+    objects = λ more. ap (λ all. objects_of all said p.given) (append_assoc lines rest more) ∙ p.objects (rest ++ more);
     appended = p.appended;
     counts = p.counts;
+    few = omega (arith, p.few, length-append lines rest);
   }
 
   written-one : {desk' : DeskState} {out' : List ℕ} {totals' : Totals} {new : Option (List ℕ)} (line : List ℕ) (l : Line) → l.number ≡ length lines + 1
@@ -86,6 +87,7 @@ module _ {lines : List (List ℕ)} {said : List Line} {desk : DeskState} {out : 
           lines = t.lines ∙ ap (λ n. n + 1) p.counts.lines ∙ sym (length_push p.given t.given);
           refused = t.refused ∙ ap (λ n. n + cond (is_refused t.given) 1 0) p.counts.refused ∙ sym (count_by_push is_refused p.given t.given);
         };
+        few = omega (arith, p.few, t.lines, length_push lines line);
       }
 
   -- the pending output is written
@@ -98,14 +100,22 @@ module _ {lines : List (List ℕ)} {said : List Line} {desk : DeskState} {out : 
     objects = λ more. p.objects more ∙ sym (append-nil (p.written ++ out));
     appended = Appends-trans old now new p.written out p.appended all;
     counts = p.counts;
+    few = p.few;
   }
+
+  -- the lines are the ones of these bytes
+  pub written-bytes : (bytes : List ℕ) (end : Ending) (broken : List (List ℕ)) → said ≡ lines_until end (take SCRIPT_BYTES bytes) → lines_of (take SCRIPT_BYTES bytes) ≡ lines ++ broken
+      → HasWritten (lines_of (take SCRIPT_BYTES bytes)) (lines_until end (take SCRIPT_BYTES bytes)) desk out totals old now
+  written-bytes bytes end broken is split =
+      subst (λ ls. HasWritten ls (lines_until end (take SCRIPT_BYTES bytes)) desk out totals old now) (sym split)
+      (subst (λ ls. HasWritten (lines ++ broken) ls desk out totals old now) is (written-more broken))
 
 pub written-next : (lines : List (List ℕ)) (said : List Line) (desk desk' : DeskState) (out out' : List ℕ) (totals totals' : Totals) (old now new : Option (List ℕ)) (line : List ℕ) (number : ℕ) (body : Option Body)
     → HasWritten lines said desk out totals old now → number ≡ length lines + 1
     → MatchOption body ((desk' ≡ desk) × (out' ≡ out) × (totals' ≡ totals) × (new ≡ now)) (λ b. ReportsLine number (cut line) b desk desk' out out' totals totals' now new)
     → HasWritten (lines ++ line ∷ []) (said ++ answered number body []) desk' out' totals' old new
 written-next lines said desk desk' out out' totals totals' old now new line number None p is same =
-    rw (same.0, same.1, same.2, same.3, append-nil said) (written-none p line)
+    rw (same.0, same.1, same.2, same.3, append-nil said) (written-more p (line ∷ []))
 written-next lines said desk desk' out out' totals totals' old now new line number (Some body) p is told =
     written-one p line (record { number = number; body = body }) is told
 
@@ -114,12 +124,8 @@ pub written-out-of : (lines : List (List ℕ)) (said : List Line) (desk desk' : 
     → desk' ≡ desk → out' ≡ [] → totals' ≡ totals → Appends now new out → HasWritten lines said desk' out' totals' old new
 written-out-of lines said desk desk' out out' totals totals' old now new p same none counted all = rw (same, none, counted) (written-out p all)
 
--- no line was answered yet
-pub none-given : {lines : List (List ℕ)} {desk : DeskState} {out : List ℕ} {totals : Totals} {old new : Option (List ℕ)} (p : HasWritten lines [] desk out totals old new) → totals.lines ≡ 0
-none-given p = p.counts.lines ∙ length-answers [] [] p.given p.each
-
 pub written-nothing : (desk : DeskState) (totals : Totals) (contents : Option (List ℕ)) → HasHistory desk [] → Counts totals [] → HasWritten [] [] desk [] totals contents contents
-written-nothing desk totals contents stands counts = record { given = []; each = tt; stands = stands; written = []; objects = λ more. refl; appended = Appends-nil contents; counts = counts }
+written-nothing desk totals contents stands counts = record { given = []; each = tt; stands = stands; written = []; objects = λ more. refl; appended = Appends-nil contents; counts = counts; few = (let none : totals.lines ≡ 0 = counts.lines in omega (arith, none)) }
 
 -- all was written
 pub written-whole : (lines : List (List ℕ)) (said : List Line) (desk : DeskState) (out : List ℕ) (totals : Totals) (old now new : Option (List ℕ)) → HasWritten lines said desk out totals old now
@@ -161,7 +167,3 @@ module _ (before left : Option (List ℕ)) (bytes : List ℕ) (end : Ending) (re
       let within : take SCRIPT_BYTES bytes ≡ bytes = take_all SCRIPT_BYTES bytes short in
       let objects : WritesObjects (lines_of bytes) (lines_until ending.Failed bytes) totals old new = subst (λ xs. WritesObjects (lines_of xs) (lines_until ending.Failed xs) totals old new) within (subst (λ x. WritesObjects (lines_of (take SCRIPT_BYTES bytes)) (lines_until x (take SCRIPT_BYTES bytes)) totals old new) e w) in
       record { bytes = bytes; consumed = read.consumed; few = short; totals = totals; objects = objects }
-
-pub on-ok : {T E A B : Type 0} (r : Result T E) → (A → B) → OnOk r A → OnOk r B
-on-ok (Ok v) f h = f h
-on-ok (Err e) f h = tt

@@ -1,7 +1,9 @@
 -- The JSON output of a script: the objects of its lines' answers, in order, and nothing else.
-use Rattle.std.specs.Prelude.{◌≡◌, ◌≤◌, ◌-◌, ℕ, List, [], ◌∷◌, ◌++◌, length, get_or, Option, take}
+use Rattle.std.specs.Prelude.{◌≡◌, ◌≤◌, ◌⊎◌, ◌-◌, ℕ, List, [], ◌∷◌, ◌++◌, length, get_or, Option, take}
 use Rattle.std.specs.Io.KnownBytes.{Appends, Consumes}
 use Rattle.std.specs.Str.Lossy.{utf8_lossy}
+use Rattle.point_core.specs.declared.refusal.Refusal.{Refusal}
+use Rattle.point_core.specs.declared.refusal.Refusal.TheVariants.{Write as WriteFault, Memory}
 use Rattle.command_core.specs.declared.answer.Answer.{Answer}
 use Rattle.desk_core.specs.theorem.Desk.{DeskState, HasHistory}
 use Rattle.line_core.specs.declared.line.Line.{Line}
@@ -58,15 +60,6 @@ pub record WritesScriptPrefix (input old new : Option (List ℕ)) : Type 0 where
   pub is : IsInput input script
   pub written : WritesObjectsPrefix (lines_of (take SCRIPT_BYTES script)) (script_of script) old new
 
--- a script begins with `lines`, and `said` are the ones that have an answer
-pub record BeginsScript (input : Option (List ℕ)) (lines : List (List ℕ)) (said : List Line) : Type 0 where
-  pub script : List ℕ
-  pub is : IsInput input script
-  pub tail : List (List ℕ)
-  pub split : lines_of (take SCRIPT_BYTES script) ≡ lines ++ tail
-  pub rest : List Line
-  pub first : script_of script ≡ said ++ rest
-
 -- The lines `said` of the first `lines` of a script are answered: their objects are written but for the ones in `out`.
 pub record HasWritten (lines : List (List ℕ)) (said : List Line) (desk : DeskState) (out : List ℕ) (totals : Totals)
     (old new : Option (List ℕ)) : Type 0 where
@@ -77,11 +70,9 @@ pub record HasWritten (lines : List (List ℕ)) (said : List Line) (desk : DeskS
   pub objects : (more : List (List ℕ)) → objects_of (lines ++ more) said given ≡ written ++ out
   pub appended : Appends old new written
   pub counts : Counts totals given
+  pub few : totals.lines ≤ length lines
 
--- the lines with which a script begins are answered so
-pub record HasBegun (input : Option (List ℕ)) (desk : DeskState) (out : List ℕ) (totals : Totals)
-    (old new : Option (List ℕ)) : Type 0 where
-  pub lines : List (List ℕ)
-  pub said : List Line
-  pub begins : BeginsScript input lines said
-  pub written : HasWritten lines said desk out totals old new
+-- A prefix of the objects of the lines `said` was written, whatever follows the first `lines` of the script.
+pub record HasStopped (refusal : Refusal) (lines : List (List ℕ)) (said : List Line) (old new : Option (List ℕ)) : Type 0 where
+  pub is : (refusal ≡ WriteFault) ⊎ (refusal ≡ Memory)
+  pub written : (more : List (List ℕ)) → WritesObjectsPrefix (lines ++ more) said old new

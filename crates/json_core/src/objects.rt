@@ -1,5 +1,6 @@
-//! `Objects`: a desk with the JSON output that is pending, as `script_core::Answers` is for text.
-ghost use Rattle.std.specs.Prelude.{◌≡◌, ◌+◌, ◌<◌, ◌≤◌, ◌⊎◌, ◌∷◌, ◌++◌, [], List, ℕ, Option, None, length, IfErr, IfOk};
+//! `Objects`: a desk with the JSON output that is pending, as `script_core::Answers` is for text. It is the handler of a
+//! script's lines.
+ghost use Rattle.std.specs.Prelude.{◌≡◌, ◌+◌, ◌<◌, ◌⊎◌, ◌∷◌, ◌++◌, [], List, ℕ, Option, length, IfErr, IfOk};
 ghost use Rattle.std.specs.Prelude.{MatchOption, OnErr, OnOk};
 ghost use Rattle.std.specs.Io.KnownBytes.{Appends};
 ghost use Rattle.std.specs.Str.Lossy.{utf8_lossy};
@@ -11,12 +12,12 @@ ghost use Rattle.report_core.specs.Bytes.{AppendsFront, PassesOn};
 ghost use Rattle.json_core.specs.Json.{line_text};
 ghost use Rattle.point_core.specs.declared.refusal.Refusal.TheVariants.{Write as WriteFault, Memory};
 ghost use Rattle.json_core.specs.Reporting.{ReportsLine, ReportsPrefix};
-ghost use Rattle.json_core.specs.Written.{HasWritten};
+ghost use Rattle.json_core.specs.Written.{HasStopped, HasWritten};
 
 use crate::members::push_line;
 use command_core::Answer;
 use desk_core::Desk;
-use line_core::Body;
+use line_core::{Body, Ending, LineHandler, RawLine, body_of, last_body};
 use point_core::Refusal;
 use report_core::{write_many, write_out};
 use script_core::{Totals, answer_line};
@@ -52,7 +53,7 @@ impl Objects {
     /// Answers a line that has an answer. Output is written once enough is pending.
     ///
     /// Fails with `Write` if a write failed or took no byte, and with `Memory` if an allocation failed.
-    pub(crate) fn answer<W: Write>(
+    fn answer<W: Write>(
         &mut self,
         number: u32,
         line: &[u8],
@@ -65,13 +66,8 @@ impl Objects {
             → HasWritten lines said self.old.desk self.old.out.items self.old.totals start (W.contents writer.old)
             → HasWritten (lines ++ text ∷ []) (said ++ answered number body [])
             self.new.desk self.new.out.items self.new.totals start (W.contents writer.new)) }
-
-        // A line without an answer changes nothing, and doesn't fail.
-        ensures none { body ≡ None → (self.new.desk ≡ self.old.desk) × (self.new.out.items ≡ self.old.out.items)
-            × (self.new.totals ≡ self.old.totals) × (W.contents writer.new ≡ W.contents writer.old) }
         ensures err { OnErr result (MatchOption body ⊥ (λ said. ReportsPrefix number line.now said
             self.old.desk self.old.out.items (W.contents writer.old) (W.contents writer.new))) }
-        ensures lines { self.new.totals.lines ≤ self.old.totals.lines + 1 }
         ensures refusals { IfErr result (λ refusal. (refusal ≡ WriteFault) ⊎ (refusal ≡ Memory)) }
     {
         match body {
@@ -93,7 +89,6 @@ impl Objects {
             (W.contents writer.old) (W.contents writer.new)) }
         ensures err { OnErr result (ReportsPrefix number line.now body
             self.old.desk self.old.out.items (W.contents writer.old) (W.contents writer.new)) }
-        ensures lines { self.new.totals.lines ≤ self.old.totals.lines + 1 }
         ensures refusals { IfErr result (λ refusal. (refusal ≡ WriteFault) ⊎ (refusal ≡ Memory)) }
     {
         let answer = answer_line(&mut self.desk, body);
@@ -104,7 +99,7 @@ impl Objects {
     /// Writes the pending output.
     ///
     /// Fails with `Write` if a write failed or took no byte.
-    pub(crate) fn write<W: Write>(&mut self, writer: &mut W) -> Result<(), Refusal>
+    fn write<W: Write>(&mut self, writer: &mut W) -> Result<(), Refusal>
         ensures ok { OnOk result (Appends (W.contents writer.old) (W.contents writer.new) self.old.out.items) }
         ensures none { OnOk result (self.new.out.items ≡ []) }
         ensures err { OnErr result (AppendsFront (W.contents writer.old) (W.contents writer.new) self.old.out.items) }
@@ -127,6 +122,40 @@ impl Objects {
         self.write(writer)?;
         writer.flush().map_err(|_| Refusal::Write)?;
         Ok(self.totals)
+    }
+}
+
+impl<W: Write> LineHandler<W, ()> for Objects {
+    ghost handled = { λ start lines said now. HasWritten lines said now.0.desk now.0.out.items now.0.totals
+        (W.contents start.1) (W.contents now.1) };
+
+    ghost ended = { λ end start lines said now. HasWritten lines said now.0.desk now.0.out.items now.0.totals
+        (W.contents start.1) (W.contents now.1) };
+
+    ghost failed = { λ refusal start lines said now. HasStopped refusal lines said (W.contents start.1) (W.contents now.1) };
+
+    fn handle(
+        &mut self,
+        line: &RawLine<'_>,
+        writer: &mut W,
+        _notes: &mut (),
+    ) -> Result<(), Refusal> {
+        self.answer(line.number, line.bytes, body_of(line.bytes), writer)
+    }
+
+    fn pause(&mut self, writer: &mut W, _notes: &mut ()) -> Result<(), Refusal> {
+        self.write(writer)
+    }
+
+    fn handle_last(
+        &mut self,
+        line: &RawLine<'_>,
+        ending: Ending,
+        writer: &mut W,
+        _notes: &mut (),
+    ) -> Result<(), Refusal> {
+        let body = last_body(ending, line.bytes);
+        self.answer(line.number, line.bytes, body, writer)
     }
 }
 

@@ -1,14 +1,10 @@
 //! Runs a script from a reader, and writes JSON. `run --json` calls it.
-ghost use Rattle.std.specs.Prelude.{◌≡◌, ◌+◌, ◌⊎◌, List, ℕ, [], take, IfErr, IfOk, OnErr};
-ghost use Rattle.point_core.specs.declared.refusal.Refusal.TheVariants.{Write as WriteFault, Memory};
-ghost use Rattle.line_core.specs.Reading.{ConsumesAtMost, WasRead};
-ghost use Rattle.line_core.specs.Script.{lines_of, lines_until};
-ghost use Rattle.line_core.specs.declared.script.TheConstants.{SCRIPT_BYTES};
+ghost use Rattle.std.specs.Prelude.{[]};
 ghost use Rattle.json_core.specs.Run.{RunsJson};
-ghost use Rattle.json_core.specs.Written.{HasBegun, HasWritten, WritesScriptPrefix};
+ghost use Rattle.json_core.specs.Written.{HasWritten};
 
 use crate::objects::Objects;
-use line_core::{Ending, ScriptLines, body_of, last_body};
+use line_core::{Ending, for_each_line};
 use point_core::Refusal;
 use script_core::Totals;
 use std::alloc::Global;
@@ -45,50 +41,10 @@ fn with_objects<R: Read, W: Write>(
     ensures run { RunsJson result (R.remaining reader.old) (R.remaining reader.new)
         (W.contents writer.old) (W.contents writer.new) }
 {
-    let ending = answer_lines(objects, reader, writer)?;
+    let ending = for_each_line(reader, objects, writer, &mut ())?;
     let totals = objects.finish(writer)?;
     match ending {
         Ending::Failed => Err(Refusal::Read),
         Ending::Whole | Ending::TooLong => Ok(totals),
-    }
-}
-
-/// Reads lines and answers each as soon as its end has been read; never reads while output is pending.
-fn answer_lines<R: Read, W: Write>(
-    objects: &mut Objects,
-    reader: &mut R,
-    writer: &mut W,
-) -> Result<Ending, Refusal>
-    requires fresh { HasWritten [] [] objects.old.desk objects.old.out.items objects.old.totals
-        (W.contents writer.old) (W.contents writer.old) }
-    ensures ok { IfOk result (λ ending. (bytes : List ℕ)
-        × WasRead (R.remaining reader.old) (R.remaining reader.new) bytes ending
-        × HasWritten (lines_of (take SCRIPT_BYTES bytes)) (lines_until ending (take SCRIPT_BYTES bytes))
-        objects.new.desk objects.new.out.items objects.new.totals (W.contents writer.old) (W.contents writer.new)) }
-    ensures begun { IfOk result (λ _. HasBegun (R.remaining reader.old)
-        objects.new.desk objects.new.out.items objects.new.totals (W.contents writer.old) (W.contents writer.new)) }
-    ensures within { ConsumesAtMost (SCRIPT_BYTES + 1) (R.remaining reader.old) (R.remaining reader.new) }
-    ensures err { OnErr result (WritesScriptPrefix (R.remaining reader.old)
-        (W.contents writer.old) (W.contents writer.new)) }
-    ensures refusals { IfErr result (λ refusal. (refusal ≡ WriteFault) ⊎ (refusal ≡ Memory)) }
-{
-    let mut lines = ScriptLines::new();
-    loop {
-        if lines.advance() {
-            let line = lines.line();
-            objects.answer(line.number, line.bytes, body_of(line.bytes), writer)?;
-        } else {
-            objects.write(writer)?;
-            if let Some(ending) = lines.read(reader) {
-                let line = lines.line();
-                objects.answer(
-                    line.number,
-                    line.bytes,
-                    last_body(ending, line.bytes),
-                    writer,
-                )?;
-                return Ok(ending);
-            }
-        }
     }
 }

@@ -1,5 +1,6 @@
 use Rattle.std.proofs.Common.{Some}
-use Rattle.json_core.proofs.Writing.{on-ok, written-next}
+use Rattle.line_core.proofs.Handling.{on-ok}
+use Rattle.json_core.proofs.Writing.{written-next}
 use Rattle.json_core.proofs.objects.Objects.answer.Goals as goal
 
 pub returns-in-Some-clause-written : goal.returns-in-Some-clause-written
