@@ -1,12 +1,12 @@
 -- Numbers of a line.
-use Rattle.std.specs.Prelude.{ℕ, ◌+◌, ◌*◌, ◌-◌, ◌^◌, Bool, ◌&&◌, nat_le, nat_lt, if◌then◌else◌, List, length, take, drop, Option, None, Some, option_map, codes}
+use Rattle.std.specs.Prelude.{ℕ, ◌+◌, ◌*◌, ◌-◌, ◌^◌, ◌==◌, Bool, ◌&&◌, ◌||◌, nat_le, nat_lt, if◌then◌else◌, List, ◌++◌, length, take, drop, Option, None, Some, option_map, codes}
 use Rattle.std.specs.Char.{is_ascii_digit}
 use Rattle.std.specs.List.{prefix_len, suffix_len}
 use Rattle.std.specs.Option.{option_and_then}
 use Rattle.std.specs.Str.{all_ascii_digits}
 use Rattle.std.specs.Str.Parse.{digits_value}
 use Rattle.trace_core.specs.declared.number.TheConstants.{DECIMALS, SECOND}
-use Rattle.trace_core.specs.Steps.{after, before}
+use Rattle.trace_core.specs.Steps.{after, before, part_at}
 
 -- one digit or more, with a value below the limit; leading zeros are allowed
 abbrev pub is_numeral : ℕ → List ℕ → Bool
@@ -57,3 +57,22 @@ time_at bytes =
     option_and_then
     (λ seconds. option_and_then (with_decimals seconds.0) (after seconds.1 (codes ".")))
     (number_at (2 ^ 64) bytes)
+
+-- six decimals, with zeros for those that are missing
+abbrev pub filled : List ℕ → List ℕ
+filled decimals = decimals ++ drop (length decimals) (codes "000000")
+
+-- one to six decimals of a second, in microseconds
+unfoldable pub fraction : List ℕ → Option ℕ
+fraction decimals =
+    if length decimals == 0 || nat_lt DECIMALS (length decimals) then None else numeral (2 ^ 64) (filled decimals)
+
+-- seconds, with decimals where there is a point
+abbrev pub time_in : List ℕ → Option (List ℕ × List ℕ) → Option ℕ
+time_in word None = option_and_then (λ seconds. microseconds seconds 0) (numeral (2 ^ 64) word)
+time_in word (Some parts) =
+    option_and_then (λ seconds. option_and_then (microseconds seconds) (fraction parts.1)) (numeral (2 ^ 64) parts.0)
+
+-- the time that a word spells in seconds, in microseconds
+unfoldable pub time_spelled : List ℕ → Option ℕ
+time_spelled word = time_in word (part_at (codes ".") word)

@@ -1,8 +1,20 @@
 -- A window of a trace's time.
-use Rattle.std.specs.Prelude.{ℕ, Bool, true, false, nat_lt, if◌then◌else◌}
+use Rattle.std.specs.Prelude.{ℕ, Bool, true, false, nat_le, nat_lt, if◌then◌else◌, List, Option, None, Some}
 use Rattle.trace_core.specs.declared.window.Span.{Span}
 use Rattle.trace_core.specs.declared.window.Stage.{Stage}
 use Rattle.trace_core.specs.declared.window.Stage.TheVariants.{Before, Within, After}
+use Rattle.trace_core.specs.Number.{time_spelled}
+
+-- the time that a text spells, or the other one where there is no text
+abbrev pub time_or : ℕ → Option (List ℕ) → Option ℕ
+time_or other None = Some other
+time_or other (Some text) = time_spelled text
+
+-- the window between two times, if both are times and the first is not later
+abbrev pub span_of : Option ℕ → Option ℕ → Option Span
+span_of None to = None
+span_of (Some from) None = None
+span_of (Some from) (Some to) = if nat_le from to then Some (record { from = from; to = to }) else None
 
 -- the stage after an event once the window began: past the window from the first event that is later than its end
 abbrev pub within : Span → ℕ → Stage

@@ -3,10 +3,10 @@ ghost use Rattle.std.specs.Prelude.{◌≡◌, ◌≤◌, ◌^◌, length, optio
 ghost use Rattle.std.specs.List.{prefix_len};
 ghost use Rattle.std.specs.Char.{is_ascii_digit};
 ghost use Rattle.std.specs.Str.Parse.{digits_value};
-ghost use Rattle.trace_core.specs.Number.{numeral, number_at, number_at_end, time_at, time_of};
+ghost use Rattle.trace_core.specs.Number.{filled, fraction, microseconds, numeral, number_at, number_at_end, time_at, time_of, time_spelled};
 
 use crate::runs::{Class, before_run, split_run};
-use crate::steps::{after, before};
+use crate::steps::{after, before, part_at};
 
 /// The decimals of a second that are read.
 const DECIMALS: usize = 6;
@@ -116,5 +116,43 @@ fn time_of(seconds: u64, decimals: &[u8]) -> Option<u64>
         return None;
     }
     let part = numeral(&decimals[..DECIMALS])?;
+    microseconds(seconds, part)
+}
+
+fn microseconds(seconds: u64, part: u64) -> Option<u64>
+    ensures value { result ≡ microseconds seconds part }
+{
     seconds.checked_mul(SECOND)?.checked_add(part)
+}
+
+/// The time in microseconds that the word spells: seconds, with up to six decimals after a point.
+#[tactic(auto, unfolding(crate::specs::Number::time_spelled))]
+pub(crate) fn time_spelled(word: &[u8]) -> Option<u64>
+    ensures value { result ≡ time_spelled word.now }
+{
+    match part_at(word, b".") {
+        Some((seconds, decimals)) => microseconds(numeral(seconds)?, fraction(decimals)?),
+        None => microseconds(numeral(word)?, 0),
+    }
+}
+
+/// One to six decimals of a second, in microseconds.
+#[tactic(auto, unfolding(crate::specs::Number::fraction))]
+fn fraction(decimals: &[u8]) -> Option<u64>
+    ensures value { result ≡ fraction decimals.now }
+{
+    if decimals.is_empty() || decimals.len() > DECIMALS {
+        return None;
+    }
+    numeral(&filled(decimals))
+}
+
+/// Six decimals, with zeros for those that are missing.
+fn filled(decimals: &[u8]) -> [u8; DECIMALS]
+    requires few { length decimals.now ≤ DECIMALS }
+    ensures value { result ≡ filled decimals.now }
+{
+    let mut six = *b"000000";
+    six[..decimals.len()].copy_from_slice(decimals);
+    six
 }

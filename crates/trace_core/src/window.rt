@@ -1,7 +1,9 @@
 //! `Span` and `Stage`: a window of a trace's time, and where a reading is: before the window, within it or past it.
 //! A stage never goes back, though times may: `Stage::after` upholds that, and `reading` calls it once for each event.
-ghost use Rattle.std.specs.Prelude.{◌≡◌, ◌≤◌, IfSome};
-ghost use Rattle.trace_core.specs.Window.{is_over, stage_after, within};
+ghost use Rattle.std.specs.Prelude.{◌≡◌, ◌≤◌, ◌^◌, ◌-◌, IfSome, option_map};
+ghost use Rattle.trace_core.specs.Window.{is_over, span_of, stage_after, time_or, within};
+
+use crate::number::time_spelled;
 
 /// A window of a trace's time, in microseconds, both ends within.
 #[derive(Clone, Copy)]
@@ -10,73 +12,31 @@ pub struct Span {
     pub to: u64,
 }
 
-/// Microseconds of a second.
-const SECOND: u64 = 1_000_000;
-
-/// The decimals of a second.
-const DECIMALS: usize = 6;
-
 impl Span {
     /// The window between two times in seconds, each with up to six decimals, or from the beginning or up to the end where none is
     /// given. None where a text is no time, or the window would end before it begins.
     pub fn read(from: Option<&str>, to: Option<&str>) -> Option<Span>
+        ensures read { result ≡ span_of (time_or 0 (option_map (λ t. t.now) from.entry))
+            (time_or (2 ^ 64 - 1) (option_map (λ t. t.now) to.entry)) }
         ensures order { IfSome result (λ span. span.from ≤ span.to) }
     {
-        let span = Span {
-            from: match from {
-                Some(text) => microseconds(text.as_bytes())?,
-                None => 0,
-            },
-            to: match to {
-                Some(text) => microseconds(text.as_bytes())?,
-                None => u64::MAX,
-            },
-        };
-        if span.from <= span.to {
-            Some(span)
+        let from = time_or(from, 0)?;
+        let to = time_or(to, u64::MAX)?;
+        if from <= to {
+            Some(Span { from, to })
         } else {
             None
         }
     }
 }
 
-/// A time in seconds, in microseconds.
-fn microseconds(text: &[u8]) -> Option<u64> {
-    let mut seconds: u64 = 0;
-    for (place, byte) in text.iter().enumerate() {
-        if *byte == b'.' && place > 0 {
-            let part = decimals(&text[place + 1..])?;
-            return seconds.checked_mul(SECOND)?.checked_add(part);
-        }
-        seconds = seconds.checked_mul(10)?.checked_add(digit(*byte)?)?;
-    }
-    if text.is_empty() {
-        return None;
-    }
-    seconds.checked_mul(SECOND)
-}
-
-/// Up to six decimals of a second, in microseconds.
-fn decimals(text: &[u8]) -> Option<u64> {
-    if text.is_empty() || text.len() > DECIMALS {
-        return None;
-    }
-    let mut part: u64 = 0;
-    for place in 0..DECIMALS {
-        let next = match text.get(place) {
-            Some(byte) => digit(*byte)?,
-            None => 0,
-        };
-        part = part.checked_mul(10)?.checked_add(next)?;
-    }
-    Some(part)
-}
-
-fn digit(byte: u8) -> Option<u64> {
-    if byte.is_ascii_digit() {
-        Some(u64::from(byte).saturating_sub(u64::from(b'0')))
-    } else {
-        None
+/// The time that a text spells, or the other one where there is none.
+fn time_or(text: Option<&str>, other: u64) -> Option<u64>
+    ensures time { result ≡ time_or other (option_map (λ t. t.now) text.entry) }
+{
+    match text {
+        Some(text) => time_spelled(text.as_bytes()),
+        None => Some(other),
     }
 }
 
