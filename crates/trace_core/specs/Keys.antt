@@ -17,6 +17,9 @@ same_key a b =
 abbrev pub timeline_of : FenceKey → TimelineKey
 timeline_of key = record { driver = key.driver; timeline = key.timeline }
 
+abbrev pub timeline_of_context : ContextKey → TimelineKey
+timeline_of_context key = record { driver = key.driver; timeline = key.timeline }
+
 abbrev pub context_of : FenceKey → ContextKey
 context_of key = record { driver = key.driver; timeline = key.timeline; context = key.context }
 

@@ -3,6 +3,7 @@
 ghost use Rattle.std.specs.Prelude.{◌≡◌, false, true, if◌then◌else◌, OnOk, IfOk, IfErr, nat_lt, length};
 ghost use Rattle.point_core.specs.declared.refusal.Refusal.TheVariants.{Memory};
 ghost use Rattle.trace_core.specs.declared.sighting.ContextKey.{ContextKey};
+ghost use Rattle.trace_core.specs.declared.contexts.TheConstants.{KEPT_CONTEXTS};
 ghost use Rattle.trace_core.specs.Contexts.{context_at, context_after, found_of, no_context};
 ghost use Rattle.trace_core.specs.Keys.{same_context, context_of};
 
@@ -130,7 +131,9 @@ impl Contexts {
     }
 
     /// Whether there are more than are kept.
-    pub fn are_crowded(&self) -> bool {
+    pub fn are_crowded(&self) -> bool
+        ensures { result ≡ nat_lt KEPT_CONTEXTS (length self.now.by_key.entries) }
+    {
         self.by_key.len() > KEPT_CONTEXTS
     }
 

@@ -1,6 +1,6 @@
 //! `Names`: names of drivers and timelines, numbered by first sight. A name keeps its number, so keys can hold numbers instead of
 //! names. The tracker numbers the names of each record.
-ghost use Rattle.std.specs.Prelude.{◌≡◌, ◌<◌, List, ℕ, Some, IfOk, IfErr, IfSome, option_map};
+ghost use Rattle.std.specs.Prelude.{◌≡◌, ◌<◌, List, ℕ, None, Some, IfOk, IfErr, IfSome, option_map};
 ghost use Rattle.trace_core.specs.declared.names.TheConstants.{RECENT};
 ghost use Rattle.point_core.specs.declared.refusal.Refusal.TheVariants.{Memory};
 ghost use Rattle.trace_core.specs.Names.{name_at};
@@ -22,7 +22,9 @@ pub struct Names {
 
 impl Names {
     /// No names. Does not allocate.
-    pub fn new(alloc: Global) -> Names {
+    pub fn new(alloc: Global) -> Names
+        ensures none { (n : ℕ) → name_at result n ≡ None }
+    {
         Names {
             names: IndexSet::new(alloc),
             recent: [0; RECENT],

@@ -1,7 +1,7 @@
 //! `Sighting` and its keys: one event of a fence, with the names of driver and timeline as numbers, so that keys are `Copy` and
 //! compare fast. The tracker numbers the names; the ledger sees only sightings.
 ghost use Rattle.std.specs.Prelude.{◌≡◌};
-ghost use Rattle.trace_core.specs.Keys.{timeline_of, context_of, unnumbered};
+ghost use Rattle.trace_core.specs.Keys.{timeline_of, timeline_of_context, context_of, unnumbered};
 
 use crate::event::Event;
 
@@ -31,7 +31,9 @@ pub struct FenceKey {
 
 impl ContextKey {
     /// The timeline of the context.
-    pub fn timeline_key(&self) -> TimelineKey {
+    pub fn timeline_key(&self) -> TimelineKey
+        ensures { result ≡ timeline_of_context self.now }
+    {
         TimelineKey {
             driver: self.driver,
             timeline: self.timeline,

@@ -5,7 +5,7 @@ ghost use Rattle.point_core.specs.declared.refusal.Refusal.TheVariants.{Memory};
 ghost use Rattle.trace_core.specs.Item.{Meaning, meaning_of, Event as EventMeaning};
 ghost use Rattle.trace_core.specs.Record.{Printed, printed};
 ghost use Rattle.trace_core.specs.Names.{name_or_none};
-ghost use Rattle.trace_core.specs.Tracker.{Keeps, Says, Tracks, given, is_event};
+ghost use Rattle.trace_core.specs.Tracker.{Keeps, Says, Tracks, given, is_event, latest_of};
 ghost use Rattle.trace_core.specs.Waits.{IsWaitOf};
 
 use crate::delays::Delays;
@@ -100,7 +100,9 @@ impl Tracker {
     }
 
     /// The latest time of an event, in microseconds, or 0 if there was none.
-    pub fn latest(&self) -> u64 {
+    pub fn latest(&self) -> u64
+        ensures { result ≡ latest_of self.now.summary.clock }
+    {
         match self.summary.clock {
             Some(clock) => clock.latest,
             None => 0,

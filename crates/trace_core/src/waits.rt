@@ -83,38 +83,52 @@ impl Waits {
     }
 
     /// The waits that have not ended, by their start, but for gaps that ends leave.
-    pub fn open(&self) -> &IndexMap<WaitKey, Wait> {
+    pub fn open(&self) -> &IndexMap<WaitKey, Wait>
+        ensures { result.now ≡ self.now.open }
+    {
         &self.open
     }
 
     /// The sums of each timeline, by the first end.
-    pub fn by_timeline(&self) -> &IndexMap<TimelineKey, WaitSum> {
+    pub fn by_timeline(&self) -> &IndexMap<TimelineKey, WaitSum>
+        ensures { result.now ≡ self.now.by_timeline }
+    {
         &self.by_timeline
     }
 
     /// The longest waits that ended, the longest first.
-    pub fn longest(&self) -> &[Wait] {
+    pub fn longest(&self) -> &[Wait]
+        ensures { result.now ≡ self.now.longest.items }
+    {
         self.longest.as_slice()
     }
 
     /// The sum of all waits that ended and began within the text.
-    pub fn ended(&self) -> WaitSum {
+    pub fn ended(&self) -> WaitSum
+        ensures { result ≡ self.now.ended }
+    {
         self.ended
     }
 
     /// How many ends had no start.
-    pub fn without_start(&self) -> u64 {
+    pub fn without_start(&self) -> u64
+        ensures { result ≡ self.now.without_start }
+    {
         self.without_start
     }
 
     /// How many ended before a signal of the fence: a timeout, or a signal to the task.
-    pub fn unsignalled(&self) -> u64 {
+    pub fn unsignalled(&self) -> u64
+        ensures { result ≡ self.now.unsignalled }
+    {
         self.unsignalled
     }
 
     /// Begins a wait, and answers it.
     pub fn start(&mut self, sighting: &Sighting, task: TaskName) -> Result<Wait, Refusal>
         ensures begun { IfOk result (IsWaitOf sighting.now) }
+        ensures start { IfOk result (λ wait. wait.start ≡ sighting.now.time) }
+        ensures task { IfOk result (λ wait. wait.task ≡ task) }
         ensures memory { IfErr result (λ e. e ≡ Memory) }
     {
         let wait = Wait {
