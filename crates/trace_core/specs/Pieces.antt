@@ -52,6 +52,11 @@ pub record IsWaiting (s : Unpassed) : Type 0 where
   pub short : length s.bytes ≤ PIECE_BYTES ⊎ HasNoLineFeed s.bytes
   pub long : s.long ≡ true → HasNoLineFeed s.bytes
 
+-- bytes came from the reader, or the end of the text was found
+abbrev pub HasReadOn : Unpassed → Unpassed → Option (List ℕ) → Option (List ℕ) → Type 0
+HasReadOn old new before after =
+    ((bytes : List ℕ) × (1 ≤ length bytes) × Consumes before after bytes) ⊎ ((old.whole ≡ false) × (new.whole ≡ true))
+
 -- without the first bytes
 abbrev pub passed : Unpassed → ℕ → Unpassed
 passed s len = record { bytes = drop len s.bytes; whole = s.whole; long = false }

@@ -1,7 +1,7 @@
 -- A window of a trace, as it is read.
-use Rattle.std.specs.Prelude.{◌≡◌, ℕ, ◌⊎◌, Bool, true, false, List, [], ◌∷◌, ◌++◌, reverse, Option, None, Some}
+use Rattle.std.specs.Prelude.{◌≡◌, ℕ, ◌⊎◌, Bool, true, false, not, List, [], ◌∷◌, reverse, Option, None, Some}
 use Rattle.trace_core.specs.Item.{Meaning, Event, Other, Unread, Lost, BufferStarted, Counts, Note}
-use Rattle.trace_core.specs.Pieces.{HasPassed, HasReadAll, IsNext, Unpassed}
+use Rattle.trace_core.specs.Pieces.{HasPassed, HasReadAll, HasReadOn, IsNext, Unpassed, passed}
 use Rattle.trace_core.specs.Record.{Printed}
 use Rattle.trace_core.specs.declared.reading.Next.{Next}
 use Rattle.trace_core.specs.declared.reading.Next.TheVariants as next
@@ -88,12 +88,13 @@ TookIn span r t before now items earlier seen stage =
     (printed : Printed) × HasRead span r t before now (Event printed ∷ items) ((seen, printed) ∷ earlier)
     × (stage_at span ((seen, printed) ∷ earlier) ≡ stage)
 
--- pieces were taken in that are no events
+-- a piece was taken in that is no event and no loss
 abbrev pub PassedOver : Span → Reading → Tracker → Option (List ℕ) → Option (List ℕ)
     → List Meaning → List (Seen × Printed) → Type 0
-PassedOver span r t before now items seen = (more : List Meaning) × HasRead span r t before now (more ++ items) seen
+PassedOver span r t before now items seen =
+    (item : Meaning) × (loss_of item ≡ next.Other) × HasRead span r t before now (item ∷ items) seen
 
--- the answer of a step is true, and nothing else was taken in
+-- The answer of a step is true, and nothing else was taken in: an event or a loss is given when it is, and no piece twice.
 abbrev pub GoesOn : Span → Reading → Tracker → Option (List ℕ) → Option (List ℕ)
     → List Meaning → List (Seen × Printed) → Next → Type 0
 GoesOn span r t before now items earlier (next.Before seen) = TookIn span r t before now items earlier seen Before
@@ -101,6 +102,52 @@ GoesOn span r t before now items earlier (next.Within seen) = TookIn span r t be
 GoesOn span r t before now items earlier next.End =
     HasRead span r t before now items earlier × HasReadWindow span before now items earlier
 GoesOn span r t before now items earlier next.Begin = HasRead span r t before now items earlier
-GoesOn span r t before now items earlier (next.Lost events) = PassedOver span r t before now items earlier
-GoesOn span r t before now items earlier next.StartedLate = PassedOver span r t before now items earlier
-GoesOn span r t before now items earlier next.Other = PassedOver span r t before now items earlier
+GoesOn span r t before now items earlier (next.Lost events) =
+    (cpu : ℕ) × HasRead span r t before now (Lost cpu events ∷ items) earlier
+GoesOn span r t before now items earlier next.StartedLate =
+    (cpu : ℕ) × HasRead span r t before now (BufferStarted cpu ∷ items) earlier
+GoesOn span r t before now items earlier next.Other =
+    PassedOver span r t before now items earlier ⊎ HasRead span r t before now items earlier
+
+-- whether a window begins at that stage, unless it has begun
+abbrev pub begins : Stage → Bool → Bool
+begins Before begun = false
+begins Within begun = not begun
+begins After begun = not begun
+
+-- the next piece was passed
+pub record Passes (old new : Reading) : Type 0 where
+  pub item : Meaning
+  pub len : ℕ
+  pub next : IsNext old.pieces item len
+  pub is : new.pieces ≡ passed old.pieces len
+  pub begun : new.has_begun ≡ old.has_begun
+
+-- the text was read on, and nothing was passed
+pub record ReadsOn (old new : Reading) (before after : Option (List ℕ)) : Type 0 where
+  pub more : HasReadOn old.pieces new.pieces before after
+  pub begun : new.has_begun ≡ old.has_begun
+
+-- Each step gets ahead: the window begins, once; or the next piece is passed; or the text is read on. The window begins before
+-- its first event, and before its end.
+abbrev pub GetsAhead : Reading → Reading → Option (List ℕ) → Option (List ℕ) → Next → Type 0
+GetsAhead old new before after next.Begin = (old.has_begun ≡ false) × (new.has_begun ≡ true)
+GetsAhead old new before after (next.Within seen) = (old.has_begun ≡ true) × Passes old new
+GetsAhead old new before after (next.Before seen) = Passes old new
+GetsAhead old new before after (next.Lost events) = Passes old new
+GetsAhead old new before after next.StartedLate = Passes old new
+GetsAhead old new before after next.Other = Passes old new ⊎ ReadsOn old new before after
+GetsAhead old new before after next.End = old.has_begun ≡ true
+
+-- the text was read so far
+pub record IsReading (span : Span) (r : Reading) (t : Tracker) (text rest : Option (List ℕ)) : Type 0 where
+  pub items : List Meaning
+  pub seen : List (Seen × Printed)
+  pub read : HasRead span r t text rest items seen
+
+-- the text was read up to the end of the window, and the tracker knows what it says
+pub record HasTakenIn (span : Span) (t : Tracker) (text rest : Option (List ℕ)) : Type 0 where
+  pub items : List Meaning
+  pub seen : List (Seen × Printed)
+  pub window : HasReadWindow span text rest items seen
+  pub tracks : Tracks t items seen

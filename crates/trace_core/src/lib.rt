@@ -50,7 +50,7 @@ pub use names::Names;
 pub use order::Order;
 pub use pending::{Pending, PendingKind, pending_of};
 pub use piece::{Piece, RECORD_LINES};
-pub use pieces::{Pieces, Progress};
+pub use pieces::Pieces;
 pub use points::Points;
 pub use reading::{Next, Reading};
 pub use record::{Record, record_of};

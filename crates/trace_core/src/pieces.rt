@@ -2,11 +2,13 @@
 //!
 //! The unpassed bytes are those between `start` and `end` (`AreWithin`); `HasPassed` says which items of the text were passed.
 //! `Reading` calls `next`, then `pass` or `read`.
-ghost use Rattle.std.specs.Prelude.{◌≡◌, ◌≤◌, ◌++◌, ◌∷◌, ◌||◌, [], List, ℕ, Option, true, false, nat_lt, length, IfSome, IfNone, if◌then◌else◌};
+ghost use Rattle.std.specs.Prelude.{◌≡◌, ◌≤◌, ◌++◌, ◌∷◌, ◌||◌, [], List, ℕ, Option, true, false, nat_lt, length, IfSome, IfNone, IfErr, OnOk, if◌then◌else◌};
+ghost use Rattle.point_core.specs.declared.refusal.Refusal.TheVariants.{Read as ReadFault};
 ghost use Rattle.trace_core.specs.Item.{Meaning, meaning_of};
 
 use crate::item::PIECE_BYTES;
 use crate::piece::{Piece, first_piece, rest_of_line};
+use point_core::Refusal;
 use std::io::Read;
 use std::marker::Model;
 
@@ -15,17 +17,6 @@ const BLOCK_BYTES: usize = 65536;
 
 /// The bytes that are held: the beginning of a piece, and the bytes of a block after it.
 const HELD_BYTES: usize = PIECE_BYTES + BLOCK_BYTES;
-
-/// What a read gave.
-#[derive(Clone, Copy)]
-pub enum Progress {
-    /// Bytes were read.
-    More,
-    /// The text is whole: the reader is at its end.
-    Whole,
-    /// The read failed. An interrupted read counts as failed.
-    Failed,
-}
 
 /// The pieces of a text, one after another. It holds one block of the text and the beginning of a piece that began before it.
 ///
@@ -59,7 +50,7 @@ impl Model for Pieces {
 }
 
 impl Pieces {
-    ghost use Rattle.trace_core.specs.Pieces.{HasPassed, HasReadAll, IsNext, IsWaiting, passed};
+    ghost use Rattle.trace_core.specs.Pieces.{HasPassed, HasReadAll, HasReadOn, IsNext, IsWaiting, passed};
 
     /// Nothing was read.
     pub fn new() -> Pieces
@@ -111,12 +102,16 @@ impl Pieces {
     }
 
     /// Reads once, up to a block's bytes, after `next` gave none and before the text is whole.
-    pub fn read<R: Read>(&mut self, reader: &mut R) -> Progress
+    ///
+    /// Fails if the read fails. An interrupted read counts as failed.
+    pub fn read<R: Read>(&mut self, reader: &mut R) -> Result<(), Refusal>
         requires waiting { IsWaiting self.old }
         requires unfinished { self.old.whole ≡ false }
         ensures more { (before : Option (List ℕ)) → (items : List Meaning) →
             HasPassed before (R.remaining reader.old) self.old items
             → HasPassed before (R.remaining reader.new) self.new items }
+        ensures ahead { OnOk result (HasReadOn self.old self.new (R.remaining reader.old) (R.remaining reader.new)) }
+        ensures refusals { IfErr result (λ e. e ≡ ReadFault) }
     {
         let unread = self.end - self.start;
         self.long = is_long(self.long, unread);
@@ -127,13 +122,13 @@ impl Pieces {
         match reader.read(&mut self.held[kept..]) {
             Ok(0) => {
                 self.whole = true;
-                Progress::Whole
+                Ok(())
             }
             Ok(count) => {
                 self.end = kept + count;
-                Progress::More
+                Ok(())
             }
-            Err(_) => Progress::Failed,
+            Err(_) => Err(Refusal::Read),
         }
     }
 

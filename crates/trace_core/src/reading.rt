@@ -7,11 +7,11 @@ ghost use Rattle.point_core.specs.declared.refusal.Refusal.TheVariants.{Read as 
 ghost use Rattle.trace_core.specs.Item.{Meaning, meaning_of};
 ghost use Rattle.trace_core.specs.Pieces.{IsWaiting};
 ghost use Rattle.trace_core.specs.Record.{Printed};
-ghost use Rattle.trace_core.specs.Reading.{GoesOn, HasRead, event_at, is_end, loss_of, next_of, stage_with};
+ghost use Rattle.trace_core.specs.Reading.{GetsAhead, GoesOn, HasRead, begins, event_at, is_end, loss_of, next_of, stage_with};
 ghost use Rattle.trace_core.specs.Tracker.{Tracks};
 
 use crate::item::Item;
-use crate::pieces::{Pieces, Progress};
+use crate::pieces::Pieces;
 use crate::tracker::{Seen, Tracker};
 use crate::window::{Span, Stage};
 use point_core::Refusal;
@@ -47,7 +47,8 @@ impl Next {
 
 /// A trace from a reader, up to the end of a window. Each step takes in one piece, or reads once.
 ///
-/// `next` gives `Begin` once, before the first event of the window and before `End`.
+/// `next` gives `Begin` once, before the first event of the window and before `End`. Each other step passes a piece or reads on
+/// (`GetsAhead`).
 #[derive(Drop)]
 pub struct Reading {
     pieces: Pieces,
@@ -79,13 +80,14 @@ impl Reading {
             (items : List Meaning) → (seen : List (Seen × Printed)) →
             HasRead span self.old tracker.old before (R.remaining reader.old) items seen →
             GoesOn span self.new tracker.new before (R.remaining reader.new) items seen next) }
+        ensures ahead { IfOk result (GetsAhead self.old self.new (R.remaining reader.old) (R.remaining reader.new)) }
         ensures refusals { IfErr result (λ e. (e ≡ ReadFault) ⊎ (e ≡ Memory)) }
     {
         let Some(piece) = self.pieces.next() else {
             return self.read_on(reader);
         };
         let stage = stage_with(self.stage, self.span, &piece.item);
-        if stage != Stage::Before && !self.has_begun {
+        if begins(stage, self.has_begun) {
             self.has_begun = true;
             return Ok(Next::Begin);
         }
@@ -107,13 +109,12 @@ impl Reading {
             (items : List Meaning) → (seen : List (Seen × Printed)) →
             HasRead span self.old t before (R.remaining reader.old) items seen →
             GoesOn span self.new t before (R.remaining reader.new) items seen next) }
+        ensures ahead { IfOk result (GetsAhead self.old self.new (R.remaining reader.old) (R.remaining reader.new)) }
         ensures refusals { IfErr result (λ e. (e ≡ ReadFault) ⊎ (e ≡ Memory)) }
     {
         if !self.pieces.is_whole() {
-            return match self.pieces.read(reader) {
-                Progress::More | Progress::Whole => Ok(Next::Other),
-                Progress::Failed => Err(Refusal::Read),
-            };
+            self.pieces.read(reader)?;
+            return Ok(Next::Other);
         }
         if !self.has_begun {
             self.has_begun = true;
@@ -139,6 +140,16 @@ fn stage_with(stage: Stage, span: Span, item: &Item<'_>) -> Stage
             processors: _,
         }
         | Item::Note => stage,
+    }
+}
+
+/// Whether the window begins at that stage, unless it has begun.
+fn begins(stage: Stage, has_begun: bool) -> bool
+    ensures { result ≡ begins stage has_begun }
+{
+    match stage {
+        Stage::Before => false,
+        Stage::Within | Stage::After => !has_begun,
     }
 }
 

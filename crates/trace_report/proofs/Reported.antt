@@ -1,48 +1,17 @@
 -- What a whole trace shows.
-use Rattle.std.proofs.Common.{◌≡◌, ◌∙◌, ℕ, true, false, ◌&&◌, List, [], ◌∷◌, ◌++◌, Option, Result, Ok, Err, IfOk, refl, sym, ap, arith}
+use Rattle.std.proofs.Common.{◌≡◌, ◌∙◌, ℕ, true, false, ◌&&◌, List, [], ◌∷◌, Option, Result, Ok, Err, IfOk, refl, sym, ap, arith}
 use Rattle.std.specs.Prelude.{◌==◌}
 use Rattle.std.proofs.lemmas.Bool.{and_parts, eqb-true, false≢true}
-use Rattle.trace_core.specs.Item.{Meaning, Event}
-use Rattle.trace_core.specs.Record.{Printed}
-use Rattle.trace_core.specs.declared.reading.Next.{Next}
-use Rattle.trace_core.specs.declared.reading.Next.TheVariants as next
-use Rattle.trace_core.specs.declared.reading.Reading.{Reading}
 use Rattle.trace_core.specs.declared.sighting.FenceKey.{FenceKey}
 use Rattle.trace_core.specs.declared.tally.Tally.{Tally}
-use Rattle.trace_core.specs.declared.tracker.Seen.{Seen}
 use Rattle.trace_core.specs.declared.tracker.Tracker.{Tracker}
 use Rattle.trace_core.specs.History.{Step, every, events_in, tally_in}
-use Rattle.trace_core.specs.Reading.{GoesOn, HasRead, is_end}
+use Rattle.trace_core.specs.Reading.{HasTakenIn}
 use Rattle.trace_report.specs.declared.found.Listed.{Listed}
 use Rattle.trace_report.specs.declared.report.Outcome.{Outcome}
 use Rattle.trace_report.specs.declared.report.Outcome.TheVariants.{Sound, Broken, NoEvents}
 use Rattle.trace_report.specs.Found.{AreHangs, is_reported, listed_key}
-use Rattle.trace_report.specs.Report.{HasReadTrace, IsReading, IsSound, IsVerdict, ReportsTrace, Shows, is_sound, whole}
-
--- nothing was read
-pub read-none : (r : Reading) (t : Tracker) (text : Option (List ℕ)) → HasRead whole r t text text [] [] → IsReading r t text text
-read-none r t text read = record { items = []; seen = []; read = read }
-
-module _ (r : Reading) (t : Tracker) (text rest : Option (List ℕ)) (items : List Meaning) (seen : List (Seen × Printed)) where
-  -- a step of the reading
-  pub read-more : (n : Next) → GoesOn whole r t text rest items seen n → IsReading r t text rest
-  read-more (next.Within e) goes = record { items = Event goes.0 ∷ items; seen = (e, goes.0) ∷ seen; read = goes.1 }
-  read-more (next.Before e) goes = record { items = Event goes.0 ∷ items; seen = (e, goes.0) ∷ seen; read = goes.1 }
-  read-more (next.Lost events) goes = record { items = goes.0 ++ items; seen = seen; read = goes.1 }
-  read-more next.StartedLate goes = record { items = goes.0 ++ items; seen = seen; read = goes.1 }
-  read-more next.Other goes = record { items = goes.0 ++ items; seen = seen; read = goes.1 }
-  read-more next.Begin goes = record { items = items; seen = seen; read = goes }
-  read-more next.End goes = record { items = items; seen = seen; read = goes.0 }
-
-  -- the last step
-  pub read-all : (n : Next) → is_end n ≡ true → GoesOn whole r t text rest items seen n → HasReadTrace t text rest
-  read-all next.End end goes = record { items = items; seen = seen; window = goes.1; tracks = goes.0.tracks }
-  read-all (next.Within e) end goes = absurd (false≢true end)
-  read-all (next.Before e) end goes = absurd (false≢true end)
-  read-all (next.Lost events) end goes = absurd (false≢true end)
-  read-all next.StartedLate end goes = absurd (false≢true end)
-  read-all next.Other end goes = absurd (false≢true end)
-  read-all next.Begin end goes = absurd (false≢true end)
+use Rattle.trace_report.specs.Report.{IsSound, IsVerdict, ReportsTrace, Shows, is_sound, whole}
 
 module _ (steps : List Step) where
   none-listed : (key : FenceKey) → AreHangs steps [] → is_reported steps key ≡ true → ⊥
@@ -69,7 +38,7 @@ module _ (steps : List Step) where
       fine.none (listed_key fence) ((hangs.are (listed_key fence)).0 (0, omega arith, refl))
 
 -- the trace was read, and these are its steps
-module _ (t : Tracker) (text rest before after : Option (List ℕ)) (h : HasReadTrace t text rest) where
+module _ (t : Tracker) (text rest before after : Option (List ℕ)) (h : HasTakenIn whole t text rest) where
   pub reported : (outcome : Outcome) → Shows h.tracks.steps before after outcome → ReportsTrace text rest before after outcome
   reported outcome shows = record {
     items = h.items;

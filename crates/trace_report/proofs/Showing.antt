@@ -1,5 +1,5 @@
 -- The slices of a window's events, as the text is read.
-use Rattle.std.proofs.Common.{◌≡◌, ℕ, Bool, true, false, List, [], ◌∷◌, ◌++◌, Option, refl, sym, ap, ◌∙◌, append-nil, subst}
+use Rattle.std.proofs.Common.{◌≡◌, ℕ, Bool, true, false, List, [], ◌∷◌, ◌++◌, Option, inl, inr, refl, sym, ap, ◌∙◌, append-nil, subst}
 use Rattle.std.specs.Prelude.{unwrap_or}
 use Rattle.std.specs.List.{IsDistinct}
 use Rattle.std.specs.Map.{keys_of}
@@ -82,7 +82,7 @@ module _ (span : Span) (old new : Reading) (told t : Tracker) (page more : Page)
   added (next.Before seen) goes adds = before_it seen goes.0 goes.1 goes.2 adds
   added (next.Lost events) goes adds = over goes.1 adds
   added next.StartedLate goes adds = over goes.1 adds
-  added next.Other goes adds = over goes.1 adds
+  added next.Other goes adds = elim goes [ inl passed ↦ over passed.2 adds | inr read ↦ over read adds ]
   added next.Begin goes adds = over goes adds
   added next.End goes adds = over goes.0 adds
 

@@ -3,15 +3,13 @@ use Rattle.std.specs.Prelude.{◌≡◌, ◌==◌, ◌&&◌, ◌^◌, ◌-◌, �
 use Rattle.trace_core.specs.Item.{Meaning}
 use Rattle.trace_core.specs.Record.{Printed}
 use Rattle.trace_core.specs.declared.names.Names.{Names}
-use Rattle.trace_core.specs.declared.reading.Reading.{Reading}
 use Rattle.trace_core.specs.declared.sighting.FenceKey.{FenceKey}
 use Rattle.trace_core.specs.declared.tally.Tally.{Tally}
 use Rattle.trace_core.specs.declared.tracker.Seen.{Seen}
-use Rattle.trace_core.specs.declared.tracker.Tracker.{Tracker}
 use Rattle.trace_core.specs.declared.window.Span.{Span}
 use Rattle.trace_core.specs.History.{Forgets, Step, every, events_in, tally_in}
-use Rattle.trace_core.specs.Reading.{HasRead, HasReadWindow}
-use Rattle.trace_core.specs.Tracker.{Saw, Tracks}
+use Rattle.trace_core.specs.Reading.{HasReadWindow}
+use Rattle.trace_core.specs.Tracker.{Saw}
 use Rattle.trace_report.specs.declared.found.Listed.{Listed}
 use Rattle.trace_report.specs.declared.report.Outcome.{Outcome}
 use Rattle.trace_report.specs.declared.report.Outcome.TheVariants.{Sound, Broken, NoEvents}
@@ -20,19 +18,6 @@ use Rattle.trace_report.specs.Found.{is_reported}
 -- all times that a trace may have
 abbrev pub whole : Span
 whole = record { from = 0; to = 2 ^ 64 - 1 }
-
--- the text was read so far
-pub record IsReading (r : Reading) (t : Tracker) (text rest : Option (List ℕ)) : Type 0 where
-  pub items : List Meaning
-  pub seen : List (Seen × Printed)
-  pub read : HasRead whole r t text rest items seen
-
--- the text was read to its end, and the tracker knows what it says
-pub record HasReadTrace (t : Tracker) (text rest : Option (List ℕ)) : Type 0 where
-  pub items : List Meaning
-  pub seen : List (Seen × Printed)
-  pub window : HasReadWindow whole text rest items seen
-  pub tracks : Tracks t items seen
 
 -- no fence is reported as hanging, and no rule was broken
 pub record IsSound (steps : List Step) : Type 0 where

@@ -1,8 +1,9 @@
-//! Reads a trace to its end, for a report. The loop upholds that the tracker has what was read so far (`IsReading`).
+//! Reads a trace to its end, for a report. The loop upholds that the tracker has what was read so far (`IsReading` of `trace_core`).
 ghost use Rattle.std.specs.Prelude.{◌≡◌, ◌⊎◌, [], IfErr, OnOk};
 ghost use Rattle.point_core.specs.declared.refusal.Refusal.TheVariants.{Read as ReadFault, Memory};
+ghost use Rattle.trace_core.specs.Reading.{HasTakenIn};
 ghost use Rattle.trace_core.specs.Tracker.{Tracks};
-ghost use Rattle.trace_report.specs.Report.{HasReadTrace};
+ghost use Rattle.trace_report.specs.Report.{whole};
 
 use point_core::Refusal;
 use std::io::Read;
@@ -19,7 +20,7 @@ const ALL: Span = Span {
 /// Fails with `Read` if the reader fails, and with `Memory`. A text of more pieces than 64 bits count is refused with `Read`.
 pub(crate) fn read_trace<R: Read>(tracker: &mut Tracker, reader: &mut R) -> Result<(), Refusal>
     requires fresh { Tracks tracker.old [] [] }
-    ensures read { OnOk result (HasReadTrace tracker.new (R.remaining reader.old) (R.remaining reader.new)) }
+    ensures read { OnOk result (HasTakenIn whole tracker.new (R.remaining reader.old) (R.remaining reader.new)) }
     ensures refusals { IfErr result (λ e. (e ≡ ReadFault) ⊎ (e ≡ Memory)) }
 {
     let mut reading = Reading::new(ALL);

@@ -1,9 +1,9 @@
-use Rattle.std.proofs.Common.{◌∷◌, ap, ◌∙◌, reverse, subst, sym}
+use Rattle.std.proofs.Common.{ap, ◌∙◌, refl, reverse, subst, sym}
 use Rattle.trace_core.specs.declared.reading.Reading.{Reading}
 use Rattle.trace_core.specs.Item.{meaning_of}
 use Rattle.trace_core.specs.Pieces.{HasPassed}
-use Rattle.trace_core.specs.Reading.{GoesOn, stage_with}
-use Rattle.trace_core.proofs.Stepping.{reversed, stage-given, told}
+use Rattle.trace_core.specs.Reading.{GetsAhead, GoesOn, Passes, stage_with}
+use Rattle.trace_core.proofs.Stepping.{begins-first, begins-once, got-ahead, reversed, stage-given, told}
 use Rattle.trace_core.proofs.reading.Reading.next.Goals as goal
 
 pub returns-clause-more : goal.returns-clause-more
@@ -25,3 +25,24 @@ returns-clause-more g c =
       going = going;
       tracks = c.in_ok-seen.ensures.more items seen h.tracks;
     }))
+
+pub returns-then-begins-clause-ahead : goal.returns-then-begins-clause-ahead
+returns-then-begins-clause-ahead g c =
+    (begins-once c.stage_with-stage.result c.args.self.now.has_begun (sym c.begins.ensures ∙ c.if-begins.true), refl)
+
+pub returns-then-is_over-clause-ahead : goal.returns-then-is_over-clause-ahead
+returns-then-is_over-clause-ahead g c =
+    begins-first c.stage_with-stage.result c.args.self.now.has_begun (sym c.if-is_over.ensures) (sym c.begins.ensures ∙ c.if-begins.false)
+
+pub returns-clause-ahead : goal.returns-clause-ahead
+returns-clause-ahead g c =
+    let old = c.args.self.now in
+    let reading : Reading = record { pieces = c.pass.new.self; span = old.span; stage = c.stage_with-stage.result; has_begun = old.has_begun } in
+    let passes : Passes old reading = record {
+      item = meaning_of c.in-Some.piece.item;
+      len = c.in-Some.piece.length;
+      next = c.in-Some.ensures.next;
+      is = c.pass.ensures.passed;
+      begun = refl;
+    } in
+    subst (GetsAhead old reading (g.R.Read.remaining c.args.reader.now) (g.R.Read.remaining c.args.reader.now)) (sym c.next_of-next.ensures) (got-ahead old reading _ _ passes c.stage_with-stage.result c.in_ok-seen.seen (meaning_of c.in-Some.piece.item) (sym c.begins.ensures ∙ c.if-begins.false))

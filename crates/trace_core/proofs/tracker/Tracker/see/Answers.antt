@@ -1,4 +1,4 @@
-use Rattle.std.proofs.Common.{◌∷◌, refl, ap, sym, subst}
+use Rattle.std.proofs.Common.{◌∷◌, ap, sym, subst}
 use Rattle.trace_core.specs.Item.{Event}
 use Rattle.trace_core.specs.Record.{printed}
 use Rattle.trace_core.specs.History.{Seen, IsLedgerOf}
