@@ -2,7 +2,7 @@
 use Rattle.std.proofs.Common.{◌≡◌, ℕ, List, [], ◌∷◌, ◌++◌, Option, Bool, true, false, refl, sym, ap, ◌∙◌, subst}
 use Rattle.std.proofs.lemmas.Bool.{true≢false}
 use Rattle.std.specs.Io.KnownBytes.{Appends}
-use Rattle.std.specs.Prelude.{IfOk, OnOk, Result, Ok, Err, ◌||◌, is_err}
+use Rattle.std.specs.Prelude.{IfErr, IfOk, OnOk, Result, Ok, Err, ◌||◌, is_err}
 use Rattle.json.specs.Token.{Token}
 use Rattle.json.specs.Print.{print}
 use Rattle.json.specs.Written.{Written}
@@ -38,3 +38,7 @@ ok-then (Err e) h on = tt
 pub ok-some : {T E P : Type 0} {Q : T → Type 0} (r : Result T E) → OnOk r P → ((v : T) → P → Q v) → IfOk r Q
 ok-some (Ok v) h on = on v h
 ok-some (Err e) h on = tt
+
+pub err-then : {T E : Type 0} {P Q : E → Type 0} (r : Result T E) → IfErr r P → ((e : E) → P e → Q e) → IfErr r Q
+err-then (Ok v) h on = tt
+err-then (Err e) h on = on e h

@@ -1,6 +1,7 @@
 //! The report as one JSON document. That its bytes are tokens and a line feed is proved, and what it says is tested
 //! (`tests/traces`). `report` calls `document_of`.
-ghost use Rattle.std.specs.Prelude.{IfOk};
+ghost use Rattle.std.specs.Prelude.{◌≡◌, IfOk, IfErr};
+ghost use Rattle.point_core.specs.declared.refusal.Refusal.TheVariants.{Memory};
 ghost use Rattle.trace_report.specs.Document.{IsDocument};
 
 mod counts;
@@ -21,10 +22,9 @@ use waits::add_waits;
 use writing::Document;
 
 /// The document, and a line feed.
-///
-/// Fails only with `Memory`.
 pub(crate) fn document_of(alloc: Global, content: Content<'_>) -> Result<Vec<u8>, Refusal>
     ensures document { IfOk result (λ bytes. IsDocument bytes.items) }
+    ensures memory { IfErr result (λ e. e ≡ Memory) }
 {
     let mut document = Document::new(alloc);
     add_members(&mut document, content);

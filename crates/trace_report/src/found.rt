@@ -1,7 +1,8 @@
 //! `Found`: the fences that are pending at the end of a trace, grouped by timeline. `AreHangs` says that those that hang are exact.
-ghost use Rattle.std.specs.Prelude.{◌≡◌, ◌++◌, [], ◌∷◌, List, map, IfOk, OnOk};
+ghost use Rattle.std.specs.Prelude.{◌≡◌, ◌++◌, [], ◌∷◌, List, map, IfOk, IfErr, OnOk};
 ghost use Rattle.std.specs.List.{filter};
 ghost use Rattle.std.specs.List.Sorted.{IsPermutation};
+ghost use Rattle.point_core.specs.declared.refusal.Refusal.TheVariants.{Memory};
 ghost use Rattle.trace_core.specs.History.{Step, IsLedgerOf};
 ghost use Rattle.trace_report.specs.Found.{AreHangs, hanging, is_hang, key_of, listed_key};
 
@@ -31,11 +32,10 @@ pub(crate) struct Found {
 
 impl Found {
     /// What is pending, by what the ledger knows.
-    ///
-    /// Fails only with `Memory`.
     pub(crate) fn new(alloc: Global, ledger: &Ledger) -> Result<Found, Refusal>
         ensures hangs { IfOk result (λ f. (steps : List Step) →
             IsLedgerOf ledger.now steps → AreHangs steps f.hangs.items) }
+        ensures memory { IfErr result (λ e. e ≡ Memory) }
     {
         let pending = pending_of(alloc, ledger)?;
         let mut hangs = Vec::new(alloc);

@@ -1,6 +1,7 @@
 //! A report of a trace: reads it to its end, and writes it as text or as JSON. `ReportsTrace` says which outcome a trace has.
 //! `fencectl trace` calls `report_trace`.
-ghost use Rattle.std.specs.Prelude.{◌≡◌, [], List, IfOk, OnOk};
+ghost use Rattle.std.specs.Prelude.{◌≡◌, ◌⊎◌, [], List, IfOk, IfErr, OnOk};
+ghost use Rattle.point_core.specs.declared.refusal.Refusal.TheVariants.{Read as ReadFault, Write as WriteFault, Memory};
 ghost use Rattle.trace_core.specs.History.{Step, IsLedgerOf};
 ghost use Rattle.trace_core.specs.Tracker.{Tracks};
 ghost use Rattle.trace_report.specs.declared.report.Form.TheVariants.{Json};
@@ -40,8 +41,8 @@ pub enum Outcome {
 
 /// Reads a trace to its end, and writes the report.
 ///
-/// Fails with `Read` or `Write` if the reader or the writer fails, and with `Memory`. Then a prefix of the report may have been
-/// written.
+/// Fails with `Read` or `Write` if the reader or the writer fails, and with `Memory`. After `Write` a prefix of the report may have
+/// been written.
 pub fn report_trace<R: Read, W: Write>(
     alloc: Global,
     form: Form,
@@ -53,6 +54,7 @@ pub fn report_trace<R: Read, W: Write>(
         (W.contents writer.old) (W.contents writer.new)) }
     ensures document { IfOk result (λ outcome. form ≡ Json → (outcome ≡ NoEvents → ⊥) →
         WritesDocument (W.contents writer.old) (W.contents writer.new)) }
+    ensures refusals { IfErr result (λ e. (e ≡ ReadFault) ⊎ (e ≡ WriteFault) ⊎ (e ≡ Memory)) }
 {
     let mut tracker = Tracker::new(alloc);
     let outcome = read_and_report(alloc, form, &mut tracker, reader, writer);
@@ -72,6 +74,7 @@ fn read_and_report<R: Read, W: Write>(
         (W.contents writer.old) (W.contents writer.new)) }
     ensures document { IfOk result (λ outcome. form ≡ Json → (outcome ≡ NoEvents → ⊥) →
         WritesDocument (W.contents writer.old) (W.contents writer.new)) }
+    ensures refusals { IfErr result (λ e. (e ≡ ReadFault) ⊎ (e ≡ WriteFault) ⊎ (e ≡ Memory)) }
 {
     read_trace(tracker, reader)?;
     if tracker.ledger.events() == 0 {
@@ -93,6 +96,7 @@ fn write_report<W: Write>(
     ensures document { OnOk result (form ≡ Json → WritesDocument (W.contents writer.old) (W.contents writer.new)) }
     ensures verdict { IfOk result (λ outcome. (steps : List Step) → IsLedgerOf tracker.now.ledger steps →
         AreHangs steps found.now.hangs.items → IsVerdict steps outcome) }
+    ensures refusals { IfErr result (λ e. (e ≡ WriteFault) ⊎ (e ≡ Memory)) }
 {
     let report = report_of(alloc, form, tracker, found)?;
     write_whole(writer, report.as_slice())?;
@@ -108,6 +112,7 @@ fn report_of(
     found: &Found,
 ) -> Result<Vec<u8>, Refusal>
     ensures document { IfOk result (λ bytes. form ≡ Json → IsDocument bytes.items) }
+    ensures memory { IfErr result (λ e. e ≡ Memory) }
 {
     let timelines = Timelines::new(alloc, found)?;
     let content = Content {
@@ -122,6 +127,7 @@ fn report_of(
 
 fn bytes_of(alloc: Global, form: Form, content: Content<'_>) -> Result<Vec<u8>, Refusal>
     ensures document { IfOk result (λ bytes. form ≡ Json → IsDocument bytes.items) }
+    ensures memory { IfErr result (λ e. e ≡ Memory) }
 {
     match form {
         Form::Text => text_of(alloc, content),

@@ -1,5 +1,8 @@
 //! The report as text, for a terminal. Its bytes are tested (`tests/traces`), not proved. `report` calls `text_of`.
 
+ghost use Rattle.std.specs.Prelude.{◌≡◌, IfErr};
+ghost use Rattle.point_core.specs.declared.refusal.Refusal.TheVariants.{Memory};
+
 mod page;
 
 use crate::found::Listed;
@@ -11,9 +14,9 @@ use text_core::Part;
 use trace_core::{FenceKey, Pending, Summary, Tally, TimelineKey, Tracker, Wait};
 
 /// The counts of what was read, the fences that hang, the waits, the broken rules, and what each timeline did.
-///
-/// Fails only with `Memory`.
-pub(crate) fn text_of(alloc: Global, content: Content<'_>) -> Result<Vec<u8>, Refusal> {
+pub(crate) fn text_of(alloc: Global, content: Content<'_>) -> Result<Vec<u8>, Refusal>
+    ensures memory { IfErr result (λ e. e ≡ Memory) }
+{
     let mut page = Page::new(alloc);
     add_parts(&mut page, content);
     page.finish()

@@ -1,7 +1,8 @@
 //! `Document`: a JSON document while it is made. A part that finds no memory is remembered, and fails the end.
 //!
 //! While no memory was refused, the text has only what was added, from the first token on. Each method upholds it.
-ghost use Rattle.std.specs.Prelude.{IfOk};
+ghost use Rattle.std.specs.Prelude.{◌≡◌, IfOk, IfErr};
+ghost use Rattle.point_core.specs.declared.refusal.Refusal.TheVariants.{Memory};
 ghost use Rattle.trace_report.specs.Document.{IsDocument};
 
 use json::Writer;
@@ -52,11 +53,10 @@ impl Document {
         }
     }
 
-    /// The text, and a line feed.
-    ///
-    /// Fails only with `Memory`, if memory was refused for a part or for the line feed.
+    /// The text, and a line feed, unless memory was refused for a part or for the line feed.
     pub(crate) fn finish(self) -> Result<Vec<u8>, Refusal>
         ensures document { IfOk result (λ bytes. IsDocument bytes.items) }
+        ensures memory { IfErr result (λ e. e ≡ Memory) }
     {
         let Document {
             alloc: _,

@@ -1,5 +1,8 @@
 //! `Page`: the text of a report while it is made. A part that finds no memory is remembered, and fails the end.
 
+ghost use Rattle.std.specs.Prelude.{◌≡◌, IfErr};
+ghost use Rattle.point_core.specs.declared.refusal.Refusal.TheVariants.{Memory};
+
 use point_core::Refusal;
 use std::alloc::Global;
 use text_core::{Part, push_parts};
@@ -38,10 +41,10 @@ impl Page {
         }
     }
 
-    /// The text.
-    ///
-    /// Fails only with `Memory`, if memory was refused for a part.
-    pub(crate) fn finish(self) -> Result<Vec<u8>, Refusal> {
+    /// The text, unless memory was refused for a part.
+    pub(crate) fn finish(self) -> Result<Vec<u8>, Refusal>
+        ensures memory { IfErr result (λ e. e ≡ Memory) }
+    {
         let Page { text, is_short } = self;
         if is_short {
             return Err(Refusal::Memory);

@@ -1,7 +1,7 @@
-use Rattle.std.proofs.Common.{refl, arith}
+use Rattle.std.proofs.Common.{refl, arith, inl, inr}
 use Rattle.trace_report.specs.declared.report.Outcome.TheVariants.{NoEvents}
 use Rattle.trace_report.proofs.Reported.{judged, ok-then, reported}
-use Rattle.trace_report.proofs.Writing.{ok-some}
+use Rattle.trace_report.proofs.Writing.{err-then, ok-some}
 use Rattle.trace_report.proofs.report.read_and_report.Goals as goal
 
 pub returns-then-events-eq0-clause-reported : goal.returns-then-events-eq0-clause-reported
@@ -22,3 +22,7 @@ returns-clause-reported g c =
 pub returns-clause-document : goal.returns-clause-document
 returns-clause-document g c =
     ok-some c.write_report-outcome.result c.write_report-outcome.ensures.document (λ outcome written is _. written is)
+
+pub returns-clause-refusals : goal.returns-clause-refusals
+returns-clause-refusals g c =
+    err-then c.write_report-outcome.result c.write_report-outcome.ensures.refusals (λ e is. elim is [ inl write ↦ inr (inl write) | inr memory ↦ inr (inr memory) ])

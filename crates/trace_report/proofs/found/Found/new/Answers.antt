@@ -6,10 +6,8 @@ use Rattle.trace_report.specs.Found.{is_hang, key_of, listed_key}
 use Rattle.trace_report.proofs.Finding.{are-hangs, hangs-among}
 use Rattle.trace_report.proofs.found.Found.new.Goals as goal
 
-pub returns : goal.returns
-returns c = record {
-  hangs = λ steps ledger.
-      let keys = keys_of c.args.ledger.now.lives.by_key.entries in
-      let is = c.in_ok-unnumbered.ensures.hangs ∙ ap (λ before. before ++ filter is_hang c.as_slice.result.now) c.new-hangs.ensures.items ∙ ap (filter is_hang) (c.as_slice.ensures.value ∙ c.in_ok-pending.ensures.pending steps ledger) in
-      are-hangs c.args.ledger.now steps c.in_ok-hangs.hangs.items ledger c.in_ok-pending.ensures.distinct (subst (λ ks. IsPermutation ks (map listed_key c.in_ok-hangs.hangs.items)) (ap (map key_of) is ∙ hangs-among steps keys) c.in_ok-hangs.ensures.same);
-}
+pub returns-clause-hangs : goal.returns-clause-hangs
+returns-clause-hangs c steps ledger =
+    let keys = keys_of c.args.ledger.now.lives.by_key.entries in
+    let is = c.in_ok-unnumbered.ensures.hangs ∙ ap (λ before. before ++ filter is_hang c.as_slice.result.now) c.new-hangs.ensures.items ∙ ap (filter is_hang) (c.as_slice.ensures.value ∙ c.in_ok-pending.ensures.pending steps ledger) in
+    are-hangs c.args.ledger.now steps c.in_ok-hangs.hangs.items ledger c.in_ok-pending.ensures.distinct (subst (λ ks. IsPermutation ks (map listed_key c.in_ok-hangs.hangs.items)) (ap (map key_of) is ∙ hangs-among steps keys) c.in_ok-hangs.ensures.same)
