@@ -1,6 +1,7 @@
 -- The lines of a script.
-use Rattle.std.specs.Prelude.{◌≡◌, ℕ, List, ◌∷◌, ◌++◌, map, take, codes, decimal}
+use Rattle.std.specs.Prelude.{◌≡◌, ℕ, All, List, ◌∷◌, ◌++◌, map, take, codes, decimal}
 use Rattle.std.specs.List.{flat_map}
+use Rattle.point_core.specs.Name.{IsName}
 use Rattle.text_core.specs.Escape.{noted}
 use Rattle.text_core.specs.Number.{seconds}
 use Rattle.trace_script.specs.declared.line.File.{File}
@@ -51,10 +52,25 @@ line_text (Wait name context seqno task pid time) =
     ++ (name_noted task
     ++ (codes "-" ++ (decimal pid ++ (codes " waits for " ++ (file_name name context seqno ++ codes "\n")))))))
 
+-- a timeline and a file of it have names that a script may have
+abbrev pub AreNames : List ℕ → ℕ → ℕ → Type 0
+AreNames timeline context seqno = IsName timeline × IsName (file_name timeline context seqno)
+
+abbrev pub IsNamedFile : File → Type 0
+IsNamedFile file = AreNames file.timeline.now file.context file.seqno
+
+-- the names in a line are such names, so that the line is a command, or a note
+abbrev pub IsNamed : Said → Type 0
+IsNamed (Timeline driver raw name) = IsName name
+IsNamed (Fence name context seqno point) = AreNames name context seqno
+IsNamed (Signal name) = IsName name
+IsNamed (Close name context seqno) = AreNames name context seqno
+IsNamed (Wait name context seqno task pid time) = AreNames name context seqno
+
 -- the text has these lines, one after another
 abbrev pub IsOf : List Said → List ℕ → Type 0
 IsOf lines text = text ≡ flat_map line_text lines
 
 -- each line of the text is one that a script of a trace has
 abbrev pub AreLines : List ℕ → Type 0
-AreLines text = (lines : List Said) × IsOf lines text
+AreLines text = (lines : List Said) × IsOf lines text × All IsNamed lines

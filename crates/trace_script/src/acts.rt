@@ -1,11 +1,15 @@
 //! `Acts`: what happened in a window, act by act, before points are known. A fence's point depends on how many fences of its
 //! timeline are signalled before it, so the lines are written only when the window is over.
+//!
+//! Only memory can be refused, so the error is `AllocError` where no list of the tracker is asked for.
+ghost use Rattle.std.specs.Prelude.{◌≡◌, IfErr};
+ghost use Rattle.point_core.specs.declared.refusal.Refusal.TheVariants.{Memory};
 
 use crate::safe_names::SafeNames;
 use indexmap::IndexMap;
 use line_core::SCRIPT_BYTES;
 use point_core::Refusal;
-use std::alloc::Global;
+use std::alloc::{AllocError, Global};
 use trace_core::{FenceKey, Ledger, Life, TaskName, Tracker, Wait, pending_of};
 
 /// The bytes of the shortest line of a script that acts.
@@ -86,9 +90,9 @@ impl Acts {
     }
 
     /// Begins with the fences that are pending, in the order of their making.
-    ///
-    /// Fails only with `Memory`.
-    pub(crate) fn begin(&mut self, alloc: Global, tracker: &Tracker) -> Result<(), Refusal> {
+    pub(crate) fn begin(&mut self, alloc: Global, tracker: &Tracker) -> Result<(), Refusal>
+        ensures memory { IfErr result (λ e. e ≡ Memory) }
+    {
         let mut earlier = pending_of(alloc, &tracker.ledger)?;
         earlier.sort()?;
         for fence in earlier.as_slice() {
@@ -98,15 +102,13 @@ impl Acts {
     }
 
     /// Takes in `life`, the key's state after one of its events.
-    ///
-    /// Fails only with `Memory`.
     pub(crate) fn see(
         &mut self,
         alloc: Global,
         tracker: &Tracker,
         key: FenceKey,
         life: Life,
-    ) -> Result<(), Refusal> {
+    ) -> Result<(), AllocError> {
         let Some(place) = self.place(&key) else {
             if life.is_pending() {
                 return self.make(alloc, tracker, key);
@@ -124,9 +126,7 @@ impl Acts {
     }
 
     /// Takes in that a wait began.
-    ///
-    /// Fails only with `Memory`.
-    pub(crate) fn wait(&mut self, wait: &Wait) -> Result<(), Refusal> {
+    pub(crate) fn wait(&mut self, wait: &Wait) -> Result<(), AllocError> {
         match self.place(&wait.key) {
             Some(fence) => self.push(Act::Wait {
                 fence,
@@ -155,12 +155,12 @@ impl Acts {
         self.open.get(key).copied()
     }
 
-    fn make(&mut self, alloc: Global, tracker: &Tracker, key: FenceKey) -> Result<(), Refusal> {
+    fn make(&mut self, alloc: Global, tracker: &Tracker, key: FenceKey) -> Result<(), AllocError> {
         let timeline_key = key.timeline_key();
         let (_, raw) = tracker.names(&timeline_key);
         let timeline = self.names.place(alloc, timeline_key, raw)?;
         if timeline >= self.signalled.len() {
-            self.signalled.push(0).map_err(|_| Refusal::Memory)?;
+            self.signalled.push(0)?;
         }
         let place = self.fences.len();
         let fence = Fence {
@@ -168,14 +168,14 @@ impl Acts {
             timeline,
             point: 0,
         };
-        self.fences.push(fence).map_err(|_| Refusal::Memory)?;
+        self.fences.push(fence)?;
         if self.open.insert(key, place).is_err() {
-            return Err(Refusal::Memory);
+            return Err(AllocError);
         }
         self.push(Act::Make(place))
     }
 
-    fn signal(&mut self, place: usize) -> Result<(), Refusal> {
+    fn signal(&mut self, place: usize) -> Result<(), AllocError> {
         let Some(fence) = self.fences.get_mut(place) else {
             return Ok(());
         };
@@ -189,10 +189,11 @@ impl Acts {
         self.push(Act::Signal(place))
     }
 
-    fn push(&mut self, act: Act) -> Result<(), Refusal> {
+    fn push(&mut self, act: Act) -> Result<(), AllocError> {
         if self.are_too_many() {
             return Ok(());
         }
-        self.acts.push(act).map_err(|_| Refusal::Memory)
+        self.acts.push(act)?;
+        Ok(())
     }
 }

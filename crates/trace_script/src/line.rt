@@ -1,9 +1,11 @@
 //! `Line`: a line of the script, with its text by `specs/Line.antt`. `Text` adds the lines in the order of the acts.
-ghost use Rattle.std.specs.Prelude.{◌≡◌, ◌++◌, OnOk, take};
+ghost use Rattle.std.specs.Prelude.{◌≡◌, ◌++◌, true, IfOk, OnOk, take};
+ghost use Rattle.point_core.specs.Name.{IsName};
 ghost use Rattle.text_core.specs.Part.{text_of};
 ghost use Rattle.trace_script.specs.Line.{file_text, line_text, said};
 
-use std::alloc::AllocError;
+use point_core::Name;
+use std::alloc::{AllocError, Global};
 use text_core::{Part, push_parts};
 
 /// The bytes of a name that a note has, so that its line is short enough.
@@ -15,6 +17,17 @@ pub(crate) struct File<'a> {
     pub(crate) timeline: &'a [u8],
     pub(crate) context: u32,
     pub(crate) seqno: u32,
+}
+
+impl File<'_> {
+    /// Whether the file's name is one that a script may have.
+    pub(crate) fn is_named(&self, alloc: Global) -> Result<bool, AllocError>
+        ensures named { IfOk result (λ named. named ≡ true → IsName (file_text self.now)) }
+    {
+        let mut name = Vec::new(alloc);
+        push_file(&mut name, self)?;
+        Ok(Name::read(name.as_slice()).is_some())
+    }
 }
 
 /// A line of a script.

@@ -1,7 +1,9 @@
 //! `SafeNames`: a name of the script for each timeline of the trace. No two timelines have the same name, and each name is valid.
+ghost use Rattle.std.specs.Prelude.{IfSome};
+ghost use Rattle.point_core.specs.Name.{IsName};
 
 use indexmap::{IndexMap, IndexSet};
-use point_core::Refusal;
+use point_core::Name;
 use std::alloc::{AllocError, Global};
 use text_core::{Part, push_parts};
 use trace_core::TimelineKey;
@@ -15,7 +17,7 @@ const _: () = prove!(SAFE_BYTES == 9);
 #[derive(Drop)]
 pub(crate) struct SafeNames {
     by_key: IndexMap<TimelineKey, usize>,
-    names: IndexSet<Vec<u8>>,
+    names: IndexSet<Name>,
 }
 
 impl SafeNames {
@@ -34,70 +36,75 @@ impl SafeNames {
     }
 
     /// The name at `place`.
-    pub(crate) fn name(&self, place: usize) -> &[u8] {
-        match self.names.get_index(place) {
-            Some(name) => name.as_slice(),
-            None => b"",
-        }
+    pub(crate) fn name(&self, place: usize) -> Option<&[u8]>
+        ensures name { IfSome result (λ name. IsName name.now) }
+    {
+        Some(self.names.get_index(place)?.as_bytes())
     }
 
     /// The timeline's place, which gets one with a name if it has none.
-    ///
-    /// Fails only with `Memory`.
     pub(crate) fn place(
         &mut self,
         alloc: Global,
         key: TimelineKey,
         raw: &[u8],
-    ) -> Result<usize, Refusal> {
+    ) -> Result<usize, AllocError> {
         if let Some(place) = self.by_key.get(&key) {
             return Ok(*place);
         }
         let place = self.names.len();
         let name = self.free_name(alloc, raw)?;
         if self.names.insert(name).is_err() {
-            return Err(Refusal::Memory);
+            return Err(AllocError);
         }
         if self.by_key.insert(key, place).is_err() {
-            return Err(Refusal::Memory);
+            return Err(AllocError);
         }
         Ok(place)
     }
 
     /// The first bytes of the name, or `t` and a number if another timeline has them.
-    fn free_name(&self, alloc: Global, raw: &[u8]) -> Result<Vec<u8>, Refusal> {
-        let name = safe(alloc, raw)?;
-        if !name.is_empty() && !self.names.contains(name.as_slice()) {
+    fn free_name(&self, alloc: Global, raw: &[u8]) -> Result<Name, AllocError> {
+        if let Some(name) = self.free(safe(raw)) {
             return Ok(name);
         }
         for number in 0..u32::MAX {
-            let name = numbered(alloc, number)?;
-            if !self.names.contains(name.as_slice()) {
+            if let Some(name) = self.free(numbered(alloc, number)?) {
                 return Ok(name);
             }
         }
-        Err(Refusal::Memory)
+        Err(AllocError)
     }
-}
 
-/// The first bytes of a name, with `_` for each byte that no name of a script may hold.
-fn safe(alloc: Global, raw: &[u8]) -> Result<Vec<u8>, AllocError> {
-    let mut name = Vec::new(alloc);
-    for byte in raw {
-        if name.len() < SAFE_BYTES {
-            name.push(if is_safe(*byte) { *byte } else { b'_' })?;
+    /// The name, if it is one that no timeline has.
+    fn free(&self, name: Option<Name>) -> Option<Name> {
+        let name = name?;
+        if self.names.contains(&name) {
+            None
+        } else {
+            Some(name)
         }
     }
-    Ok(name)
 }
 
-fn numbered(alloc: Global, number: u32) -> Result<Vec<u8>, AllocError> {
+/// The first bytes of a name, with `_` for each byte that no name of a script may hold, or none of an empty one.
+fn safe(raw: &[u8]) -> Option<Name> {
+    let mut bytes = [b'_'; SAFE_BYTES];
+    for (place, byte) in raw.iter().enumerate() {
+        if place < SAFE_BYTES && is_safe(*byte) {
+            bytes[place] = *byte;
+        }
+    }
+    Name::read(&bytes[..raw.len().min(SAFE_BYTES)])
+}
+
+fn numbered(alloc: Global, number: u32) -> Result<Option<Name>, AllocError> {
     let mut name = Vec::new(alloc);
     push_parts(
         &mut name,
         &[Part::Text("t"), Part::Number(u64::from(number))],
     )?;
-    Ok(name)
+    Ok(Name::read(name.as_slice()))
 }
 
 fn is_safe(byte: u8) -> bool {

@@ -1,11 +1,16 @@
 //! A script of a trace: reads the window, then writes what happened in it, line by line.
 //!
-//! The script is text, since it is what a user saves and runs; `IsScripted` says that it has only lines of known forms and is
-//! within the limit of scripts. `fencectl trace --script` and `--draw` call it.
-ghost use Rattle.std.specs.Prelude.{◌≡◌, ◌≤◌, false, length, IfOk, OnOk};
+//! The script is text, since it is what a user saves and runs; `ScriptsTrace` says when there is one, and that it has only lines
+//! of known forms and is within the limit of scripts. `fencectl trace --script` and `--draw` call it.
+ghost use Rattle.std.specs.Prelude.{◌≡◌, ◌≤◌, ◌⊎◌, ◌||◌, [], false, length, nat_lt, IfOk, IfErr, IfSome, OnOk};
 ghost use Rattle.line_core.specs.declared.script.TheConstants.{SCRIPT_BYTES};
-ghost use Rattle.trace_script.specs.Line.{AreLines};
-ghost use Rattle.trace_script.specs.Scripted.{IsScripted};
+ghost use Rattle.point_core.specs.declared.context.TheConstants.{CONTEXTS};
+ghost use Rattle.point_core.specs.declared.refusal.Refusal.TheVariants.{Read as ReadFault, Memory};
+ghost use Rattle.trace_core.specs.Reading.{HasTakenIn};
+ghost use Rattle.trace_core.specs.Tracker.{Tracks};
+ghost use Rattle.point_core.specs.Name.{IsName};
+ghost use Rattle.trace_script.specs.Line.{AreLines, IsNamed, IsNamedFile, said};
+ghost use Rattle.trace_script.specs.Scripted.{IsWritten, ScriptsTrace};
 
 use crate::acts::{Act, Acts, Fence};
 use crate::line::{File, Line, push_line};
@@ -33,13 +38,14 @@ pub enum Scripted {
 /// their signals, then the others. A file is a fence, and is closed when the fence was destroyed. Fences that are pending when
 /// the window begins are made first. So each line is accepted, and a file is pending at the end exactly if its fence is.
 ///
-/// Fails with `Read` if the reader fails, and with `Memory`.
+/// Fails with `Read` if the reader fails, and with `Memory`. A text of more pieces than 64 bits count is refused with `Read`.
 pub fn script_of_trace<R: Read>(
     alloc: Global,
     span: Span,
     reader: &mut R,
 ) -> Result<Scripted, Refusal>
-    ensures scripted { IfOk result IsScripted }
+    ensures scripted { IfOk result (ScriptsTrace span (R.remaining reader.old) (R.remaining reader.new)) }
+    ensures refusals { IfErr result (λ e. (e ≡ ReadFault) ⊎ (e ≡ Memory)) }
 {
     let mut tracker = Tracker::new(alloc);
     script_by(alloc, span, &mut tracker, reader)
@@ -51,7 +57,9 @@ fn script_by<R: Read>(
     tracker: &mut Tracker,
     reader: &mut R,
 ) -> Result<Scripted, Refusal>
-    ensures scripted { IfOk result IsScripted }
+    requires fresh { Tracks tracker.old [] [] }
+    ensures scripted { IfOk result (ScriptsTrace span (R.remaining reader.old) (R.remaining reader.new)) }
+    ensures refusals { IfErr result (λ e. (e ≡ ReadFault) ⊎ (e ≡ Memory)) }
 {
     let mut acts = Acts::new(alloc);
     script_of(alloc, span, tracker, &mut acts, reader)
@@ -64,14 +72,17 @@ fn script_of<R: Read>(
     acts: &mut Acts,
     reader: &mut R,
 ) -> Result<Scripted, Refusal>
-    ensures scripted { IfOk result IsScripted }
+    requires fresh { Tracks tracker.old [] [] }
+    ensures scripted { IfOk result (ScriptsTrace span (R.remaining reader.old) (R.remaining reader.new)) }
+    ensures refusals { IfErr result (λ e. (e ≡ ReadFault) ⊎ (e ≡ Memory)) }
 {
     read_window(alloc, span, tracker, acts, reader)?;
     if tracker.ledger.events() == 0 {
         return Ok(Scripted::NoEvents);
     }
     acts.number_the_rest(&tracker.ledger);
-    written(alloc, tracker, acts)
+    let scripted = written(alloc, tracker, acts)?;
+    Ok(scripted)
 }
 
 /// Reads up to the end of the window.
@@ -81,21 +92,36 @@ fn read_window<R: Read>(
     tracker: &mut Tracker,
     acts: &mut Acts,
     reader: &mut R,
-) -> Result<(), Refusal> {
+) -> Result<(), Refusal>
+    requires fresh { Tracks tracker.old [] [] }
+    ensures read { OnOk result (HasTakenIn span tracker.new (R.remaining reader.old) (R.remaining reader.new)) }
+    ensures refusals { IfErr result (λ e. (e ≡ ReadFault) ⊎ (e ≡ Memory)) }
+{
     let mut reading = Reading::new(span);
     for _ in 0..u64::MAX {
-        match reading.next(tracker, reader)? {
-            Next::Begin => acts.begin(alloc, tracker)?,
-            Next::Within(seen) => see(alloc, tracker, acts, &seen)?,
-            Next::Before(_) | Next::Lost(_) | Next::StartedLate | Next::Other => {}
-            Next::End => return Ok(()),
+        let next = reading.next(tracker, reader)?;
+        if next.is_end() {
+            return Ok(());
         }
+        take(alloc, tracker, acts, next)?;
     }
     Err(Refusal::Read)
 }
 
-/// Takes in an event of the window, after the tracker did.
-fn see(alloc: Global, tracker: &Tracker, acts: &mut Acts, seen: &Seen) -> Result<(), Refusal> {
+/// Takes in one step of the reading, after the tracker did.
+fn take(alloc: Global, tracker: &Tracker, acts: &mut Acts, next: Next) -> Result<(), Refusal>
+    ensures memory { IfErr result (λ e. e ≡ Memory) }
+{
+    match next {
+        Next::Begin => acts.begin(alloc, tracker)?,
+        Next::Within(seen) => see(alloc, tracker, acts, &seen)?,
+        Next::Before(_) | Next::Lost(_) | Next::StartedLate | Next::Other | Next::End => {}
+    }
+    Ok(())
+}
+
+/// Takes in an event of the window.
+fn see(alloc: Global, tracker: &Tracker, acts: &mut Acts, seen: &Seen) -> Result<(), AllocError> {
     let key = seen.sighting.key;
     acts.see(alloc, tracker, key, tracker.ledger.life(&key))?;
     match (seen.sighting.event, seen.wait) {
@@ -107,19 +133,21 @@ fn see(alloc: Global, tracker: &Tracker, acts: &mut Acts, seen: &Seen) -> Result
 /// A script that is being written.
 #[derive(Drop)]
 struct Text {
+    alloc: Global,
     bytes: Vec<u8>,
     // how many timelines it has, which come in their order
     timelines: usize,
     // how many of its files are open
     files: usize,
-    // whether it had more files at a time, or acts, than a script may have
+    // whether it had more files at a time, or acts, than a script may have, or a file whose name no script may have
     is_crowded: bool,
 }
 
-fn written(alloc: Global, tracker: &Tracker, acts: &Acts) -> Result<Scripted, Refusal>
-    ensures scripted { IfOk result IsScripted }
+fn written(alloc: Global, tracker: &Tracker, acts: &Acts) -> Result<Scripted, AllocError>
+    ensures written { IfOk result IsWritten }
 {
     let mut text = Text {
+        alloc,
         bytes: Vec::new(alloc),
         timelines: 0,
         files: 0,
@@ -135,6 +163,8 @@ fn written(alloc: Global, tracker: &Tracker, acts: &Acts) -> Result<Scripted, Re
 impl Text {
     /// Whether it has more than a script may have.
     fn is_too_long(&self) -> bool
+        ensures exceeds { result ≡ (self.now.is_crowded || nat_lt CONTEXTS self.now.timelines
+            || nat_lt SCRIPT_BYTES (length self.now.bytes.items)) }
         ensures fits { result ≡ false → length self.now.bytes.items ≤ SCRIPT_BYTES }
     {
         self.is_crowded || self.timelines > CONTEXTS || self.bytes.len() > SCRIPT_BYTES
@@ -161,7 +191,11 @@ impl Text {
         if tracker.ledger.is_unnumbered(&fence.key) {
             return Ok(());
         }
-        self.act_of(tracker, acts, act, fence)
+        let Some(file) = file_of(self.alloc, acts, fence)? else {
+            self.is_crowded = true;
+            return Ok(());
+        };
+        self.act_of(tracker, acts, act, fence, file)
     }
 
     fn act_of(
@@ -170,10 +204,10 @@ impl Text {
         acts: &Acts,
         act: &Act,
         fence: &Fence,
+        file: File<'_>,
     ) -> Result<(), AllocError>
-        ensures lines { OnOk result (AreLines self.old.bytes.items → AreLines self.new.bytes.items) }
+        ensures lines { OnOk result (IsNamedFile file.entry → AreLines self.old.bytes.items → AreLines self.new.bytes.items) }
     {
-        let file = file_of(acts, fence);
         match act {
             Act::Make(_) => self.make(tracker, acts, fence, file),
             Act::Signal(_) => self.add(&Line::Signal(file.timeline)),
@@ -203,7 +237,7 @@ impl Text {
         fence: &Fence,
         file: File<'_>,
     ) -> Result<(), AllocError>
-        ensures lines { OnOk result (AreLines self.old.bytes.items → AreLines self.new.bytes.items) }
+        ensures lines { OnOk result (IsNamedFile file.entry → AreLines self.old.bytes.items → AreLines self.new.bytes.items) }
     {
         let timelines = fence.timeline.saturating_add(1);
         for place in self.timelines..timelines {
@@ -221,25 +255,35 @@ impl Text {
         let Some(key) = acts.names.key(place) else {
             return Ok(());
         };
+        let Some(name) = acts.names.name(place) else {
+            return Ok(());
+        };
         let (driver, raw) = tracker.names(key);
-        self.add(&Line::Timeline {
-            driver,
-            raw,
-            name: acts.names.name(place),
-        })
+        self.add(&Line::Timeline { driver, raw, name })
     }
 
     fn add(&mut self, line: &Line<'_>) -> Result<(), AllocError>
-        ensures lines { OnOk result (AreLines self.old.bytes.items → AreLines self.new.bytes.items) }
+        ensures lines { OnOk result (IsNamed (said line.now) → AreLines self.old.bytes.items → AreLines self.new.bytes.items) }
     {
         push_line(&mut self.bytes, line)
     }
 }
 
-fn file_of<'a>(acts: &'a Acts, fence: &Fence) -> File<'a> {
-    File {
-        timeline: acts.names.name(fence.timeline),
+/// The file of a fence, if its name is one that a script may have.
+fn file_of<'a>(alloc: Global, acts: &'a Acts, fence: &Fence) -> Result<Option<File<'a>>, AllocError>
+    ensures named { IfOk result (λ file. IfSome file IsNamedFile) }
+{
+    let Some(timeline) = acts.names.name(fence.timeline) else {
+        return Ok(None);
+    };
+    let file = File {
+        timeline,
         context: fence.key.context,
         seqno: fence.key.seqno,
+    };
+    if file.is_named(alloc)? {
+        Ok(Some(file))
+    } else {
+        Ok(None)
     }
 }
