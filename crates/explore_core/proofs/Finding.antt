@@ -3,21 +3,22 @@ use Rattle.std.proofs.Common.{◌≡◌, ◌⊎◌, ℕ, zero, suc, ◌+◌, ◌
 use Rattle.std.specs.Prelude.{All, IsSome, Vec}
 use Rattle.std.specs.Global.{Global}
 use Rattle.std.proofs.lemmas.Bool.{cases_lt, false≢true}
-use Rattle.std.proofs.lemmas.List.Elements.{All-get_or, All-nil, All-push, All-append, All-weaker, All-contains, Contains-append_left, Contains-append_right}
-use Rattle.std.proofs.lemmas.List.{append-nil, append_assoc, take_more}
+use Rattle.std.proofs.lemmas.List.Elements.{All-get_or, All-nil, All-cons, All-head, All-tail, All-push, All-append, All-weaker, All-contains, Contains-append_left, Contains-append_right}
+use Rattle.std.proofs.lemmas.List.{append-nil, append_assoc, map-append, length-map, get_or-map, take_more}
 use Rattle.std.proofs.lemmas.Option.{same_Some, none-some}
 use Rattle.command_core.specs.declared.answer.Answer.{Answer}
 use Rattle.command_core.specs.declared.command.Command.{Command}
 use Rattle.explore_core.specs.declared.plan.Step.{Step}
 use Rattle.explore_core.specs.declared.found.Found.{Found}
 use Rattle.explore_core.specs.declared.found.Given.{Given}
+use Rattle.explore_core.specs.declared.state.Seen.{Seen}
 use Rattle.explore_core.specs.declared.state.State.{State}
 use Rattle.explore_core.specs.declared.search.Move.{Move}
 use Rattle.explore_core.specs.declared.search.Move.TheVariants as move
 use Rattle.explore_core.specs.Found.{CanBeExplored, Lists, stuck_of}
 use Rattle.explore_core.specs.Schedule.{Lines, Standing, Schedule, answer_now, history_along, beginning, lines_of, next_line, made_by, after_line, made_line, after_one, ComesTo, IsStuck, IsAnswered, IsEndAnswered}
-use Rattle.explore_core.specs.Search.{is_asked, standing_of, standing_at, Answers, HasLike, Grows, Extends, IsState, Keeps, Records, IsGiven, IsVisited, IsFollowed, IsTried, AreTried, IsMove, AreMoves, together, HasEnds, EndsAre, IsEnd, AreEndsListed}
-use Rattle.explore_core.proofs.Levels.{go-on-refl, Extends-refl}
+use Rattle.explore_core.specs.Search.{is_asked, standing_of, standing_at, states_of, Answers, HasLike, Grows, Extends, IsState, IsSeen, Keeps, Records, IsGiven, IsVisited, IsFollowed, IsTried, AreTried, IsMove, AreMoves, together, HasEnds, EndsAre, IsEnd, AreEndsListed}
+use Rattle.explore_core.proofs.Levels.{go-on-refl}
 use Rattle.explore_core.proofs.Scheduling.{Leads-is, Leads-push}
 use Rattle.explore_core.proofs.Showing.{same-state}
 
@@ -64,22 +65,49 @@ Grows-given plan depth old new client place answer schedule records comes ended 
 
 -- a state that is kept
 
-pub Extends-kept : {plan : Lines} {depth : ℕ} {old new : List State} {state : State} → Keeps old state new → IsState plan depth state → Extends plan depth old new
-Extends-kept {plan} {depth} {old} {new} {state} keeps is = elim keeps [
-  | inl same ↦ record { states = λ all. subst (All (IsState plan depth)) (sym same.0) all; alike = λ now has. subst (λ states. HasLike plan states now) (sym same.0) has }
+pub states-push : (old : List Seen) (seen : Seen) → states_of (old ++ seen ∷ []) ≡ states_of old ++ seen.state ∷ []
+states-push old seen = map-append (λ (s : Seen). s.state) old (seen ∷ [])
+
+pub states-taken : (states : List State) (rest behind : List Seen) (seen : Seen) → rest ≡ seen ∷ behind → states ++ states_of rest ≡ states ++ seen.state ∷ [] ++ states_of behind
+states-taken states rest behind seen is = ap (λ (r : List Seen). states ++ states_of r) is ∙ sym (append_assoc states (seen.state ∷ []) (states_of behind))
+
+pub no-states : (states : List State) (rest : List Seen) → length rest ≡ 0 → states ++ states_of rest ≡ states
+no-states states [] none = append-nil states
+no-states states (s ∷ rest) none = absurd (omega (arith, none))
+
+Contains-state : (seen : List Seen) (one : Seen) → Contains seen one → Contains (states_of seen) one.state
+Contains-state seen one there = (
+  there.0,
+  omega (arith, there.1, length-map seen (λ (s : Seen). s.state)),
+  get_or-map (λ (s : Seen). s.state) seen there.0 one one.state there.1 ∙ ap (λ (s : Seen). s.state) there.2,
+)
+
+pub All-states : (plan : Lines) (depth : ℕ) (seen : List Seen) → All (IsSeen plan depth) seen → All (IsState plan depth) (states_of seen)
+All-states plan depth [] all = All-nil (IsState plan depth)
+All-states plan depth (s ∷ seen) all =
+    All-cons (IsState plan depth) s.state (states_of seen) (All-head (IsSeen plan depth) s seen all).state (All-states plan depth seen (All-tail (IsSeen plan depth) s seen all))
+
+pub Extends-kept : {plan : Lines} {depth : ℕ} {old new : List Seen} {seen : Seen} → Keeps old seen new → IsSeen plan depth seen → Extends plan depth old new
+Extends-kept {plan} {depth} {old} {new} {seen} keeps is = elim keeps [
+  | inl same ↦ record { seen = λ all. subst (All (IsSeen plan depth)) (sym same.0) all; alike = λ now has. subst (λ (all : List Seen). HasLike plan (states_of all) now) (sym same.0) has }
   | inr more ↦ record {
-    states = λ all. subst (All (IsState plan depth)) (sym more) (All-push (IsState plan depth) old state all is);
-    alike = λ now has. subst (λ states. HasLike plan states now) (sym more) (has.0, Contains-append_left old (state ∷ []) has.0 has.1, has.2);
+    seen = λ all. subst (All (IsSeen plan depth)) (sym more) (All-push (IsSeen plan depth) old seen all is);
+    alike = λ now has. subst (λ states. HasLike plan states now) (sym (ap states_of more ∙ states-push old seen)) (has.0, Contains-append_left (states_of old) (seen.state ∷ []) has.0 has.1, has.2);
   }
 ]
 
-pub HasLike-kept : {plan : Lines} {depth : ℕ} {old new : List State} {state : State} → CanBeExplored plan → All (IsState plan depth) old → Keeps old state new → IsState plan depth state → HasLike plan new (standing_at plan state)
-HasLike-kept {plan} {depth} {old} {new} {state} can all keeps is = elim keeps [
+pub HasLike-kept : {plan : Lines} {depth : ℕ} {old new : List Seen} {seen : Seen} → CanBeExplored plan → All (IsSeen plan depth) old → Keeps old seen new → IsSeen plan depth seen
+    → HasLike plan (states_of new) (standing_at plan seen.state)
+HasLike-kept {plan} {depth} {old} {new} {seen} can all keeps is = elim keeps [
   | inl same ↦ (
       let other = same.1 in
-      let other_is = All-contains (IsState plan depth) old other all same.2 in
-      (other, subst (λ states. Contains states other) (sym same.0) same.2, same-state can state other is other_is same.3))
-  | inr more ↦ (state, subst (λ states. Contains states state) (sym more) (Contains-append_right old (state ∷ []) state (0, omega arith, refl)), go-on-refl (is_asked plan) (standing_at plan state))
+      let other_is = All-contains (IsSeen plan depth) old other all same.2 in
+      (other.state, subst (λ (all : List Seen). Contains (states_of all) other.state) (sym same.0) (Contains-state old other same.2), same-state can seen other is other_is same.3))
+  | inr more ↦ (
+    seen.state,
+    subst (λ states. Contains states seen.state) (sym (ap states_of more ∙ states-push old seen)) (Contains-append_right (states_of old) (seen.state ∷ []) seen.state (0, omega arith, refl)),
+    go-on-refl (is_asked plan) (standing_at plan seen.state),
+  )
 ]
 
 -- what a client does
@@ -114,7 +142,8 @@ IsFollowed-made plan found next now client place given after a goes lists has = 
   kept = λ later is. subst (HasLike plan next) (same_Some after later (sym goes ∙ is)) has;
 }
 
-pub IsFollowed-grows : {plan : Lines} {depth deeper : ℕ} {old new : Found} {next more : List State} (now : Standing) (client : ℕ) → Grows plan depth old new → Extends plan deeper next more → IsFollowed plan old next now client → IsFollowed plan new more now client
+pub IsFollowed-grows : {plan : Lines} {depth deeper : ℕ} {old new : Found} {next more : List Seen} (now : Standing) (client : ℕ) → Grows plan depth old new → Extends plan deeper next more
+    → IsFollowed plan old (states_of next) now client → IsFollowed plan new (states_of more) now client
 IsFollowed-grows now client g x f = record {
   listed = λ place answer a. g.given client place answer (f.listed place answer a);
   kept = λ later goes. x.alike later (f.kept later goes);
@@ -153,12 +182,13 @@ module _ (plan : Lines) (now : Standing) (n : ℕ) where
     | inr same ↦ subst (λ c. next_line plan now c ≡ None) (sym same) is
   ]
 
-pub AreTried-push : {plan : Lines} {depth deeper : ℕ} {old new : Found} {next more : List State} {state : State} {n : ℕ} {moves one : Move}
-    → AreTried plan old next state n moves → Grows plan depth old new → Extends plan deeper next more → IsTried plan new more state n one → AreTried plan new more state (n + 1) (together moves one)
+pub AreTried-push : {plan : Lines} {depth deeper : ℕ} {old new : Found} {next more : List Seen} {state : State} {n : ℕ} {moves one : Move}
+    → AreTried plan old (states_of next) state n moves → Grows plan depth old new → Extends plan deeper next more → IsTried plan new (states_of more) state n one
+    → AreTried plan new (states_of more) state (n + 1) (together moves one)
 AreTried-push {plan} {depth} {deeper} {old} {new} {next} {more} {state} {n} {moves} {one} before g x last = record {
   followed = λ client few. elim (below client n few) [
     | inl less ↦ IsFollowed-grows (standing_at plan state) client g x (before.followed client less)
-    | inr is ↦ subst (IsFollowed plan new more (standing_at plan state)) (sym is) last.followed
+    | inr is ↦ subst (IsFollowed plan new (states_of more) (standing_at plan state)) (sym is) last.followed
   ];
   are = moves-push plan (standing_at plan state) n moves one before.are last.is;
 }
@@ -223,7 +253,10 @@ module _ (plan : Lines) (depth : ℕ) (old found : Found) (next : List State) (s
   there = standing_at plan state
 
   grown : (client : ℕ) → IsFollowed plan old next there client → IsFollowed plan found next there client
-  grown client f = IsFollowed-grows {deeper = depth} there client g (Extends-refl plan depth next) f
+  grown client f = record {
+    listed = λ place answer a. g.given client place answer (f.listed place answer a);
+    kept = f.kept;
+  }
 
   pub IsVisited-waits : AreTried plan old next state (length plan.clients) move.Waits → (shown : List ℕ) → stuck_of found ≡ Some shown → IsVisited plan found next state
   IsVisited-waits tried shown is = record {

@@ -14,12 +14,13 @@ use Rattle.desk_core.specs.theorem.History.{world_of}
 use Rattle.desk_core.specs.Sound.{IsSound}
 use Rattle.explore_core.specs.declared.found.Found.{Found}
 use Rattle.explore_core.specs.declared.found.Given.{Given}
+use Rattle.explore_core.specs.declared.state.Seen.{Seen}
 use Rattle.explore_core.specs.declared.state.State.{State}
 use Rattle.explore_core.specs.Alike.{AsksOnly, AreAlike, IsSameWatch}
 use Rattle.explore_core.specs.Covering.{MayAsk, GoOnAlike}
 use Rattle.explore_core.specs.Found.{CanBeExplored, IsTrue, IsAll, stuck_of}
 use Rattle.explore_core.specs.Schedule.{Lines, Standing, Schedule, answer_now, history_with, history_along, beginning, after_one, ComesTo, IsStuck, IsAnswered, IsEndAnswered}
-use Rattle.explore_core.specs.Search.{is_asked, standing_of, standing_at, HasLike, Grows, Extends, IsState, IsListed, IsVisited, IsCovered, IsEmptyFound}
+use Rattle.explore_core.specs.Search.{is_asked, standing_of, standing_at, states_of, HasLike, Grows, Extends, IsState, IsListed, IsVisited, IsCovered, IsEmptyFound}
 use Rattle.explore_core.proofs.Answering.{same_answer}
 use Rattle.explore_core.proofs.Asking.{may-ask}
 use Rattle.explore_core.proofs.Staying.{alike-answered}
@@ -46,11 +47,11 @@ Grows-trans g h = record {
   soon = λ s. h.soon (g.soon s);
 }
 
-pub Extends-refl : (plan : Lines) (depth : ℕ) (states : List State) → Extends plan depth states states
-Extends-refl plan depth states = record { states = λ all. all; alike = λ now has. has }
+pub Extends-refl : (plan : Lines) (depth : ℕ) (seen : List Seen) → Extends plan depth seen seen
+Extends-refl plan depth seen = record { seen = λ all. all; alike = λ now has. has }
 
-pub Extends-trans : {plan : Lines} {depth : ℕ} {a b c : List State} → Extends plan depth a b → Extends plan depth b c → Extends plan depth a c
-Extends-trans g h = record { states = λ all. h.states (g.states all); alike = λ now has. h.alike now (g.alike now has) }
+pub Extends-trans : {plan : Lines} {depth : ℕ} {a b c : List Seen} → Extends plan depth a b → Extends plan depth b c → Extends plan depth a c
+Extends-trans g h = record { seen = λ all. h.seen (g.seen all); alike = λ now has. h.alike now (g.alike now has) }
 
 pub IsListed-grows : {plan : Lines} {depth : ℕ} {old new : Found} {now : Standing} → Grows plan depth old new → IsListed plan old now → IsListed plan new now
 IsListed-grows {plan} g l = record {
@@ -59,7 +60,8 @@ IsListed-grows {plan} g l = record {
   stuck = λ is. let shown = l.stuck is in (shown.0, g.stuck shown.0 shown.1);
 }
 
-pub IsVisited-grows : {plan : Lines} {depth deeper : ℕ} {old new : Found} {next more : List State} (state : State) → Grows plan depth old new → Extends plan deeper next more → IsVisited plan old next state → IsVisited plan new more state
+pub IsVisited-grows : {plan : Lines} {depth deeper : ℕ} {old new : Found} {next more : List Seen} (state : State) → Grows plan depth old new → Extends plan deeper next more
+    → IsVisited plan old (states_of next) state → IsVisited plan new (states_of more) state
 IsVisited-grows state g x v = record {
   listed = IsListed-grows g v.listed;
   expanded = λ client later goes. x.alike later (v.expanded client later goes);

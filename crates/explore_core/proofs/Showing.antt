@@ -42,12 +42,12 @@ use Rattle.desk_core.proofs.Sound.{not-false}
 use Rattle.explore_core.specs.declared.look.Look.{Look}
 use Rattle.explore_core.specs.declared.look.FileLook.{FileLook}
 use Rattle.explore_core.specs.declared.look.BufferLook.{BufferLook}
-use Rattle.explore_core.specs.declared.state.State.{State}
+use Rattle.explore_core.specs.declared.state.Seen.{Seen}
 use Rattle.explore_core.specs.Looks.{LooksAlike, WaitsAlike}
 use Rattle.explore_core.specs.Covering.{GoOnAlike}
 use Rattle.explore_core.specs.Found.{CanBeExplored}
 use Rattle.explore_core.specs.Schedule.{Lines}
-use Rattle.explore_core.specs.Search.{is_asked, is_to_come, seen_points, file_look, buffer_look, Shows, AreSameLooks, IsSameState, IsState, standing_at}
+use Rattle.explore_core.specs.Search.{is_asked, is_to_come, seen_points, file_look, buffer_look, Shows, AreSameLooks, AreSameSeen, IsSeen, standing_at}
 use Rattle.explore_core.proofs.Looking.{alike-looks}
 use Rattle.explore_core.proofs.Scheduling.{none-comes, no_watches-of}
 
@@ -439,16 +439,17 @@ module _ {asked : List ℕ → Bool} {a b : Look} {d e : DeskState} (one : Shows
   }
 
 -- states that are the same go on alike
-pub same-state : {plan : Lines} {depth deeper : ℕ} → CanBeExplored plan → (a b : State) → IsState plan depth a → IsState plan deeper b → IsSameState a b → GoOnAlike (is_asked plan) (standing_at plan a) (standing_at plan b)
+pub same-state : {plan : Lines} {depth deeper : ℕ} → CanBeExplored plan → (a b : Seen) → IsSeen plan depth a → IsSeen plan deeper b → AreSameSeen a b
+    → GoOnAlike (is_asked plan) (standing_at plan a.state) (standing_at plan b.state)
 same-state {plan} can a b one two same =
-    let none = no_watches-of (standing_at plan a).history (none-comes plan can a.schedule.items (standing_at plan a) one.comes) in
-    let none' = no_watches-of (standing_at plan b).history (none-comes plan can b.schedule.items (standing_at plan b) two.comes) in
+    let none = no_watches-of (standing_at plan a.state).history (none-comes plan can a.state.schedule.items (standing_at plan a.state) one.state.comes) in
+    let none' = no_watches-of (standing_at plan b.state).history (none-comes plan can b.state.schedule.items (standing_at plan b.state) two.state.comes) in
     let h = one.history.holds in
     let k = two.history.holds in
-    let empty : one.desk.watches.pending ≡ [] = no-watches _ one.desk.watches.pending (subst (AllZip (IsWatchOf (λ (x : MadeWatch). x.cookie) (λ (x : MadeWatch). x.put) (reach_of (world_of (standing_at plan a).history).timelines)) one.desk.watches.pending) none.watches h.watches) in
-    let empty' : two.desk.watches.pending ≡ [] = no-watches _ two.desk.watches.pending (subst (AllZip (IsWatchOf (λ (x : MadeWatch). x.cookie) (λ (x : MadeWatch). x.put) (reach_of (world_of (standing_at plan b).history).timelines)) two.desk.watches.pending) none'.watches k.watches) in
+    let empty : one.desk.watches.pending ≡ [] = no-watches _ one.desk.watches.pending (subst (AllZip (IsWatchOf (λ (x : MadeWatch). x.cookie) (λ (x : MadeWatch). x.put) (reach_of (world_of (standing_at plan a.state).history).timelines)) one.desk.watches.pending) none.watches h.watches) in
+    let empty' : two.desk.watches.pending ≡ [] = no-watches _ two.desk.watches.pending (subst (AllZip (IsWatchOf (λ (x : MadeWatch). x.cookie) (λ (x : MadeWatch). x.put) (reach_of (world_of (standing_at plan b.state).history).timelines)) two.desk.watches.pending) none'.watches k.watches) in
     let looks = LooksAlike-shown one.look two.look same.look h.kept k.kept empty empty' (h.watches_made ∙ none.made ∙ sym (k.watches_made ∙ none'.made)) in
     record {
-      made = sym one.made ∙ same.made ∙ two.made;
+      made = sym one.state.made ∙ same.made ∙ two.state.made;
       worlds = alike-looks (Keeps-stands one.history) (Keeps-stands two.history) looks;
     }

@@ -1,5 +1,5 @@
 -- What a client does at a state, and what the search keeps of it.
-use Rattle.std.proofs.Common.{◌≡◌, ℕ, ◌+◌, ◌<◌, ◌≤◌, Bool, true, false, refl, sym, ap, ◌∙◌, subst, List, [], ◌∷◌, ◌++◌, length, length-append, map, take, Option, None, Some, is_some, option_map, unwrap_or, if◌then◌else◌, get_or, inl, inr, Contains, arith}
+use Rattle.std.proofs.Common.{◌≡◌, ℕ, ◌+◌, ◌<◌, ◌≤◌, Bool, true, false, refl, sym, ap, ◌∙◌, subst, List, [], ◌∷◌, ◌++◌, length, length-append, map, take, Option, None, Some, is_some, option_map, unwrap_or, if◌then◌else◌, get_or, replicate, arith}
 use Rattle.std.specs.Prelude.{All, IsSome, IsOk, OnOk, Vec, Result, Ok, Err}
 use Rattle.std.specs.Global.{Global}
 use Rattle.std.proofs.lemmas.Bool.{false≢true}
@@ -11,6 +11,7 @@ use Rattle.explore_core.specs.declared.plan.Step.{Step}
 use Rattle.explore_core.specs.declared.found.Found.{Found}
 use Rattle.explore_core.specs.declared.position.Position.{Position}
 use Rattle.explore_core.specs.declared.position.Turn.TheVariants.{Waits}
+use Rattle.explore_core.specs.declared.state.Seen.{Seen}
 use Rattle.explore_core.specs.declared.state.State.{State}
 use Rattle.explore_core.specs.declared.search.Move.{Move}
 use Rattle.explore_core.specs.declared.search.Move.TheVariants as move
@@ -18,28 +19,21 @@ use Rattle.explore_core.specs.declared.search.Reached.TheVariants as reached
 use Rattle.explore_core.specs.declared.search.Stop.{Stop}
 use Rattle.explore_core.specs.Found.{CanBeExplored, IsTrue, IsAll, Lists}
 use Rattle.explore_core.specs.Schedule.{Lines, Standing, Schedule, history_with, history_along, next_line, after_line, made_line, after_one, ComesTo, IsAnswered}
-use Rattle.explore_core.specs.Search.{standing_of, standing_at, standing_after, Answers, Grows, IsAt, IsTurn, IsReached, IsState, IsTried, AreTried, AreMoves, Keeps, Records}
+use Rattle.explore_core.specs.Search.{standing_of, standing_at, states_of, standing_after, Answers, Grows, IsAt, IsTurn, IsReached, IsState, IsSeen, IsTried, AreTried, AreMoves, Keeps, Records}
 use Rattle.explore_core.proofs.Scheduling.{history_along-push}
 use Rattle.explore_core.proofs.Finding.{Grows-given, HasLike-kept, IsFollowed-none, IsFollowed-made, none-next, after-answers, comes-more}
 
--- the first state
+-- the first state, and a level without any
 
-pub first-state : {plan : Lines} {schedule : Schedule} {state : State} {position : Position} → schedule ≡ []
-    → (ComesTo plan schedule (standing_of plan schedule) → IsAt position (standing_of plan schedule) → IsState plan (length schedule) state)
-    → IsAt position (standing_of plan []) → IsState plan 0 state
-first-state {plan} {schedule} {state} {position} none make at =
-    let comes : ComesTo plan schedule (standing_of plan schedule) = subst (λ (s : Schedule). ComesTo plan s (standing_of plan s)) (sym none) refl in
-    let there : IsAt position (standing_of plan schedule) = subst (λ (s : Schedule). IsAt position (standing_of plan s)) (sym none) at in
-    subst (λ (s : Schedule). IsState plan (length s) state) none (make comes there)
+pub first-state : (plan : Lines) (state : State) → state.schedule.items ≡ [] → state.made.items ≡ replicate (length plan.clients) 0 → IsState plan 0 state
+first-state plan state none made = record {
+  deep = ap length none;
+  comes = subst (λ (s : Schedule). ComesTo plan s (standing_of plan s)) (sym none) refl;
+  made = made ∙ ap (λ (s : Schedule). (standing_of plan s).made) (sym none);
+}
 
-pub Keeps-first : {old new : List State} {state : State} → old ≡ [] → Keeps old state new → new ≡ state ∷ []
-Keeps-first {old} {new} {state} none keeps = elim keeps [
-  | inl same ↦ let there = subst (λ (states : List State). Contains states same.1) none same.2 in absurd (omega (arith, there.1))
-  | inr more ↦ more ∙ ap (λ (states : List State). states ++ state ∷ []) none
-]
-
-pub none-kept : (plan : Lines) (depth : ℕ) (states : List State) → states ≡ [] → All (IsState plan depth) states
-none-kept plan depth states none = subst (All (IsState plan depth)) (sym none) (All-nil (IsState plan depth))
+pub none-seen-yet : (plan : Lines) (depth : ℕ) (seen : List Seen) → seen ≡ [] → All (IsSeen plan depth) seen
+none-seen-yet plan depth seen none = subst (All (IsSeen plan depth)) (sym none) (All-nil (IsSeen plan depth))
 
 -- what a client does, from its turn
 
@@ -49,19 +43,19 @@ reached-waits plan now client w = (
   ap is_some w.1,
 )
 
-pub reached-made : (plan : Lines) (schedule : Schedule) {more : Schedule} {client place : ℕ} {given : Answer} {state : State} {position : Position}
+pub reached-made : (plan : Lines) (schedule : Schedule) {more : Schedule} {client place : ℕ} {given : Answer} {seen : Seen} {position : Position}
     → ComesTo plan schedule (standing_of plan schedule) → Answers plan (standing_of plan schedule) client place given
-    → IsAt position (standing_after plan (standing_of plan schedule) client) → more ≡ schedule ++ client ∷ [] → state.schedule.items ≡ more
-    → (ComesTo plan more (standing_of plan more) → IsAt position (standing_of plan more) → IsState plan (length more) state)
-    → IsReached plan schedule client (reached.Made place given state)
-reached-made plan schedule {more} {client} {place} {given} {state} {position} comes a at is kept make =
+    → IsAt position (standing_after plan (standing_of plan schedule) client) → more ≡ schedule ++ client ∷ [] → seen.state.schedule.items ≡ more
+    → (ComesTo plan more (standing_of plan more) → IsAt position (standing_of plan more) → IsSeen plan (length more) seen)
+    → IsReached plan schedule client (reached.Made place given seen)
+reached-made plan schedule {more} {client} {place} {given} {seen} {position} comes a at is kept make =
     let now = standing_of plan schedule in
     let goes = after-answers a in
     let next = comes-more plan schedule client (after_line now client a.step) comes goes in
     let to : standing_after plan now client ≡ standing_of plan more = ap (λ (o : Option Standing). unwrap_or o now) goes ∙ next.0 ∙ ap (standing_of plan) (sym is) in
     let there = subst (λ (s : Schedule). ComesTo plan s (standing_of plan s)) (sym is) next.1 in
     let size : length more ≡ length schedule + 1 = ap length is ∙ length-append schedule (client ∷ []) in
-    (a, goes ∙ ap Some (next.0 ∙ ap (standing_of plan) (sym (kept ∙ is))), subst (λ n. IsState plan n state) size (make there (subst (IsAt position) to at)))
+    (a, goes ∙ ap Some (next.0 ∙ ap (standing_of plan) (sym (kept ∙ is))), subst (λ n. IsSeen plan n seen) size (make there (subst (IsAt position) to at)))
 
 -- what is listed and kept of it
 
@@ -77,17 +71,17 @@ module _ {plan : Lines} {state : State} {schedule : Schedule} {client : ℕ} (is
       let waits = subst (λ (s : Schedule). IsReached plan s client reached.Waits) is r in
       record { followed = IsFollowed-none plan found next (standing_at plan state) client waits.0; is = waits }
 
-  module _ {depth place : ℕ} {given : Answer} {later : State} (from : IsState plan depth state) (r : IsReached plan schedule client (reached.Made place given later)) where
-    pub later-state : IsState plan (depth + 1) later
-    later-state = subst (λ n. IsState plan (n + 1) later) (ap length is ∙ from.deep) r.2
+  module _ {depth place : ℕ} {given : Answer} {later : Seen} (from : IsState plan depth state) (r : IsReached plan schedule client (reached.Made place given later)) where
+    pub later-seen : IsSeen plan (depth + 1) later
+    later-seen = subst (λ n. IsSeen plan (n + 1) later) (ap length is ∙ from.deep) r.2
 
-    pub tried-made : {found : Found} {old new : List State} → CanBeExplored plan → All (IsState plan (depth + 1)) old → Lists found.given.items client place given → Keeps old later new
-        → IsTried plan found new state client move.Goes
+    pub tried-made : {found : Found} {old new : List Seen} → CanBeExplored plan → All (IsSeen plan (depth + 1)) old → Lists found.given.items client place given → Keeps old later new
+        → IsTried plan found (states_of new) state client move.Goes
     tried-made {found} {old} {new} can all lists keeps =
         let made = subst (λ (s : Schedule). IsReached plan s client (reached.Made place given later)) is r in
         record {
-          followed = IsFollowed-made plan found new (standing_at plan state) client place given (standing_at plan later) made.0 made.1 lists (HasLike-kept can all keeps later-state);
-          is = (standing_at plan later, made.1);
+          followed = IsFollowed-made plan found (states_of new) (standing_at plan state) client place given (standing_at plan later.state) made.0 made.1 lists (HasLike-kept can all keeps later-seen);
+          is = (standing_at plan later.state, made.1);
         }
 
     pub Grows-reached : (old new : Found) → Records old.given.items new.given.items client place given schedule → new.ended ≡ old.ended → new.stuck ≡ old.stuck → Grows plan depth old new

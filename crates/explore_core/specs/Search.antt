@@ -24,6 +24,7 @@ use Rattle.explore_core.specs.declared.position.Position.{Position}
 use Rattle.explore_core.specs.declared.position.Turn.{Turn}
 use Rattle.explore_core.specs.declared.position.Turn.TheVariants.{Done, Waits, Made}
 use Rattle.explore_core.specs.declared.state.State.{State}
+use Rattle.explore_core.specs.declared.state.Seen.{Seen}
 use Rattle.explore_core.specs.declared.visit.Visit.{Visit}
 use Rattle.explore_core.specs.declared.search.Reached.{Reached}
 use Rattle.explore_core.specs.declared.search.Reached.TheVariants as reached
@@ -156,29 +157,40 @@ pub record AreSameLooks (a b : Look) : Type 0 where
   pub here : All (λ (f : FileLook). Contains a.files f) b.files
   pub count : length a.files ≡ length b.files
 
+-- where the state's schedule comes to
+abbrev pub standing_at : Lines → State → Standing
+standing_at plan state = standing_of plan state.schedule.items
+
 -- the state is what its schedule, of that length, comes to
 pub record IsState (plan : Lines) (depth : ℕ) (state : State) : Type 0 where
   pub deep : length state.schedule.items ≡ depth
-  pub comes : ComesTo plan state.schedule.items (standing_of plan state.schedule.items)
-  pub made : state.made.items ≡ (standing_of plan state.schedule.items).made
+  pub comes : ComesTo plan state.schedule.items (standing_at plan state)
+  pub made : state.made.items ≡ (standing_at plan state).made
+
+-- the look is seen at that state
+pub record IsSeen (plan : Lines) (depth : ℕ) (seen : Seen) : Type 0 where
+  pub state : IsState plan depth seen.state
   pub desk : DeskState
-  pub history : HasHistory desk (standing_of plan state.schedule.items).history
-  pub look : Shows (is_asked plan) state.look desk
+  pub history : HasHistory desk (standing_at plan seen.state).history
+  pub look : Shows (is_asked plan) seen.look desk
+
+abbrev pub states_of : List Seen → List State
+states_of seen = map (λ (s : Seen). s.state) seen
 
 -- one of the states continues as that standing does
 abbrev pub HasLike : Lines → List State → Standing → Type 0
 HasLike plan states now =
-    (state : State) × Contains states state × GoOnAlike (is_asked plan) now (standing_of plan state.schedule.items)
+    (state : State) × Contains states state × GoOnAlike (is_asked plan) now (standing_at plan state)
 
 -- in both, each client has made as many lines, and the desks look the same
-pub record IsSameState (a b : State) : Type 0 where
-  pub made : a.made.items ≡ b.made.items
+pub record AreSameSeen (a b : Seen) : Type 0 where
+  pub made : a.state.made.items ≡ b.state.made.items
   pub look : AreSameLooks a.look b.look
 
 -- the state is kept as the last, or one that is the same was kept before
-abbrev pub Keeps : List State → State → List State → Type 0
-Keeps old state new =
-    ((new ≡ old) × (other : State) × Contains old other × IsSameState state other) ⊎ (new ≡ old ++ state ∷ [])
+abbrev pub Keeps : List Seen → Seen → List Seen → Type 0
+Keeps old seen new =
+    ((new ≡ old) × (other : Seen) × Contains old other × AreSameSeen seen other) ⊎ (new ≡ old ++ seen ∷ [])
 
 -- whatever was found is found still, and what is found anew comes about by schedules of that length
 pub record Grows (plan : Lines) (depth : ℕ) (old new : Found) : Type 0 where
@@ -203,14 +215,10 @@ abbrev pub Records : List Given → List Given → ℕ → ℕ → Answer → Sc
 Records old new client place answer schedule =
     (new ≡ old) ⊎ ((g : Given) × (new ≡ old ++ g ∷ []) × IsGiven client place answer schedule g)
 
--- the states are states still, and go on as whatever standing one of them did
-pub record Extends (plan : Lines) (depth : ℕ) (old new : List State) : Type 0 where
-  pub states : All (IsState plan depth) old → All (IsState plan depth) new
-  pub alike : (now : Standing) → HasLike plan old now → HasLike plan new now
-
--- where the state's schedule comes to
-abbrev pub standing_at : Lines → State → Standing
-standing_at plan state = standing_of plan state.schedule.items
+-- the looks are seen still, and a state goes on as whatever standing one of them did
+pub record Extends (plan : Lines) (depth : ℕ) (old new : List Seen) : Type 0 where
+  pub seen : All (IsSeen plan depth) old → All (IsSeen plan depth) new
+  pub alike : (now : Standing) → HasLike plan (states_of old) now → HasLike plan (states_of new) now
 
 -- all that comes about at that standing is listed
 pub record IsListed (plan : Lines) (found : Found) (now : Standing) : Type 0 where
@@ -234,10 +242,10 @@ abbrev pub IsReached : Lines → Schedule → ℕ → Reached → Type 0
 IsReached plan schedule client reached.Done = next_line plan (standing_of plan schedule) client ≡ None
 IsReached plan schedule client reached.Waits =
     (after_one plan (standing_of plan schedule) client ≡ None) × IsSome (next_line plan (standing_of plan schedule) client)
-IsReached plan schedule client (reached.Made place given state) =
+IsReached plan schedule client (reached.Made place given seen) =
     Answers plan (standing_of plan schedule) client place given
-    × (after_one plan (standing_of plan schedule) client ≡ Some (standing_at plan state))
-    × IsState plan (length schedule + 1) state
+    × (after_one plan (standing_of plan schedule) client ≡ Some (standing_at plan seen.state))
+    × IsSeen plan (length schedule + 1) seen
 
 -- the client is done, waits, or makes its line
 abbrev pub IsMove : Lines → Standing → ℕ → Move → Type 0

@@ -13,7 +13,7 @@ pub const STATES: usize = 1_000_000;
 
 /// Decides a plan over every schedule, unless it has more than `bound` states.
 ///
-/// Fails with `Memory` only.
+/// Fails with `Memory` only: also for a plan of more clients than a `u16` counts.
 pub fn explore(alloc: Global, plan: &Plan, bound: usize) -> Result<Found, Refusal>
     requires explorable { CanBeExplored plan.now }
     ensures shown { IfOk result (λ found. IsTrue plan.now found) }

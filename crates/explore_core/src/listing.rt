@@ -4,7 +4,7 @@ ghost use Rattle.explore_core.specs.Found.{Lists};
 ghost use Rattle.explore_core.specs.Search.{Records};
 
 use crate::found::Given;
-use crate::list::copied;
+use crate::list::shown;
 use command_core::Answer;
 use point_core::Refusal;
 
@@ -14,7 +14,7 @@ pub(crate) fn record(
     client: usize,
     place: usize,
     answer: Answer,
-    schedule: &[usize],
+    schedule: &[u16],
 ) -> Result<(), Refusal>
     ensures records { Records list.old.items list.new.items client place answer schedule.now }
     ensures lists { OnOk result (Lists list.new.items client place answer) }
@@ -23,7 +23,7 @@ pub(crate) fn record(
     if is_listed(list.as_slice(), client, place, &answer) {
         return Ok(());
     }
-    let schedule = copied(*list.allocator(), schedule)?;
+    let schedule = shown(*list.allocator(), schedule)?;
     let given = Given {
         client,
         place,

@@ -31,7 +31,7 @@ pub(crate) enum Turn {
 
 impl Position {
     /// Where the plan comes by that schedule, on a fresh desk.
-    pub(crate) fn at(alloc: Global, plan: &Plan, schedule: &[usize]) -> Result<Position, Refusal>
+    pub(crate) fn at(alloc: Global, plan: &Plan, schedule: &[u16]) -> Result<Position, Refusal>
         ensures at { IfOk result (λ position. IsAt position (standing_of plan.now schedule.now)) }
         ensures memory { IfErr result (λ e. e ≡ Refusal.Memory) }
     {
@@ -44,13 +44,13 @@ impl Position {
     }
 
     /// The clients go, one after another. A client that can't make its next line makes none.
-    fn go_along(&mut self, plan: &Plan, schedule: &[usize]) -> Result<(), Refusal>
+    fn go_along(&mut self, plan: &Plan, schedule: &[u16]) -> Result<(), Refusal>
         ensures along { OnOk result ((now : Standing) →
             IsAt self.old now → IsAt self.new (standing_along plan.now now schedule.now)) }
         ensures memory { IfErr result (λ e. e ≡ Refusal.Memory) }
     {
         for client in schedule {
-            self.go(plan, *client)?;
+            self.go(plan, usize::from(*client))?;
         }
         Ok(())
     }
@@ -97,7 +97,7 @@ pub(crate) fn is_done(plan: &Plan, made: &[usize], client: usize) -> bool
     false
 }
 
-fn none_made(alloc: Global, clients: usize) -> Result<Vec<usize>, Refusal>
+pub(crate) fn none_made(alloc: Global, clients: usize) -> Result<Vec<usize>, Refusal>
     ensures none { IfOk result (λ made. made.items ≡ replicate clients 0) }
     ensures memory { IfErr result (λ e. e ≡ Refusal.Memory) }
 {

@@ -5,15 +5,15 @@ ghost use Rattle.explore_core.specs.declared.state.State.{State as Kept};
 ghost use Rattle.desk_core.specs.theorem.Desk.{HasHistory};
 ghost use Rattle.explore_core.specs.Found.{CanBeExplored, IsTrue, IsAll, stuck_of};
 ghost use Rattle.explore_core.specs.Schedule.{Lines, ComesTo, IsStuck, next_line};
-ghost use Rattle.explore_core.specs.Search.{Grows, Extends, IsAt, IsState, IsVisitOf, IsVisited, IsReached, IsTried, AreTried, HasEnds, EndsAre, AreEndsListed, standing_of, standing_at, IsEmptyFound, together};
+ghost use Rattle.explore_core.specs.Search.{Grows, Extends, IsAt, IsState, IsSeen, IsVisitOf, IsVisited, IsReached, IsTried, AreTried, HasEnds, EndsAre, AreEndsListed, standing_of, standing_at, states_of, IsEmptyFound, together};
 
 use crate::found::{Found, Given};
 use crate::level::Level;
-use crate::list::{copied, with_client};
+use crate::list::{shown, with_client};
 use crate::listing::record;
 use crate::plan::Plan;
-use crate::position::{Position, Turn, is_done, make};
-use crate::state::State;
+use crate::position::{Position, Turn, is_done, make, none_made};
+use crate::state::{Seen, State};
 use crate::visit::Visit;
 use command_core::Answer;
 use desk_core::Desk;
@@ -33,8 +33,8 @@ pub(crate) enum Stop {
 enum Reached {
     Done,
     Waits,
-    /// It makes the line of that place, with this answer, and the plan comes to this state.
-    Made(usize, Answer, State),
+    /// It makes the line of that place, with this answer, and this is seen then.
+    Made(usize, Answer, Seen),
 }
 
 /// What some clients do when each of them goes.
@@ -62,32 +62,39 @@ pub(crate) fn search(
 {
     let mut level = first_level(alloc, plan, bound)?;
     for depth in 0..usize::MAX {
-        if level.states().is_empty() {
+        if level.is_empty() {
             return Ok(());
         }
-        level = next_level(alloc, plan, depth, &level, found, bound)?;
+        level = next_level(alloc, plan, depth, level.as_slice(), found, bound)?;
     }
     Err(Stop::Bound)
 }
 
-/// The state in which no client has made a line.
-fn first_level(alloc: Global, plan: &Plan, room: usize) -> Result<Level, Stop>
-    ensures first { IfOk result (λ level. (state : Kept) × (level ≡ state ∷ []) × IsState plan.now 0 state) }
+/// The state in which no client has made a line, if there is room for it.
+fn first_level(alloc: Global, plan: &Plan, room: usize) -> Result<Vec<State>, Stop>
+    ensures first { IfOk result (λ level. (state : Kept) × (level.items ≡ state ∷ []) × IsState plan.now 0 state) }
 {
+    if room == 0 {
+        return Err(Stop::Bound);
+    }
     let Ok(state) = first_state(alloc, plan) else {
         return Err(Stop::Memory);
     };
-    let mut level = Level::new(alloc, room);
-    level.keep(state)?;
+    let mut level = Vec::new(alloc);
+    let Ok(_done) = level.push(state) else {
+        return Err(Stop::Memory);
+    };
     Ok(level)
 }
 
 fn first_state(alloc: Global, plan: &Plan) -> Result<State, Refusal>
     ensures first { IfOk result (IsState plan.now 0) }
 {
-    let position = Position::at(alloc, plan, &[])?;
-    let state = State::of(alloc, plan, Vec::new(alloc), &position)?;
-    Ok(state)
+    let made = none_made(alloc, plan.clients.len())?;
+    Ok(State {
+        schedule: Vec::new(alloc),
+        made,
+    })
 }
 
 /// Visits the states of a level, and gives those that they lead to.
@@ -95,21 +102,23 @@ fn next_level(
     alloc: Global,
     plan: &Plan,
     depth: usize,
-    level: &Level,
+    states: &[State],
     found: &mut Found,
     bound: usize,
-) -> Result<Level, Stop>
+) -> Result<Vec<State>, Stop>
     requires explorable { CanBeExplored plan.now }
-    requires states { All (IsState plan.now depth) level.now }
+    requires states { All (IsState plan.now depth) states.now }
     ensures grows { Grows plan.now depth found.old found.new }
-    ensures next { IfOk result (λ next. All (IsState plan.now (depth + 1)) next) }
-    ensures visited { IfOk result (λ next. All (IsVisited plan.now found.new next) level.now) }
+    ensures next { IfOk result (λ next. All (IsState plan.now (depth + 1)) next.items) }
+    ensures visited { IfOk result (λ next. All (IsVisited plan.now found.new next.items) states.now) }
 {
-    let states = level.states();
     count(found, states.len());
     let mut next = Level::new(alloc, bound.saturating_sub(found.states));
     visit_all(alloc, plan, depth, states, found, &mut next)?;
-    Ok(next)
+    let Ok(states) = next.into_states(alloc) else {
+        return Err(Stop::Memory);
+    };
+    Ok(states)
 }
 
 fn count(found: &mut Found, states: usize)
@@ -129,10 +138,10 @@ fn visit_all(
 ) -> Result<(), Stop>
     requires explorable { CanBeExplored plan.now }
     requires states { All (IsState plan.now depth) states.now }
-    requires next { All (IsState plan.now (depth + 1)) next.old }
+    requires next { All (IsSeen plan.now (depth + 1)) next.old }
     ensures grows { Grows plan.now depth found.old found.new }
     ensures extends { Extends plan.now (depth + 1) next.old next.new }
-    ensures visited { OnOk result (All (IsVisited plan.now found.new next.new) states.now) }
+    ensures visited { OnOk result (All (IsVisited plan.now found.new (states_of next.new)) states.now) }
 {
     for state in states {
         visit(alloc, plan, depth, state, found, next)?;
@@ -151,10 +160,10 @@ fn visit(
 ) -> Result<(), Stop>
     requires explorable { CanBeExplored plan.now }
     requires state { IsState plan.now depth state.now }
-    requires next { All (IsState plan.now (depth + 1)) next.old }
+    requires next { All (IsSeen plan.now (depth + 1)) next.old }
     ensures grows { Grows plan.now depth found.old found.new }
     ensures extends { Extends plan.now (depth + 1) next.old next.new }
-    ensures visited { OnOk result (IsVisited plan.now found.new next.new state.now) }
+    ensures visited { OnOk result (IsVisited plan.now found.new (states_of next.new) state.now) }
 {
     let moves = try_clients(alloc, plan, depth, state, found, next)?;
     match moves {
@@ -181,10 +190,11 @@ fn try_clients(
 ) -> Result<Move, Stop>
     requires explorable { CanBeExplored plan.now }
     requires state { IsState plan.now depth state.now }
-    requires next { All (IsState plan.now (depth + 1)) next.old }
+    requires next { All (IsSeen plan.now (depth + 1)) next.old }
     ensures grows { Grows plan.now depth found.old found.new }
     ensures extends { Extends plan.now (depth + 1) next.old next.new }
-    ensures tried { IfOk result (λ moves. AreTried plan.now found.new next.new state.now (length plan.now.clients) moves) }
+    ensures tried { IfOk result (λ moves.
+        AreTried plan.now found.new (states_of next.new) state.now (length plan.now.clients) moves) }
 {
     let Ok(mut visit) = Visit::at(alloc, plan, state.schedule.as_slice()) else {
         return Err(Stop::Memory);
@@ -205,10 +215,11 @@ fn try_each(
     requires explorable { CanBeExplored plan.now }
     requires state { IsState plan.now depth state.now }
     requires at { IsVisitOf visit.old (standing_at plan.now state.now) }
-    requires next { All (IsState plan.now (depth + 1)) next.old }
+    requires next { All (IsSeen plan.now (depth + 1)) next.old }
     ensures grows { Grows plan.now depth found.old found.new }
     ensures extends { Extends plan.now (depth + 1) next.old next.new }
-    ensures tried { IfOk result (λ moves. AreTried plan.now found.new next.new state.now (length plan.now.clients) moves) }
+    ensures tried { IfOk result (λ moves.
+        AreTried plan.now found.new (states_of next.new) state.now (length plan.now.clients) moves) }
 {
     let mut moves = Move::Done;
     for client in 0..plan.clients.len() {
@@ -245,10 +256,10 @@ fn try_client(
     requires explorable { CanBeExplored plan.now }
     requires state { IsState plan.now depth state.now }
     requires at { IsVisitOf visit.old (standing_at plan.now state.now) }
-    requires next { All (IsState plan.now (depth + 1)) next.old }
+    requires next { All (IsSeen plan.now (depth + 1)) next.old }
     ensures grows { Grows plan.now depth found.old found.new }
     ensures extends { Extends plan.now (depth + 1) next.old next.new }
-    ensures tried { IfOk result (λ move. IsTried plan.now found.new next.new state.now client move) }
+    ensures tried { IfOk result (λ move. IsTried plan.now found.new (states_of next.new) state.now client move) }
     ensures at { OnOk result (IsVisitOf visit.new (standing_at plan.now state.now)) }
 {
     let Ok(reached) = reach(alloc, plan, state, client, visit) else {
@@ -295,7 +306,7 @@ fn reach(
 fn reach_from(
     alloc: Global,
     plan: &Plan,
-    schedule: &[usize],
+    schedule: &[u16],
     client: usize,
     visit: &mut Visit,
 ) -> Result<Reached, Refusal>
@@ -310,9 +321,9 @@ fn reach_from(
         Turn::Waits => Ok(Reached::Waits),
         Turn::Made(place, answer) => {
             let more = with_client(alloc, schedule, client)?;
-            let state = State::of(alloc, plan, more, &visit.position)?;
+            let seen = Seen::of(alloc, plan, more, &visit.position)?;
             visit.take_back(plan, client, place, &answer);
-            Ok(Reached::Made(place, answer, state))
+            Ok(Reached::Made(place, answer, seen))
         }
     }
 }
@@ -333,7 +344,7 @@ fn show_stuck(
     if found.stuck.is_some() {
         return Ok(());
     }
-    let Ok(schedule) = copied(alloc, state.schedule.as_slice()) else {
+    let Ok(schedule) = shown(alloc, state.schedule.as_slice()) else {
         return Err(Stop::Memory);
     };
     found.stuck = Some(schedule);
@@ -365,7 +376,7 @@ fn make_last(
 
 fn answer_last(
     plan: &Plan,
-    schedule: &[usize],
+    schedule: &[u16],
     desk: &mut Desk,
     ended: &mut Vec<Given>,
 ) -> Result<(), Refusal>

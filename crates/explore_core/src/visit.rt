@@ -20,7 +20,7 @@ pub(crate) struct Visit {
 
 impl Visit {
     /// A visit of the state that the schedule comes to.
-    pub(crate) fn at(alloc: Global, plan: &Plan, schedule: &[usize]) -> Result<Visit, Refusal>
+    pub(crate) fn at(alloc: Global, plan: &Plan, schedule: &[u16]) -> Result<Visit, Refusal>
         ensures at { IfOk result (λ visit. IsVisitOf visit (standing_of plan.now schedule.now)) }
         ensures memory { IfErr result (λ e. e ≡ Refusal.Memory) }
     {
@@ -36,7 +36,7 @@ impl Visit {
         &mut self,
         alloc: Global,
         plan: &Plan,
-        schedule: &[usize],
+        schedule: &[u16],
     ) -> Result<(), Refusal>
         ensures at { OnOk result (IsVisitOf self.old (standing_of plan.now schedule.now) →
             IsAt self.new.position (standing_of plan.now schedule.now)) }

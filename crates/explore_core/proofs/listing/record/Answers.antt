@@ -25,7 +25,7 @@ returns-clause-records c =
     let before = c.args.list.now.items in
     let given : Given = record { client = c.args.client; place = c.args.place; answer = c.args.answer; schedule = c.in_ok-schedule.schedule } in
     let pushed = c.push.ensures.items ∙ ap (λ b. if b then before ++ given ∷ [] else before) (sym c.in_ok-map_err.ensures.variant) in
-    inr (given, pushed, record { client_is = refl; place_is = refl; answer_is = refl; schedule_is = c.in_ok-schedule.ensures.copied })
+    inr (given, pushed, record { client_is = refl; place_is = refl; answer_is = refl; schedule_is = c.in_ok-schedule.ensures.shown })
 
 pub returns-clause-lists : goal.returns-clause-lists
 returns-clause-lists c =

@@ -27,14 +27,14 @@ returns-in-Waits-clause-at c = λ fresh.
     let waits = reached-waits c.args.plan.now now c.args.client (subst (IsTurn c.args.plan.now now c.args.client) c.in-Waits.is (c.in_ok-go.ensures.turn now c.requires.at)) in
     IsAt-stayed c.args.plan.now now c.args.client waits.0 (c.in_ok-go.ensures.after now c.requires.at)
 
-pub returns-in_ok-state-in-Made-clause-reached : goal.returns-in_ok-state-in-Made-clause-reached
-returns-in_ok-state-in-Made-clause-reached c =
+pub returns-in_ok-seen-in-Made-clause-reached : goal.returns-in_ok-seen-in-Made-clause-reached
+returns-in_ok-seen-in-Made-clause-reached c =
     let now = standing_of c.args.plan.now c.args.schedule.now in
     let turn = subst (IsTurn c.args.plan.now now c.args.client) c.in-Made.is (c.in_ok-go.ensures.turn now c.requires.at) in
-    reached-made c.args.plan.now c.args.schedule.now c.requires.comes turn (c.in_ok-go.ensures.after now c.requires.at) c.in_ok-more-in-Made.ensures.more (ap (λ v. v.items) c.in_ok-state-in-Made.ensures.schedule) c.in_ok-state-in-Made.ensures.state
+    reached-made c.args.plan.now c.args.schedule.now c.requires.comes turn (c.in_ok-go.ensures.after now c.requires.at) c.in_ok-more-in-Made.ensures.more (ap (λ v. v.items) c.in_ok-seen-in-Made.ensures.schedule) c.in_ok-seen-in-Made.ensures.seen
 
-pub returns-in_ok-state-in-Made-clause-at : goal.returns-in_ok-state-in-Made-clause-at
-returns-in_ok-state-in-Made-clause-at c =
+pub returns-in_ok-seen-in-Made-clause-at : goal.returns-in_ok-seen-in-Made-clause-at
+returns-in_ok-seen-in-Made-clause-at c =
     let now = standing_of c.args.plan.now c.args.schedule.now in
     let turn = subst (IsTurn c.args.plan.now now c.args.client) c.in-Made.is (c.in_ok-go.ensures.turn now c.requires.at) in
     c.take_back.ensures.at now c.requires.at.desk.accepted turn (c.in_ok-go.ensures.after now c.requires.at)

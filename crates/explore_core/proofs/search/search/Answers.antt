@@ -1,6 +1,6 @@
-use Rattle.std.proofs.Common.{length, sym, ◌∙◌, subst}
+use Rattle.std.proofs.Common.{All, sym, ◌∙◌, subst}
 use Rattle.std.proofs.lemmas.Bool.{eqb-true}
-use Rattle.explore_core.specs.Search.{IsCovered}
+use Rattle.explore_core.specs.Search.{IsCovered, IsState, IsVisited}
 use Rattle.explore_core.proofs.Levels.{IsTrue-empty, IsCovered-first, IsCovered-next, IsAll-covered, length-none}
 use Rattle.explore_core.proofs.search.search.Goals as goal
 
@@ -16,7 +16,7 @@ loop-depth-init c =
     }
 
 pub next_level-requires-clause-states : goal.next_level-requires-clause-states
-next_level-requires-clause-states c = c.loop-depth.invariant.covered.are
+next_level-requires-clause-states c = subst (All (IsState c.args.plan.now c.loop-depth.depth)) (sym c.as_slice.ensures.value) c.loop-depth.invariant.covered.are
 
 pub loop-depth-preserved : goal.loop-depth-preserved
 loop-depth-preserved c =
@@ -24,7 +24,8 @@ loop-depth-preserved c =
     let next = c.in_ok-level-2.ensures in
     record {
       shown = c.next_level.ensures.grows.shown before.shown;
-      covered = IsCovered-next c.requires.explorable before.covered c.next_level.ensures.grows next.visited next.next;
+      covered = IsCovered-next c.requires.explorable before.covered c.next_level.ensures.grows
+          (subst (All (IsVisited c.args.plan.now c.next_level.new.found c.in_ok-level-2.level.items)) c.as_slice.ensures.value next.visited) next.next;
     }
 
 pub returns-in_err-level-2-clause-shown : goal.returns-in_err-level-2-clause-shown
@@ -36,8 +37,8 @@ returns-then-is_empty-clause-shown c = c.loop-depth.invariant.shown
 pub returns-then-is_empty-clause-all : goal.returns-then-is_empty-clause-all
 returns-then-is_empty-clause-all c =
     let level = c.loop-depth.level in
-    let none = length-none c.states.result.now (eqb-true (length c.states.result.now) 0 (sym c.is_empty.ensures ∙ c.if-is_empty.true)) in
-    IsAll-covered (subst (IsCovered c.args.plan.now c.loop-depth.found c.loop-depth.depth) (sym c.states.ensures ∙ none) c.loop-depth.invariant.covered)
+    let none = length-none level.items (sym level.ok.0 ∙ eqb-true level.len 0 (sym c.is_empty.ensures ∙ c.if-is_empty.true)) in
+    IsAll-covered (subst (IsCovered c.args.plan.now c.loop-depth.found c.loop-depth.depth) none c.loop-depth.invariant.covered)
 
 pub returns-clause-shown : goal.returns-clause-shown
 returns-clause-shown c = c.loop-depth.invariant.shown

@@ -5,5 +5,5 @@ use Rattle.explore_core.proofs.search.search.Given as goal
 abbrev pub invariant-loop-depth : goal.invariant-loop-depth
 invariant-loop-depth l = record {
   shown : IsTrue l.plan l.found;
-  covered : IsCovered l.plan l.found l.depth l.level;
+  covered : IsCovered l.plan l.found l.depth l.level.items;
 }

@@ -1,8 +1,8 @@
 use Rattle.std.proofs.Common.{◌+◌, refl, sym, subst}
-use Rattle.explore_core.specs.Search.{Extends, IsReached, Records}
+use Rattle.explore_core.specs.Search.{Extends, states_of, IsReached, Records}
 use Rattle.explore_core.proofs.Levels.{Grows-refl, Extends-refl}
 use Rattle.explore_core.proofs.Finding.{Extends-kept}
-use Rattle.explore_core.proofs.Trying.{tried-done, tried-waits, tried-made, later-state, Grows-reached}
+use Rattle.explore_core.proofs.Trying.{tried-done, tried-waits, tried-made, later-seen, Grows-reached}
 use Rattle.explore_core.proofs.search.try_client.Goals as goal
 
 pub reach-requires : goal.reach-requires
@@ -22,7 +22,7 @@ returns-in-Done-clause-extends c = Extends-refl c.args.plan.now (c.args.depth + 
 
 pub returns-in-Done-clause-tried : goal.returns-in-Done-clause-tried
 returns-in-Done-clause-tried c =
-    tried-done refl c.args.found.now c.args.next.now (subst (IsReached c.args.plan.now c.args.state.now.schedule.items c.args.client) c.in-Done.is c.in-Ok.ensures.reached)
+    tried-done refl c.args.found.now (states_of c.args.next.now) (subst (IsReached c.args.plan.now c.args.state.now.schedule.items c.args.client) c.in-Done.is c.in-Ok.ensures.reached)
 
 pub returns-in-Waits-clause-grows : goal.returns-in-Waits-clause-grows
 returns-in-Waits-clause-grows c = Grows-refl c.args.plan.now c.args.depth c.args.found.now
@@ -32,7 +32,7 @@ returns-in-Waits-clause-extends c = Extends-refl c.args.plan.now (c.args.depth +
 
 pub returns-in-Waits-clause-tried : goal.returns-in-Waits-clause-tried
 returns-in-Waits-clause-tried c =
-    tried-waits refl c.args.found.now c.args.next.now (subst (IsReached c.args.plan.now c.args.state.now.schedule.items c.args.client) c.in-Waits.is c.in-Ok.ensures.reached)
+    tried-waits refl c.args.found.now (states_of c.args.next.now) (subst (IsReached c.args.plan.now c.args.state.now.schedule.items c.args.client) c.in-Waits.is c.in-Ok.ensures.reached)
 
 pub returns-in_default-record-clause-grows : goal.returns-in_default-record-clause-grows
 returns-in_default-record-clause-grows c =
@@ -62,7 +62,7 @@ returns-in_err-keep-in-Made-clause-extends c =
 pub returns-in_ok-keep-in-Made-clause-extends : goal.returns-in_ok-keep-in-Made-clause-extends
 returns-in_ok-keep-in-Made-clause-extends c =
     let reached = subst (IsReached c.args.plan.now c.args.state.now.schedule.items c.args.client) c.in-Made.is c.in-Ok.ensures.reached in
-    Extends-kept c.in_ok-keep-in-Made.ensures.keeps (later-state refl c.requires.state reached)
+    Extends-kept c.in_ok-keep-in-Made.ensures.keeps (later-seen refl c.requires.state reached)
 
 pub returns-in_ok-keep-in-Made-clause-tried : goal.returns-in_ok-keep-in-Made-clause-tried
 returns-in_ok-keep-in-Made-clause-tried c =

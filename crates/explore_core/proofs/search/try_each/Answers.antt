@@ -1,13 +1,13 @@
 use Rattle.std.proofs.Common.{◌+◌, ◌≡◌, length, subst, sym, ap, ◌∙◌, arith}
 use Rattle.explore_core.specs.Schedule.{Lines}
-use Rattle.explore_core.specs.Search.{AreTried}
+use Rattle.explore_core.specs.Search.{AreTried, states_of}
 use Rattle.explore_core.proofs.Levels.{Grows-refl, Grows-trans, Extends-refl, Extends-trans}
 use Rattle.explore_core.proofs.Finding.{AreTried-none, AreTried-push}
 use Rattle.explore_core.proofs.Trying.{AreTried-fewer, clients-count}
 use Rattle.explore_core.proofs.search.try_each.Goals as goal
 
 pub try_client-requires-clause-next : goal.try_client-requires-clause-next
-try_client-requires-clause-next c = c.loop-client.invariant.extends.states c.requires.next
+try_client-requires-clause-next c = c.loop-client.invariant.extends.seen c.requires.next
 
 pub try_client-requires-clause-at : goal.try_client-requires-clause-at
 try_client-requires-clause-at c = c.loop-client.invariant.at
@@ -23,7 +23,7 @@ loop-client-init c = record {
   grows = Grows-refl c.args.plan.now c.args.depth c.args.found.now;
   extends = Extends-refl c.args.plan.now (c.args.depth + 1) c.args.next.now;
   at = c.requires.at;
-  tried = AreTried-none c.args.plan.now c.args.found.now c.args.next.now c.args.state.now;
+  tried = AreTried-none c.args.plan.now c.args.found.now (states_of c.args.next.now) c.args.state.now;
 }
 
 pub loop-client-preserved : goal.loop-client-preserved
@@ -34,7 +34,7 @@ loop-client-preserved c =
       grows = Grows-trans before.grows one.grows;
       extends = Extends-trans before.extends one.extends;
       at = c.in_ok-one.ensures.at;
-      tried = subst (AreTried c.args.plan.now c.try_client.new.found c.try_client.new.next c.args.state.now (c.loop-client.client + 1)) (sym c.together-moves.ensures)
+      tried = subst (AreTried c.args.plan.now c.try_client.new.found (states_of c.try_client.new.next) c.args.state.now (c.loop-client.client + 1)) (sym c.together-moves.ensures)
           (AreTried-push before.tried one.grows one.extends c.in_ok-one.ensures.tried);
     }
 

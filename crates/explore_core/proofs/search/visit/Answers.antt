@@ -1,5 +1,5 @@
 use Rattle.std.proofs.Common.{length, subst}
-use Rattle.explore_core.specs.Search.{AreTried}
+use Rattle.explore_core.specs.Search.{AreTried, states_of}
 use Rattle.explore_core.proofs.Levels.{Grows-trans}
 use Rattle.explore_core.proofs.Finding.{IsVisited-goes, IsVisited-waits, IsVisited-done, stuck-waits, done-all}
 use Rattle.explore_core.proofs.search.visit.Goals as goal
@@ -8,7 +8,7 @@ pub returns-in-Goes-clause-visited : goal.returns-in-Goes-clause-visited
 returns-in-Goes-clause-visited c =
     let plan = c.args.plan.now in
     let found = c.try_clients.new.found in
-    let next = c.try_clients.new.next in
+    let next = states_of c.try_clients.new.next in
     let state = c.args.state.now in
     IsVisited-goes plan found next state (subst (AreTried plan found next state (length plan.clients)) c.in-Goes.is c.in_ok-moves.ensures.tried)
 
@@ -16,7 +16,7 @@ pub show_stuck-requires-clause-stuck : goal.show_stuck-requires-clause-stuck
 show_stuck-requires-clause-stuck c =
     let plan = c.args.plan.now in
     let found = c.try_clients.new.found in
-    let next = c.try_clients.new.next in
+    let next = states_of c.try_clients.new.next in
     let state = c.args.state.now in
     stuck-waits plan found next state (subst (AreTried plan found next state (length plan.clients)) c.in-Waits.is c.in_ok-moves.ensures.tried)
 
@@ -30,7 +30,7 @@ pub returns-in_ok-show_stuck-in-Waits-clause-visited : goal.returns-in_ok-show_s
 returns-in_ok-show_stuck-in-Waits-clause-visited c =
     let plan = c.args.plan.now in
     let found = c.try_clients.new.found in
-    let next = c.try_clients.new.next in
+    let next = states_of c.try_clients.new.next in
     let state = c.args.state.now in
     let shown = c.in_ok-show_stuck-in-Waits.ensures.shown in
     IsVisited-waits plan c.args.depth found c.show_stuck.new.found next state c.show_stuck.ensures.grows
@@ -40,7 +40,7 @@ pub make_last-requires-clause-done : goal.make_last-requires-clause-done
 make_last-requires-clause-done c =
     let plan = c.args.plan.now in
     let found = c.try_clients.new.found in
-    let next = c.try_clients.new.next in
+    let next = states_of c.try_clients.new.next in
     let state = c.args.state.now in
     done-all plan found next state (subst (AreTried plan found next state (length plan.clients)) c.in-Done.is c.in_ok-moves.ensures.tried)
 
@@ -54,7 +54,7 @@ pub returns-in_ok-make_last-in-Done-clause-visited : goal.returns-in_ok-make_las
 returns-in_ok-make_last-in-Done-clause-visited c =
     let plan = c.args.plan.now in
     let found = c.try_clients.new.found in
-    let next = c.try_clients.new.next in
+    let next = states_of c.try_clients.new.next in
     let state = c.args.state.now in
     IsVisited-done plan c.args.depth found c.make_last.new.found next state c.make_last.ensures.grows
     (subst (AreTried plan found next state (length plan.clients)) c.in-Done.is c.in_ok-moves.ensures.tried) c.in_ok-make_last-in-Done.ensures.ended

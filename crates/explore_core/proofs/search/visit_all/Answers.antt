@@ -1,7 +1,7 @@
 use Rattle.std.proofs.Common.{◌+◌, take, subst, All}
 use Rattle.std.proofs.lemmas.List.{take_all}
 use Rattle.std.proofs.lemmas.List.Elements.{All-nil, All-weaker}
-use Rattle.explore_core.specs.Search.{IsState, IsVisited}
+use Rattle.explore_core.specs.Search.{IsState, IsVisited, states_of}
 use Rattle.explore_core.proofs.Levels.{Grows-refl, Grows-trans, Extends-refl, Extends-trans, IsVisited-grows}
 use Rattle.explore_core.proofs.Finding.{All-item, All-next}
 use Rattle.explore_core.proofs.search.visit_all.Goals as goal
@@ -10,7 +10,7 @@ pub visit-requires-clause-state : goal.visit-requires-clause-state
 visit-requires-clause-state c = All-item (IsState c.args.plan.now c.args.depth) c.args.states.now c.loop-state.state-index c.state-item.result c.loop-state-test.true c.state-item.is c.requires.states
 
 pub visit-requires-clause-next : goal.visit-requires-clause-next
-visit-requires-clause-next c = c.loop-state.invariant.extends.states c.requires.next
+visit-requires-clause-next c = c.loop-state.invariant.extends.seen c.requires.next
 
 pub returns-in_err-visit-clause-grows : goal.returns-in_err-visit-clause-grows
 returns-in_err-visit-clause-grows c = Grows-trans c.loop-state.invariant.grows c.visit.ensures.grows
@@ -22,7 +22,7 @@ pub loop-state-init : goal.loop-state-init
 loop-state-init c = record {
   grows = Grows-refl c.args.plan.now c.args.depth c.args.found.now;
   extends = Extends-refl c.args.plan.now (c.args.depth + 1) c.args.next.now;
-  visited = All-nil (IsVisited c.args.plan.now c.args.found.now c.args.next.now);
+  visited = All-nil (IsVisited c.args.plan.now c.args.found.now (states_of c.args.next.now));
 }
 
 pub loop-state-preserved : goal.loop-state-preserved
@@ -30,8 +30,8 @@ loop-state-preserved c =
     let plan = c.args.plan.now in
     let before = c.loop-state.invariant in
     let visit = c.visit.ensures in
-    let old = IsVisited plan c.loop-state.found c.loop-state.next in
-    let new = IsVisited plan c.visit.new.found c.visit.new.next in
+    let old = IsVisited plan c.loop-state.found (states_of c.loop-state.next) in
+    let new = IsVisited plan c.visit.new.found (states_of c.visit.new.next) in
     let i = c.loop-state.state-index in
     record {
       grows = Grows-trans before.grows visit.grows;
@@ -44,4 +44,4 @@ loop-state-preserved c =
 pub returns-clause-visited : goal.returns-clause-visited
 returns-clause-visited c =
     let all = take_all c.loop-state.state-index c.args.states.now c.loop-state-test.false in
-    subst (All (IsVisited c.args.plan.now c.loop-state.found c.loop-state.next)) all c.loop-state.invariant.visited
+    subst (All (IsVisited c.args.plan.now c.loop-state.found (states_of c.loop-state.next))) all c.loop-state.invariant.visited

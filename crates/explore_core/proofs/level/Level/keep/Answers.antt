@@ -7,4 +7,4 @@ returns-then-has-clause-keeps c =
     inl (refl, kept.0, kept.1, kept.2)
 
 pub returns-clause-keeps : goal.returns-clause-keeps
-returns-clause-keeps c = inr (c.in-Ok-push.ensures.items ∙ ap (λ states. states ++ c.args.state ∷ []) c.self.view_is)
+returns-clause-keeps c = inr (c.in-Ok-push.ensures.items ∙ ap (λ states. states ++ c.args.seen ∷ []) c.self.view_is)

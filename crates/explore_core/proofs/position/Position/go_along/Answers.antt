@@ -1,4 +1,4 @@
-use Rattle.std.proofs.Common.{get_or, take, sym, ap, ◌∙◌, subst}
+use Rattle.std.proofs.Common.{◌++◌, ◌∷◌, [], take, sym, ap, ◌∙◌, subst}
 use Rattle.std.proofs.lemmas.List.{take_more, take_all}
 use Rattle.explore_core.specs.Search.{IsAt, standing_along}
 use Rattle.explore_core.proofs.Scheduling.{standing_along-push}
@@ -12,7 +12,8 @@ loop-client-preserved c = λ now at.
     let plan = c.args.plan.now in
     let schedule = c.args.schedule.now in
     let i = c.loop-client.client-index in
-    let is = ap (standing_along plan now) (take_more schedule i _ c.loop-client-test.true) ∙ standing_along-push plan now (take i schedule) (get_or schedule i _) in
+    let is = ap (standing_along plan now) (take_more schedule i _ c.loop-client-test.true ∙ ap (λ d. take i schedule ++ d ∷ []) (sym c.from.ensures))
+    ∙ standing_along-push plan now (take i schedule) c.from.result in
     subst (IsAt c.go.new.self) (sym is) (c.in_ok-go.ensures.after (standing_along plan now (take i schedule)) (c.loop-client.invariant now at))
 
 pub returns-clause-along : goal.returns-clause-along

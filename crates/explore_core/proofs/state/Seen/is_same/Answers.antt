@@ -1,4 +1,4 @@
-use Rattle.explore_core.proofs.state.State.is_same.Goals as goal
+use Rattle.explore_core.proofs.state.Seen.is_same.Goals as goal
 
 pub returns-then-are_same : goal.returns-then-are_same
 returns-then-are_same c = λ is. record {
