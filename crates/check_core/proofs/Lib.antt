@@ -7,3 +7,4 @@ mod Progress
 mod Reported
 mod Stages
 mod Texts
+mod Totals

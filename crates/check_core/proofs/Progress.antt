@@ -1,5 +1,5 @@
 -- Lines that are checked one after another.
-use Rattle.std.proofs.Common.{◌≡◌, ℕ, ◌+◌, ◌≤◌, inl, inr, Bool, true, false, cond, List, [], ◌∷◌, ◌++◌, length, drop, take, Option, None, Some, is_some, option_to_list, refl, sym, ap, ◌∙◌, subst, append_assoc, append-nil, arith}
+use Rattle.std.proofs.Common.{◌≡◌, ℕ, ◌+◌, ◌≤◌, ◌⊎◌, inl, inr, Bool, true, false, cond, List, [], ◌∷◌, ◌++◌, length, drop, take, Option, None, Some, is_some, option_to_list, refl, sym, ap, ◌∙◌, subst, append_assoc, append-nil, arith}
 use Rattle.std.proofs.Math.Seq.{drop-append_seam}
 use Rattle.std.proofs.lemmas.Bool.{cases_lt, lt-ltb, le-leb}
 use Rattle.std.proofs.lemmas.List.{take_all, length_push}
@@ -18,35 +18,22 @@ use Rattle.line_core.specs.Cutting.{cut}
 use Rattle.line_core.specs.Line.{body_from, body_of}
 use Rattle.line_core.specs.Reading.{IsInput, WasRead, ConsumesAtMost}
 use Rattle.script_core.specs.Output.{AreLineAnswers}
-use Rattle.line_core.specs.Script.{lines_of, lines_until, ending_of, script_of}
-use Rattle.line_core.specs.ScriptLines.{LinesState, HasEnded}
+use Rattle.line_core.specs.Script.{answered, ending_of, last_body, lines_of, lines_until, script_of}
 use Rattle.report_core.specs.Answer.{text_of}
 use Rattle.line_core.specs.Words.{words_of}
-use Rattle.line_core.proofs.EndedLines.{body_of-cut, ended_lines, line-answered, last-answered}
+use Rattle.line_core.proofs.EndedLines.{body_of-cut}
 use Rattle.line_core.proofs.Inputs.{input_from}
 use Rattle.script_core.proofs.Progress.{AreLineAnswers-push, history_along-push, length-answers}
 use Rattle.check_core.specs.declared.checker.Checker.{Checker}
 use Rattle.check_core.specs.declared.tally.Tally.{Tally}
+use Rattle.check_core.specs.Checked.{HasChecked, asked_among, asked_of, differing_among, differing_of, expected_at}
 use Rattle.check_core.specs.Expected.{expected_text, expected_after, expected_of, is_asked, differs}
-use Rattle.check_core.specs.Check.{asked_count, differing_count, ChecksScript, IsJudged, IsFresh, Expects, IsJudgedAt, IsAnswered, IsTaken, IsEnded, HasCheckedBytes}
+use Rattle.check_core.specs.Check.{asked_count, differing_count, ChecksScript, IsJudged, IsFresh, IsTooLong, Expects, IsJudgedAt, IsAnswered, IsTaken, IsEnded}
 use Rattle.check_core.specs.Stage.{IsAt}
-use Rattle.check_core.specs.Tally.{one_if, IsBelow}
+use Rattle.check_core.specs.Tally.{one_if}
 use Rattle.check_core.proofs.Counts.{counts-agree}
 
 -- ---- counts among the lines of a script
-
-abbrev pub expected_at : List (List ℕ) → ℕ → List (List ℕ)
-expected_at lines number = expected_after (drop number lines)
-
-abbrev pub asked_among : List (List ℕ) → List Line → ℕ
-asked_among lines [] = 0
-asked_among lines (l ∷ ls) = one_if (is_asked (expected_at lines l.number)) + asked_among lines ls
-
-abbrev pub differing_among : List (List ℕ) → List Line → List Answer → ℕ
-differing_among lines [] given = 0
-differing_among lines (l ∷ ls) [] = 0
-differing_among lines (l ∷ ls) (a ∷ rest) =
-    one_if (differs (expected_at lines l.number) (text_of l.number a)) + differing_among lines ls rest
 
 asked_among-push : (lines : List (List ℕ)) (ls : List Line) (l : Line) → asked_among lines (ls ++ l ∷ []) ≡ asked_among lines ls + one_if (is_asked (expected_at lines l.number))
 asked_among-push lines [] l = omega arith
@@ -69,36 +56,16 @@ differing_among-script script [] given = refl
 differing_among-script script (l ∷ ls) [] = refl
 differing_among-script script (l ∷ ls) (a ∷ rest) = ap (λ n. one_if (differs (expected_of script l.number) (text_of l.number a)) + n) (differing_among-script script ls rest)
 
--- all that is checked, of lines that stand among these
-abbrev asked_of : List (List ℕ) → List Line → ℕ
-asked_of lines ls = one_if (is_asked (expected_at lines 0)) + asked_among lines ls
+-- ---- no line was checked
 
-abbrev differing_of : List (List ℕ) → List Line → List Answer → ℕ
-differing_of lines ls given = one_if (differs (expected_at lines 0) []) + differing_among lines ls given
-
--- ---- the lines `given` are checked, but for the last of them that has an answer, of which `expected` is expected so far
-
-pub record HasChecked (given : List (List ℕ)) (c : Checker) : Type 0 where
-  pub answers : List Answer
-  pub each : AreLineAnswers [] (ended_lines 1 given) answers
-  pub stands : HasHistory c.desk (history_along [] (ended_lines 1 given) answers)
-  pub expected : List (List ℕ)
-  pub at : IsAt c.stage expected c.text.items
-  pub lines : c.tally.lines ≡ length answers
-  pub few : IsBelow c.tally (length given + 1)
-  pub checked : (more : List (List ℕ)) →
-      asked_of (given ++ more) (ended_lines 1 given) ≡ c.tally.checked + one_if (is_asked (expected ++ expected_after more))
-  pub differing : (more : List (List ℕ)) →
-      differing_of (given ++ more) (ended_lines 1 given) answers ≡ c.tally.differing + one_if (differs (expected ++ expected_after more) c.text.items)
-
-pub HasChecked-none : (c : Checker) → IsFresh c → HasChecked [] c
+pub HasChecked-none : (c : Checker) → IsFresh c → HasChecked [] [] c
 HasChecked-none c fresh = record {
   answers = [];
   each = tt;
   stands = fresh.stands;
   expected = [];
   at = subst (λ s. IsAt s [] c.text.items) (sym fresh.stage) refl;
-  lines = fresh.tally.lines;
+  counted = fresh.tally.lines;
   few = record {
     lines = omega (arith, fresh.tally.lines);
     checked = omega (arith, fresh.tally.checked);
@@ -122,10 +89,7 @@ one_at_most false = omega arith
 
 -- ---- one line more
 
-module _ (given : List (List ℕ)) (line bytes : List ℕ) (number : ℕ) (place : number ≡ length given + 1) (held : bytes ≡ cut line) (c c' : Checker) (p : HasChecked given c) where
-  abbrev done : List Line
-  done = ended_lines 1 given
-
+module _ (given : List (List ℕ)) (line bytes : List ℕ) (number : ℕ) (place : number ≡ length given + 1) (held : bytes ≡ cut line) (done : List Line) (c c' : Checker) (p : HasChecked given done c) where
   abbrev with_line : List (List ℕ)
   with_line = given ++ line ∷ []
 
@@ -143,8 +107,11 @@ module _ (given : List (List ℕ)) (line bytes : List ℕ) (number : ℕ) (place
     whole : bytes ≡ line
     whole = held ∙ note-whole line none
 
-    same : done ≡ ended_lines 1 with_line
-    same = sym (append-nil done) ∙ line-answered given line bytes number None place held is
+    abbrev unsaid : List Line
+    unsaid = done ++ answered number None []
+
+    same : done ≡ unsaid
+    same = sym (append-nil done)
 
     abbrev expected' : List (List ℕ)
     expected' = p.expected ++ option_to_list (expected_text bytes)
@@ -156,22 +123,22 @@ module _ (given : List (List ℕ)) (line bytes : List ℕ) (number : ℕ) (place
     expected-more more =
         ap (λ xs. p.expected ++ xs) (behind more) ∙ sym (append_assoc p.expected (option_to_list (expected_text line)) (expected_after more)) ∙ ap (λ b. (p.expected ++ option_to_list (expected_text b)) ++ expected_after more) (sym whole)
 
-    checked-note : (more : List (List ℕ)) → asked_of (with_line ++ more) (ended_lines 1 with_line) ≡ c'.tally.checked + one_if (is_asked (expected' ++ expected_after more))
+    checked-note : (more : List (List ℕ)) → asked_of (with_line ++ more) unsaid ≡ c'.tally.checked + one_if (is_asked (expected' ++ expected_after more))
     checked-note more =
-        ap (λ ls. asked_of ls (ended_lines 1 with_line)) (among more) ∙ ap (λ ls. asked_of (given ++ line ∷ more) ls) (sym same) ∙ p.checked (line ∷ more) ∙ ap (λ xs. c.tally.checked + one_if (is_asked xs)) (expected-more more) ∙ ap (λ t. t.checked + one_if (is_asked (expected' ++ expected_after more))) (sym x.tally)
+        ap (λ ls. asked_of ls unsaid) (among more) ∙ ap (λ ls. asked_of (given ++ line ∷ more) ls) (sym same) ∙ p.checked (line ∷ more) ∙ ap (λ xs. c.tally.checked + one_if (is_asked xs)) (expected-more more) ∙ ap (λ t. t.checked + one_if (is_asked (expected' ++ expected_after more))) (sym x.tally)
 
-    differing-note : (more : List (List ℕ)) → differing_of (with_line ++ more) (ended_lines 1 with_line) p.answers ≡ c'.tally.differing + one_if (differs (expected' ++ expected_after more) c'.text.items)
+    differing-note : (more : List (List ℕ)) → differing_of (with_line ++ more) unsaid p.answers ≡ c'.tally.differing + one_if (differs (expected' ++ expected_after more) c'.text.items)
     differing-note more =
-        ap (λ ls. differing_of ls (ended_lines 1 with_line) p.answers) (among more) ∙ ap (λ ls. differing_of (given ++ line ∷ more) ls p.answers) (sym same) ∙ p.differing (line ∷ more) ∙ ap (λ xs. c.tally.differing + one_if (differs xs c.text.items)) (expected-more more) ∙ ap (λ t. t.differing + one_if (differs (expected' ++ expected_after more) c.text.items)) (sym x.tally) ∙ ap (λ text. c'.tally.differing + one_if (differs (expected' ++ expected_after more) text)) (sym x.text)
+        ap (λ ls. differing_of ls unsaid p.answers) (among more) ∙ ap (λ ls. differing_of (given ++ line ∷ more) ls p.answers) (sym same) ∙ p.differing (line ∷ more) ∙ ap (λ xs. c.tally.differing + one_if (differs xs c.text.items)) (expected-more more) ∙ ap (λ t. t.differing + one_if (differs (expected' ++ expected_after more) c.text.items)) (sym x.tally) ∙ ap (λ text. c'.tally.differing + one_if (differs (expected' ++ expected_after more) text)) (sym x.text)
 
-    HasChecked-note : HasChecked with_line c'
+    HasChecked-note : HasChecked with_line unsaid c'
     HasChecked-note = record {
       answers = p.answers;
       each = subst (λ ls. AreLineAnswers [] ls p.answers) same p.each;
       stands = subst (λ ls. HasHistory c'.desk (history_along [] ls p.answers)) same (subst (λ d. HasHistory d (history_along [] done p.answers)) (sym x.desk) p.stands);
       expected = expected';
       at = subst (λ text. IsAt c'.stage expected' text) (sym x.text) (x.at p.expected p.at);
-      lines = ap (λ t. t.lines) x.tally ∙ p.lines;
+      counted = ap (λ t. t.lines) x.tally ∙ p.counted;
       few = record {
         lines = omega (arith, p.few.lines, ap (λ t. t.lines) x.tally, length_push given line);
         checked = omega (arith, p.few.checked, ap (λ t. t.checked) x.tally, length_push given line);
@@ -189,8 +156,8 @@ module _ (given : List (List ℕ)) (line bytes : List ℕ) (number : ℕ) (place
     abbrev l : Line
     l = record { number = number; body = body }
 
-    pushed : done ++ l ∷ [] ≡ ended_lines 1 with_line
-    pushed = line-answered given line bytes number (Some body) place held is
+    abbrev said : List Line
+    said = done ++ l ∷ []
 
     judged : IsJudged c.tally x.between.tally p.expected c.text.items
     judged = x.judged.judged p.expected p.at
@@ -207,15 +174,15 @@ module _ (given : List (List ℕ)) (line bytes : List ℕ) (number : ℕ) (place
         let end : number ≡ length with_line = omega (arith, place, length_push given line) in
         ap (λ ls. expected_at ls number) (sym (among more)) ∙ ap (λ n. expected_after (drop n (with_line ++ more))) end ∙ ap expected_after (drop-append_seam with_line more)
 
-    checked-answer : (more : List (List ℕ)) → asked_of (with_line ++ more) (ended_lines 1 with_line) ≡ c'.tally.checked + one_if (is_asked (expected_after more))
+    checked-answer : (more : List (List ℕ)) → asked_of (with_line ++ more) said ≡ c'.tally.checked + one_if (is_asked (expected_after more))
     checked-answer more =
         let all = given ++ line ∷ more in
         let before : asked_of all done ≡ c.tally.checked + one_if (is_asked p.expected) = p.checked (line ∷ more) ∙ ap (λ xs. c.tally.checked + one_if (is_asked xs)) (no_more more) in
         let one : asked_among all (done ++ l ∷ []) ≡ asked_among all done + one_if (is_asked (expected_after more)) = asked_among-push all done l ∙ ap (λ xs. asked_among all done + one_if (is_asked xs)) (here more) in
         let now : asked_of all (done ++ l ∷ []) ≡ c'.tally.checked + one_if (is_asked (expected_after more)) = omega (arith, before, one, judged.checked, x.opened.checked) in
-        ap (λ ls. asked_of ls (ended_lines 1 with_line)) (among more) ∙ ap (λ ls. asked_of all ls) (sym pushed) ∙ now
+        ap (λ ls. asked_of ls said) (among more) ∙ now
 
-    differing-answer : (more : List (List ℕ)) → differing_of (with_line ++ more) (ended_lines 1 with_line) (p.answers ++ a ∷ []) ≡ c'.tally.differing + one_if (differs (expected_after more) c'.text.items)
+    differing-answer : (more : List (List ℕ)) → differing_of (with_line ++ more) said (p.answers ++ a ∷ []) ≡ c'.tally.differing + one_if (differs (expected_after more) c'.text.items)
     differing-answer more =
         let all = given ++ line ∷ more in
         let behind = expected_after more in
@@ -223,17 +190,16 @@ module _ (given : List (List ℕ)) (line bytes : List ℕ) (number : ℕ) (place
         let one : differing_among all (done ++ l ∷ []) (p.answers ++ a ∷ []) ≡ differing_among all done p.answers + one_if (differs behind c'.text.items) =
         differing_among-push all done p.answers l a (length-answers [] done p.answers p.each) ∙ ap (λ xs. differing_among all done p.answers + one_if (differs xs (text_of number a))) (here more) ∙ ap (λ text. differing_among all done p.answers + one_if (differs behind text)) (sym x.opened.answered.text_is) in
         let now : differing_of all (done ++ l ∷ []) (p.answers ++ a ∷ []) ≡ c'.tally.differing + one_if (differs behind c'.text.items) = omega (arith, before, one, judged.differing, x.opened.differing) in
-        ap (λ ls. differing_of ls (ended_lines 1 with_line) (p.answers ++ a ∷ [])) (among more) ∙ ap (λ ls. differing_of all ls (p.answers ++ a ∷ [])) (sym pushed) ∙ now
+        ap (λ ls. differing_of ls said (p.answers ++ a ∷ [])) (among more) ∙ now
 
-    HasChecked-answer : HasChecked with_line c'
+    HasChecked-answer : HasChecked with_line said c'
     HasChecked-answer = record {
       answers = p.answers ++ a ∷ [];
-      each = subst (λ ls. AreLineAnswers [] ls (p.answers ++ a ∷ [])) pushed (AreLineAnswers-push [] done p.answers l a p.each (x.opened.answered.is (history_along [] done p.answers) stands));
-      stands = subst (λ ls. HasHistory c'.desk (history_along [] ls (p.answers ++ a ∷ []))) pushed
-          (subst (λ h. HasHistory c'.desk h) (sym (history_along-push [] done p.answers l a p.each)) (x.opened.answered.stands (history_along [] done p.answers) stands));
+      each = AreLineAnswers-push [] done p.answers l a p.each (x.opened.answered.is (history_along [] done p.answers) stands);
+      stands = subst (λ h. HasHistory c'.desk h) (sym (history_along-push [] done p.answers l a p.each)) (x.opened.answered.stands (history_along [] done p.answers) stands);
       expected = [];
       at = subst (λ s. IsAt s [] c'.text.items) (sym x.opened.stage) refl;
-      lines = omega (arith, x.opened.lines, judged.lines, p.lines, length_push p.answers a);
+      counted = omega (arith, x.opened.lines, judged.lines, p.counted, length_push p.answers a);
       few = record {
         lines = omega (arith, p.few.lines, x.opened.lines, judged.lines, length_push given line);
         checked = omega (arith, p.few.checked, x.opened.checked, judged.checked, one_at_most (is_asked p.expected), length_push given line);
@@ -243,17 +209,16 @@ module _ (given : List (List ℕ)) (line bytes : List ℕ) (number : ℕ) (place
       differing = differing-answer;
     }
 
-  pub HasChecked-line : (body : Option Body) → body ≡ body_of bytes → IsTaken c c' number body (expected_text bytes) → HasChecked (given ++ line ∷ []) c'
+  pub HasChecked-line : (body : Option Body) → body ≡ body_of bytes → IsTaken c c' number body (expected_text bytes) → HasChecked (given ++ line ∷ []) (done ++ answered number body []) c'
   HasChecked-line None is x = HasChecked-note is x
   HasChecked-line (Some body) is x = HasChecked-answer body is x
 
 -- ---- the end of the script
 
 -- no more is expected of the last answer
-pub HasChecked-end : (script : List ℕ) (c c' : Checker) → script_of script ≡ ended_lines 1 (lines_of script) → HasChecked (lines_of script) c → IsJudgedAt c c' → ChecksScript script c'.tally
-HasChecked-end script c c' of p x =
+HasChecked-end : (script : List ℕ) (done : List Line) (c c' : Checker) → script_of script ≡ done → HasChecked (lines_of script) done c → IsJudgedAt c c' → ChecksScript script c'.tally
+HasChecked-end script done c c' of p x =
     let lines = lines_of script in
-    let done = ended_lines 1 lines in
     let judged = x.judged p.expected p.at in
     let asked : asked_of lines done ≡ c.tally.checked + one_if (is_asked p.expected) =
     ap (λ ls. asked_of ls done) (sym (append-nil lines)) ∙ p.checked [] ∙ ap (λ xs. c.tally.checked + one_if (is_asked xs)) (append-nil p.expected) in
@@ -264,44 +229,49 @@ HasChecked-end script c c' of p x =
     record {
       given = p.answers;
       each = subst (λ ls. AreLineAnswers [] ls p.answers) (sym of) p.each;
-      lines = judged.lines ∙ p.lines;
+      lines = judged.lines ∙ p.counted;
       checked = omega (arith, judged.checked, asked, asked_among-script script done, ap (asked_count script) of);
       differing = differing;
       agrees = counts-agree script p.answers c'.tally.differing differing;
     }
 
 -- the last line, if the script was read to its end
-pub Checked-last : (before now : Option (List ℕ)) (s : LinesState) (end : Ending) (given : List (List ℕ)) (e : HasEnded before now s end given) (bytes : List ℕ) (number : ℕ) (c c' : Checker)
-    → end ≡ ending.Whole → number ≡ s.number → bytes ≡ s.line → HasChecked given c → IsEnded c c' number (body_of bytes) (expected_text bytes) → ChecksScript e.bytes c'.tally
-Checked-last before now s ending.TooLong given e bytes number c c' is n held p x = absurd (cc)
-Checked-last before now s ending.Failed given e bytes number c c' is n held p x = absurd (cc)
-Checked-last before now s ending.Whole given e bytes number c c' is n held p x =
-    let script = e.bytes in
-    let short : length script ≤ SCRIPT_BYTES = e.read.ends.0 in
-    let all : take SCRIPT_BYTES script ≡ script = take_all SCRIPT_BYTES script short in
-    let lines : given ++ e.last ∷ [] ≡ lines_of script = sym e.split ∙ ap lines_of all in
-    let cut_is = held ∙ e.is.held in
-    let ends : ending_of script ≡ ending.Whole = ap (λ b. cond b ending.Whole ending.TooLong) (le-leb (length script) SCRIPT_BYTES short) in
-    let of : script_of script ≡ ended_lines 1 (given ++ e.last ∷ []) =
-    ap (λ end. lines_until end (take SCRIPT_BYTES script)) ends ∙ sym (last-answered before now s ending.Whole given e bytes number (body_of bytes) n held refl) ∙ line-answered given e.last bytes number (body_of bytes) (n ∙ e.number) cut_is refl in
-    let taken = HasChecked-line given e.last bytes number (n ∙ e.number) cut_is c x.between p (body_of bytes) refl x.taken in
-    HasChecked-end script x.between c' (of ∙ ap (ended_lines 1) lines) (subst (λ ls. HasChecked ls x.between) lines taken) x.judged
+pub HasChecked-last : (given : List (List ℕ)) (done : List Line) (line bytes : List ℕ) (number : ℕ) (end : Ending) (c c' : Checker) → number ≡ length given + 1 → bytes ≡ cut line → end ≡ ending.Whole
+    → HasChecked given done c → IsEnded c c' number (body_of bytes) (expected_text bytes)
+    → (script : List ℕ) → lines_of script ≡ given ++ line ∷ [] → script_of script ≡ done ++ answered number (last_body end bytes) [] → ChecksScript script c'.tally
+HasChecked-last given done line bytes number ending.TooLong c c' place held is p x script split of = absurd (cc)
+HasChecked-last given done line bytes number ending.Failed c c' place held is p x script split of = absurd (cc)
+HasChecked-last given done line bytes number ending.Whole c c' place held is p x script split of =
+    let done' = done ++ answered number (body_of bytes) [] in
+    let taken : HasChecked (given ++ line ∷ []) done' x.between = HasChecked-line given line bytes number place held done c x.between p (body_of bytes) refl x.taken in
+    HasChecked-end script done' x.between c' of (subst (λ ls. HasChecked ls done' x.between) (sym split) taken) x.judged
 
--- what was read up to the reader's end is the script
-pub Checked-input : (before after : Option (List ℕ)) (end : Ending) (tally : Tally) → end ≡ ending.Whole → HasCheckedBytes before after end tally → (script : List ℕ) × IsInput before script × ChecksScript script tally
-Checked-input before after ending.TooLong tally is c = absurd (cc)
-Checked-input before after ending.Failed tally is c = absurd (cc)
-Checked-input before after ending.Whole tally is c =
-    let input = input_from before after c.bytes c.read.consumed in
-    let same : c.bytes ≡ input.0 = sym (input.1.whole ∙ ap (λ more. c.bytes ++ more) (input.1.end c.read.ends.1) ∙ append-nil c.bytes) in
-    (input.0, input.1.input, subst (λ script. ChecksScript script tally) same (c.checks is))
+-- no other ending is
+pub not-whole : (end : Ending) → (end ≡ ending.TooLong) ⊎ (end ≡ ending.Failed) → end ≡ ending.Whole → ⊥
+not-whole end (inl e) whole = cc
+not-whole end (inr e) whole = cc
 
--- the bytes that were read end so
-pub Checked-read : (before after : Option (List ℕ)) (end wanted : Ending) (tally : Tally) → end ≡ wanted → HasCheckedBytes before after end tally → (bytes : List ℕ) × WasRead before after bytes wanted
-Checked-read before after end wanted tally is c = (c.bytes, subst (WasRead before after c.bytes) is c.read)
+-- the bytes that were read are the script
+pub checks-bytes : (bytes : List ℕ) (lines broken : List (List ℕ)) (done : List Line) (tally : Tally) → length bytes ≤ SCRIPT_BYTES → done ≡ lines_until ending.Whole (take SCRIPT_BYTES bytes) → lines_of (take SCRIPT_BYTES bytes) ≡ lines ++ broken → broken ≡ []
+    → ((script : List ℕ) → lines_of script ≡ lines → script_of script ≡ done → ChecksScript script tally) → ChecksScript bytes tally
+checks-bytes bytes lines broken done tally short is split none checks =
+    let all : take SCRIPT_BYTES bytes ≡ bytes = take_all SCRIPT_BYTES bytes short in
+    let ends : ending_of bytes ≡ ending.Whole = ap (λ b. cond b ending.Whole ending.TooLong) (le-leb (length bytes) SCRIPT_BYTES short) in
+    checks bytes
+    (ap lines_of (sym all) ∙ split ∙ ap (λ ls. lines ++ ls) none ∙ append-nil lines)
+    (ap (λ end. lines_until end (take SCRIPT_BYTES bytes)) ends ∙ sym is)
+
+-- and the reader had no more
+pub checks-input : (before after : Option (List ℕ)) (bytes : List ℕ) (tally : Tally) → WasRead before after bytes ending.Whole → ChecksScript bytes tally → (script : List ℕ) × IsInput before script × ChecksScript script tally
+checks-input before after bytes tally read checks =
+    let input = input_from before after bytes read.consumed in
+    let same : bytes ≡ input.0 = sym (input.1.whole ∙ ap (λ more. bytes ++ more) (input.1.end read.ends.1) ∙ append-nil bytes) in
+    (input.0, input.1.input, subst (λ script. ChecksScript script tally) same checks)
 
 -- before a failed read no more was read than a script may have
-pub Checked-few : (before after : Option (List ℕ)) (end : Ending) (tally : Tally) → end ≡ ending.Failed → HasCheckedBytes before after end tally → ConsumesAtMost SCRIPT_BYTES before after
-Checked-few before after end tally is c =
-    let read = Checked-read before after end ending.Failed tally is c in
-    record { bytes = read.0; consumed = read.1.consumed; few = read.1.ends }
+pub reads-few : (before after : Option (List ℕ)) (bytes : List ℕ) → WasRead before after bytes ending.Failed → ConsumesAtMost SCRIPT_BYTES before after
+reads-few before after bytes read = record { bytes = bytes; consumed = read.consumed; few = read.ends }
+
+-- past the limit more was read
+pub reads-long : (before after : Option (List ℕ)) (bytes : List ℕ) → WasRead before after bytes ending.TooLong → IsTooLong before after
+reads-long before after bytes read = record { bytes = bytes; consumed = read.consumed; long = omega (arith, read.ends) }

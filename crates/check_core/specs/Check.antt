@@ -5,10 +5,7 @@ use Rattle.command_core.specs.declared.answer.Answer.{Answer}
 use Rattle.desk_core.specs.theorem.Desk.{HasHistory}
 use Rattle.line_core.specs.declared.line.Body.{Body}
 use Rattle.line_core.specs.declared.line.Line.{Line}
-use Rattle.line_core.specs.declared.script.Ending.{Ending}
-use Rattle.line_core.specs.declared.script.Ending.TheVariants as ending
 use Rattle.line_core.specs.declared.script.TheConstants.{SCRIPT_BYTES}
-use Rattle.line_core.specs.Reading.{WasRead}
 use Rattle.script_core.specs.Output.{AreLineAnswers}
 use Rattle.line_core.specs.Script.{script_of}
 use Rattle.report_core.specs.Answer.{text_of}
@@ -83,7 +80,7 @@ IsQuiet c differences old new = differences ≡ 0 → (differences_of c ≡ 0) �
 
 -- ---- the steps from line to line
 
--- so much more is expected of the last answer
+-- these lines more are expected of the last answer
 pub record Expects (c c' : Checker) (lines : List (List ℕ)) : Type 0 where
   pub desk : c'.desk ≡ c.desk
   pub tally : c'.tally ≡ c.tally
@@ -119,9 +116,3 @@ pub record IsEnded (c c' : Checker) (number : ℕ) (body : Option Body) (line : 
   pub between : Checker
   pub taken : IsTaken c between number body line
   pub judged : IsJudgedAt between c'
-
--- bytes of a script were read that end so, and they are checked if they are all of it
-pub record HasCheckedBytes (before after : Option (List ℕ)) (end : Ending) (tally : Tally) : Type 0 where
-  pub bytes : List ℕ
-  pub read : WasRead before after bytes end
-  pub checks : end ≡ ending.Whole → ChecksScript bytes tally

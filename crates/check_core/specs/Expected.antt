@@ -1,19 +1,11 @@
 -- What the notes of a script expect of its answers.
-use Rattle.std.specs.Prelude.{◌≡◌, ℕ, nat_eq, Bool, true, false, not, if◌then◌else◌, List, [], ◌∷◌, ◌++◌, length, drop, Option, None, Some, is_some, option_map, unwrap_or, codes}
-use Rattle.std.specs.List.{starts_with, flat_map}
+use Rattle.std.specs.Prelude.{◌≡◌, ℕ, Bool, true, false, not, if◌then◌else◌, List, [], ◌∷◌, ◌++◌, drop, Option, is_some, option_map, unwrap_or, codes}
+use Rattle.std.specs.List.{flat_map}
 use Rattle.std.specs.Option.{option_to_list}
 use Rattle.std.specs.Str.{bytes_eq}
 use Rattle.line_core.specs.Line.{body_of}
 use Rattle.line_core.specs.Script.{lines_of}
-use Rattle.line_core.specs.Words.{is_space}
-
-abbrev pub drop_spaces : List ℕ → List ℕ
-drop_spaces [] = []
-drop_spaces (b ∷ bytes) = if is_space b then drop_spaces bytes else b ∷ bytes
-
--- what follows that front
-abbrev pub strip_prefix : List ℕ → List ℕ → Option (List ℕ)
-strip_prefix bytes front = if starts_with nat_eq bytes front then Some (drop (length front) bytes) else None
+use Rattle.line_core.specs.Fronts.{drop_spaces, strip_prefix}
 
 -- A note whose first word begins with `#=` expects a line of output: its text is what follows, but for one space.
 abbrev pub expected_text : List ℕ → Option (List ℕ)

@@ -1,9 +1,11 @@
 pub mod Answering
 pub mod Check
+pub mod Checked
 pub mod Expected
 pub mod Finding
 pub mod Kept
 pub mod Outcome
 pub mod Stage
 pub mod Tally
+pub mod Tap
 pub mod Update

@@ -1,14 +1,20 @@
 -- What came of the checks of scripts.
-use Rattle.std.specs.Prelude.{◌≡◌, ◌⊎◌, ◌==◌, ◌&&◌, ◌||◌, ℕ, nat_lt, Bool, true, false, not, if◌then◌else◌, List, [], ◌∷◌, length, Option, Some, slice_get}
+use Rattle.std.specs.Prelude.{◌≡◌, ◌⊎◌, ◌==◌, ◌&&◌, ◌||◌, ℕ, nat_lt, Bool, true, false, IsTrue, not, if◌then◌else◌, List, [], ◌∷◌, length, Option, Some, slice_get}
 use Rattle.std.specs.List.{list_any}
+use Rattle.std.specs.Io.KnownBytes.{Appends}
 use Rattle.point_core.specs.declared.refusal.Refusal.TheVariants.{Limit, Read as ReadFault}
 use Rattle.point_core.specs.declared.refusal.LimitKind.TheVariants.{Script}
 use Rattle.line_core.specs.Reading.{IsInput}
 use Rattle.check_core.specs.Check.{ChecksScript, IsTooLong}
+use Rattle.check_core.specs.Tally.{no_counts, totals_text, with_counts}
+use Rattle.check_core.specs.declared.form.CheckForm.{CheckForm}
+use Rattle.check_core.specs.declared.form.CheckForm.TheVariants.{Lines, Counts, Tap}
 use Rattle.check_core.specs.declared.outcome.CheckOutcome.{CheckOutcome}
 use Rattle.check_core.specs.declared.outcome.CheckOutcome.TheVariants as outcome
 use Rattle.check_core.specs.declared.outcome.Verdict.{Verdict}
 use Rattle.check_core.specs.declared.outcome.Verdict.TheVariants.{Passed, Differs, Failed}
+use Rattle.check_core.specs.declared.scripts.Plan.{Plan}
+use Rattle.check_core.specs.declared.tally.Tally.{Tally}
 
 abbrev pub is_failed : CheckOutcome → Bool
 is_failed (outcome.Checked tally) = false
@@ -18,6 +24,30 @@ is_failed (outcome.Failed refusal) = true
 abbrev pub is_wrong : Bool → CheckOutcome → Bool
 is_wrong allows_empty (outcome.Checked tally) = nat_lt 0 tally.differing || (tally.checked == 0 && not allows_empty)
 is_wrong allows_empty (outcome.Failed refusal) = false
+
+-- it was checked to its end, and is as it should be
+abbrev pub is_passed : Bool → CheckOutcome → Bool
+is_passed allows_empty o = not (is_failed o) && not (is_wrong allows_empty o)
+
+-- the counts of a script, which are 0 if it was not checked to its end
+abbrev pub tally_of : CheckOutcome → Tally
+tally_of (outcome.Checked tally) = tally
+tally_of (outcome.Failed refusal) = no_counts
+
+-- the counts of all of them together
+abbrev pub totals_of : List CheckOutcome → Tally
+totals_of [] = no_counts
+totals_of (o ∷ os) = with_counts (tally_of o) (totals_of os)
+
+-- whether a report in that form ends in the counts
+abbrev pub has_counts : CheckForm → Bool
+has_counts (Lines bold) = true
+has_counts Counts = true
+has_counts (Tap version) = false
+
+-- the line of counts was written last
+abbrev pub EndsInCounts : ℕ → Tally → Option (List ℕ) → Type 0
+EndsInCounts files tally new = (before : Option (List ℕ)) × Appends before new (totals_text files tally)
 
 abbrev pub is_none : List CheckOutcome → Bool
 is_none [] = true
@@ -52,9 +82,11 @@ CameOfEach {N} opens names outcomes =
     (index : ℕ) (name : N) (o : CheckOutcome) → slice_get names index ≡ Some name → slice_get outcomes index ≡ Some o
     → CameOf (opens name) o
 
--- each of the scripts has its outcome, and this is what came of all of them
-pub record ComesOf {N : Type 0} (opens : N → Opens) (names : List N) (allows_empty : Bool) (verdict : Verdict) : Type 0 where
+-- Each of the scripts has its outcome, and this is what came of all of them. A report with counts ends in their counts.
+pub record ComesOf {N : Type 0} (opens : N → Opens) (names : List N) (plan : Plan) (verdict : Verdict)
+    (reported : Option (List ℕ)) : Type 0 where
   pub outcomes : List CheckOutcome
   pub count : length outcomes ≡ length names
   pub each : CameOfEach opens names outcomes
-  pub is : verdict ≡ verdict_of outcomes allows_empty
+  pub is : verdict ≡ verdict_of outcomes plan.allows_empty
+  pub counts : IsTrue (has_counts plan.form) → EndsInCounts (length names) (totals_of outcomes) reported

@@ -1,5 +1,5 @@
 -- How many answers of a script were as expected.
-use Rattle.std.specs.Prelude.{◌≡◌, ℕ, ◌+◌, ◌^◌, ◌<◌, ◌≤◌, Bool, if◌then◌else◌, List, ◌++◌, codes, decimal}
+use Rattle.std.specs.Prelude.{◌≡◌, ℕ, ◌+◌, ◌-◌, ◌^◌, ◌<◌, ◌≤◌, min, Bool, if◌then◌else◌, List, ◌++◌, codes, decimal}
 use Rattle.check_core.specs.declared.tally.Tally.{Tally}
 
 -- what a line adds to a count
@@ -27,6 +27,21 @@ pub record CountsOne (tally tally' : Tally) : Type 0 where
   pub lines : tally'.lines ≡ tally.lines
   pub checked : tally'.checked ≤ tally.checked + 1
   pub differing : tally'.differing ≤ tally.differing + 1
+
+abbrev pub no_counts : Tally
+no_counts = record { lines = 0; checked = 0; differing = 0 }
+
+-- a sum that stays at the greatest number
+abbrev pub sum_of : ℕ → ℕ → ℕ
+sum_of a b = min (a + b) (2 ^ 64 - 1)
+
+-- the counts of both together
+abbrev pub with_counts : Tally → Tally → Tally
+with_counts t u = record {
+  lines = sum_of t.lines u.lines;
+  checked = sum_of t.checked u.checked;
+  differing = sum_of t.differing u.differing;
+}
 
 -- what is counted, and a count
 abbrev pub count_text : List ℕ → ℕ → List ℕ

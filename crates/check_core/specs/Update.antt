@@ -25,7 +25,8 @@ pub record Passes (script : List ℕ) : Type 0 where
 abbrev pub IsUpdate : (List ℕ → Type 0) → (List ℕ → Type 0) → Update → Type 0
 IsUpdate reads given Same = (script : List ℕ) × reads script × Passes script
 IsUpdate reads given Written =
-    (script : List ℕ) × (text : List ℕ) × reads script × (text ≢ script) × Passes text × (kept text ≡ kept script) × given text
+    (script : List ℕ) × (text : List ℕ) × reads script × (text ≢ script)
+    × Passes text × (kept text ≡ kept script) × given text
 IsUpdate reads given (Failed refusal) = (refusal ≡ ReadFault) ⊎ ((script : List ℕ) × reads script)
 
 abbrev pub is_failed : Update → Bool

@@ -1,5 +1,5 @@
 //! `Checker`: the state of a check between lines: a desk, the counts, and the last answer with its stage. Its invariant
-//! keeps the stage within the answer's text. `reading.rt` gives it each line.
+//! keeps the stage within the answer's text. It is the handler of a script's lines.
 ghost use Rattle.std.specs.Prelude.{◌≡◌, ◌+◌, ◌<◌, ◌≤◌, ◌⊎◌, ◌∷◌, [], length, option_to_list, IfOk, OnOk, IfErr};
 ghost use Rattle.point_core.specs.declared.refusal.Refusal.TheVariants.{Write as WriteFault, Memory};
 ghost use Rattle.line_core.specs.declared.script.Ending.TheVariants.{Whole};
@@ -16,7 +16,7 @@ use crate::reporting::report_difference;
 use crate::stage::Stage;
 use crate::tally::Tally;
 use desk_core::Desk;
-use line_core::{Body, Ending, body_of};
+use line_core::{Body, Ending, LineHandler, RawLine, body_of};
 use point_core::Refusal;
 use report_core::print;
 use script_core::answer_line;
@@ -59,12 +59,7 @@ impl<'a> Checker<'a> {
 
     /// Takes the next line: answers a command, and compares an expected line with the last answer. An over-long line may be
     /// cut to its first 257 bytes.
-    pub(crate) fn take<W: Write>(
-        &mut self,
-        number: u32,
-        bytes: &[u8],
-        writer: &mut W,
-    ) -> Result<(), Refusal>
+    fn take<W: Write>(&mut self, number: u32, bytes: &[u8], writer: &mut W) -> Result<(), Refusal>
         requires few { IsBelow self.old.tally number }
         ensures ok { OnOk result (IsTaken self.old self.new number (body_of bytes.now) (expected_text bytes.now)) }
         ensures few { OnOk result (IsBelow self.new.tally (number + 1)) }
@@ -78,27 +73,7 @@ impl<'a> Checker<'a> {
         }
     }
 
-    /// Takes the last line, which may lack its line feed, if the script was read to its end.
-    pub(crate) fn end<W: Write>(
-        &mut self,
-        ending: Ending,
-        number: u32,
-        bytes: &[u8],
-        writer: &mut W,
-    ) -> Result<(), Refusal>
-        requires few { IsBelow self.old.tally number }
-        ensures ok { OnOk result (ending ≡ Whole
-            → IsEnded self.old self.new number (body_of bytes.now) (expected_text bytes.now)) }
-        ensures quiet { OnOk result (ending ≡ Whole → IsQuiet self.old self.new.tally.differing
-            (W.contents writer.old) (W.contents writer.new)) }
-        ensures refusals { IfErr result (λ refusal. (refusal ≡ WriteFault) ⊎ (refusal ≡ Memory)) }
-    {
-        match ending {
-            Ending::Whole => self.take_last(number, bytes, writer),
-            Ending::TooLong | Ending::Failed => Ok(()),
-        }
-    }
-
+    /// Takes the last line, which may lack its line feed.
     fn take_last<W: Write>(
         &mut self,
         number: u32,
@@ -217,6 +192,44 @@ impl<'a> Checker<'a> {
                 report_difference(self.alloc, &self.place, &difference, writer)
             }
             None => Ok(()),
+        }
+    }
+}
+
+impl<'a, W: Write> LineHandler<W, ()> for Checker<'a> {
+    ghost use Rattle.check_core.specs.Checked.{HasHandled, HasEnded};
+
+    ghost handled = { λ start lines said now. HasHandled lines said now.0 (W.contents start.1) (W.contents now.1) };
+
+    ghost ended = { λ end start lines said now.
+        end ≡ Whole → HasEnded lines said now.0 (W.contents start.1) (W.contents now.1) };
+
+    ghost failed = { λ refusal start lines said now. (refusal ≡ WriteFault) ⊎ (refusal ≡ Memory) };
+
+    fn handle(
+        &mut self,
+        line: &RawLine<'_>,
+        writer: &mut W,
+        _notes: &mut (),
+    ) -> Result<(), Refusal> {
+        self.take(line.number, line.bytes, writer)
+    }
+
+    fn pause(&mut self, _writer: &mut W, _notes: &mut ()) -> Result<(), Refusal> {
+        Ok(())
+    }
+
+    /// Does nothing if the script is too long: then it has no counts.
+    fn handle_last(
+        &mut self,
+        line: &RawLine<'_>,
+        ending: Ending,
+        writer: &mut W,
+        _notes: &mut (),
+    ) -> Result<(), Refusal> {
+        match ending {
+            Ending::Whole => self.take_last(line.number, line.bytes, writer),
+            Ending::TooLong | Ending::Failed => Ok(()),
         }
     }
 }

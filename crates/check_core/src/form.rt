@@ -1,4 +1,5 @@
-//! `CheckForm`, the output format of a check, and `Place`, the script that is checked.
+//! `CheckForm`, the output format of a check, and `Place`, the script that is checked. `check` gets a place
+//! from its caller.
 
 /// The output format of a check.
 #[derive(Clone, Copy)]
@@ -12,7 +13,7 @@ pub enum CheckForm {
     Tap(u64),
 }
 
-/// A script that is checked.
+/// A script that is checked, and the form of its report.
 #[derive(Clone, Copy)]
 pub struct Place<'a> {
     pub name: &'a str,

@@ -1,7 +1,7 @@
 //! `CheckOutcome`, the result for one script, and `Verdict`, the result for all scripts, which sets the exit status.
 ghost use Rattle.std.specs.Prelude.{◌≡◌};
 ghost use Rattle.std.specs.List.{list_any};
-ghost use Rattle.check_core.specs.Outcome.{is_failed, is_wrong, verdict_of};
+ghost use Rattle.check_core.specs.Outcome.{is_failed, is_passed, is_wrong, tally_of, verdict_of};
 
 use crate::tally::Tally;
 use point_core::Refusal;
@@ -49,12 +49,16 @@ impl CheckOutcome {
     }
 
     /// Whether it was checked to its end, and is as it should be.
-    pub(crate) fn passes(self, allows_empty: bool) -> bool {
+    pub(crate) fn passes(self, allows_empty: bool) -> bool
+        ensures { result ≡ is_passed allows_empty self }
+    {
         !self.is_failed() && !self.is_wrong(allows_empty)
     }
 
     /// The counts, which are 0 if it was not checked to its end.
-    pub(crate) fn tally(self) -> Tally {
+    pub(crate) fn tally(self) -> Tally
+        ensures { result ≡ tally_of self }
+    {
         match self {
             CheckOutcome::Checked(tally) => tally,
             CheckOutcome::Failed(_) => Tally::new(),

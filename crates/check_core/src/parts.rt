@@ -1,6 +1,7 @@
-//! `Part`: a piece of a report. A report is written from a list of parts, by one write, so that lines of checks that run
-//! side by side don't mix.
-ghost use Rattle.std.specs.Prelude.{◌≡◌, ◌⊎◌, IfErr};
+//! `ReportPart`: a piece of a report. A report is written from a list of parts, by one write, so that lines of checks that
+//! run side by side don't mix.
+ghost use Rattle.std.specs.Prelude.{◌≡◌, ◌⊎◌, ◌++◌, List, ℕ, OnOk, IfErr};
+ghost use Rattle.std.specs.Io.KnownBytes.{Appends};
 ghost use Rattle.point_core.specs.declared.refusal.Refusal.TheVariants.{Write as WriteFault, Memory};
 
 use itoa::Buffer;
@@ -13,7 +14,7 @@ use std::slice;
 
 /// A part of a report.
 #[derive(Clone, Copy)]
-pub(crate) enum Part<'a> {
+pub(crate) enum ReportPart<'a> {
     Text(&'a str),
     Number(u64),
     /// Bytes other than printable ASCII are written as in a Rust literal.
@@ -26,34 +27,40 @@ pub(crate) enum Part<'a> {
     Bytes(&'a [u8]),
 }
 
-/// Writes a text of these parts, by one write.
+/// Writes `front` and then the parts, by one write.
 pub(crate) fn write_parts<W: Write>(
     alloc: Global,
-    parts: &[Part<'_>],
+    front: &str,
+    parts: &[ReportPart<'_>],
     writer: &mut W,
 ) -> Result<(), Refusal>
+    ensures begins { OnOk result ((rest : List ℕ) × Appends (W.contents writer.old) (W.contents writer.new)
+        (front.now ++ rest)) }
     ensures refusals { IfErr result (λ refusal. (refusal ≡ WriteFault) ⊎ (refusal ≡ Memory)) }
 {
+    let mut rest = Vec::new(alloc);
+    push_parts(parts, &mut rest)?;
     let mut text = Vec::new(alloc);
-    push_parts(parts, &mut text)?;
+    text.extend_from_slice(front.as_bytes())?;
+    text.extend_from_slice(rest.as_slice())?;
     write_whole(writer, text.as_slice())
 }
 
-fn push_parts(parts: &[Part<'_>], text: &mut Vec<u8>) -> Result<(), AllocError> {
+fn push_parts(parts: &[ReportPart<'_>], text: &mut Vec<u8>) -> Result<(), AllocError> {
     for part in parts {
         push_part(part, text)?;
     }
     Ok(())
 }
 
-fn push_part(part: &Part<'_>, text: &mut Vec<u8>) -> Result<(), AllocError> {
+fn push_part(part: &ReportPart<'_>, text: &mut Vec<u8>) -> Result<(), AllocError> {
     match part {
-        Part::Text(part) => text.extend_from_slice(part.as_bytes()),
-        Part::Number(number) => push_number(*number, text),
-        Part::Escaped(bytes) => push_escaped(bytes, text),
-        Part::Quoted(bytes) => push_quoted(bytes, text),
-        Part::Description(name) => push_description(name.as_bytes(), text),
-        Part::Bytes(bytes) => text.extend_from_slice(bytes),
+        ReportPart::Text(part) => text.extend_from_slice(part.as_bytes()),
+        ReportPart::Number(number) => push_number(*number, text),
+        ReportPart::Escaped(bytes) => push_escaped(bytes, text),
+        ReportPart::Quoted(bytes) => push_quoted(bytes, text),
+        ReportPart::Description(name) => push_description(name.as_bytes(), text),
+        ReportPart::Bytes(bytes) => text.extend_from_slice(bytes),
     }
 }
 

@@ -1,5 +1,4 @@
-//! Checks one script from a reader: reads its lines, gives each to the `Checker`, and reports the counts. The loop upholds
-//! that the checker has seen the lines that were read, in order (`HasCheckedBytes`).
+//! Checks one script from a reader: has each of its lines handled by a `Checker`, and reports the counts.
 ghost use Rattle.std.specs.Prelude.{◌≡◌, ◌+◌, ◌⊎◌, List, ℕ, Err, IfOk, IfErr};
 ghost use Rattle.std.specs.Io.KnownBytes.{Keeps};
 ghost use Rattle.point_core.specs.declared.refusal.Refusal.TheVariants.{Limit, Read as ReadFault, Write as WriteFault, Memory};
@@ -7,12 +6,12 @@ ghost use Rattle.point_core.specs.declared.refusal.LimitKind.TheVariants.{Script
 ghost use Rattle.line_core.specs.declared.script.Ending.TheVariants.{Whole};
 ghost use Rattle.line_core.specs.declared.script.TheConstants.{SCRIPT_BYTES};
 ghost use Rattle.line_core.specs.Reading.{ConsumesAtMost, IsInput, WasRead};
-ghost use Rattle.check_core.specs.Check.{ChecksScript, IsTooLong, IsFresh, HasCheckedBytes};
+ghost use Rattle.check_core.specs.Check.{ChecksScript, IsTooLong};
 
 use crate::checker::Checker;
 use crate::form::Place;
 use crate::tally::Tally;
-use line_core::{Ending, SCRIPT_BYTES, ScriptLines};
+use line_core::{Ending, SCRIPT_BYTES, for_each_line};
 use point_core::{LimitKind, Refusal};
 use std::alloc::Global;
 use std::io::{Read, Write};
@@ -52,62 +51,13 @@ pub fn check<R: Read, W: Write>(
         (refusal ≡ ReadFault) ⊎ (refusal ≡ Limit Script) ⊎ (refusal ≡ WriteFault) ⊎ (refusal ≡ Memory)) }
 {
     let mut checker = Checker::new(alloc, place);
-    let checked = check_script(&mut checker, reader, writer);
-    // For the proof: what a call drops is taken apart once, and not here.
+    let ending = for_each_line(reader, &mut checker, writer, &mut ())?;
+    let tally = checker.tally;
+    // For the proof: what a call drops is taken apart once, and not in each arm.
     drop(checker);
-    checked
-}
-
-/// Checks a script from its first line on.
-fn check_script<R: Read, W: Write>(
-    checker: &mut Checker<'_>,
-    reader: &mut R,
-    writer: &mut W,
-) -> Result<Tally, Refusal>
-    requires fresh { IsFresh checker.old }
-    ensures ok { IfOk result (λ tally. (script : List ℕ) × IsInput (R.remaining reader.old) script
-        × ChecksScript script tally) }
-    ensures reads { IfOk result (λ _. (script : List ℕ)
-        × WasRead (R.remaining reader.old) (R.remaining reader.new) script Whole) }
-    ensures quiet { IfOk result (λ tally. tally.differing ≡ 0
-        → Keeps (W.contents writer.old) (W.contents writer.new)) }
-    ensures within { ConsumesAtMost (SCRIPT_BYTES + 1) (R.remaining reader.old) (R.remaining reader.new) }
-    ensures read { result ≡ Err ReadFault
-        → ConsumesAtMost SCRIPT_BYTES (R.remaining reader.old) (R.remaining reader.new) }
-    ensures limit { result ≡ Err (Limit Script) → IsTooLong (R.remaining reader.old) (R.remaining reader.new) }
-    ensures refusals { IfErr result (λ refusal.
-        (refusal ≡ ReadFault) ⊎ (refusal ≡ Limit Script) ⊎ (refusal ≡ WriteFault) ⊎ (refusal ≡ Memory)) }
-{
-    match check_lines(reader, checker, writer)? {
-        Ending::Whole => Ok(checker.tally),
+    match ending {
+        Ending::Whole => Ok(tally),
         Ending::TooLong => Err(Refusal::Limit(LimitKind::Script)),
         Ending::Failed => Err(Refusal::Read),
-    }
-}
-
-/// Reads the lines of a script, and checks each when its end was read.
-fn check_lines<R: Read, W: Write>(
-    reader: &mut R,
-    checker: &mut Checker<'_>,
-    writer: &mut W,
-) -> Result<Ending, Refusal>
-    requires fresh { IsFresh checker.old }
-    ensures ok { IfOk result (λ ending. HasCheckedBytes (R.remaining reader.old) (R.remaining reader.new) ending
-        checker.new.tally) }
-    ensures quiet { IfOk result (λ ending. ending ≡ Whole → checker.new.tally.differing ≡ 0
-        → Keeps (W.contents writer.old) (W.contents writer.new)) }
-    ensures within { ConsumesAtMost (SCRIPT_BYTES + 1) (R.remaining reader.old) (R.remaining reader.new) }
-    ensures refusals { IfErr result (λ refusal. (refusal ≡ WriteFault) ⊎ (refusal ≡ Memory)) }
-{
-    let mut lines = ScriptLines::new();
-    loop {
-        if lines.advance() {
-            let line = lines.line();
-            checker.take(line.number, line.bytes, writer)?;
-        } else if let Some(ending) = lines.read(reader) {
-            let line = lines.line();
-            checker.end(ending, line.number, line.bytes, writer)?;
-            return Ok(ending);
-        }
     }
 }

@@ -4,7 +4,7 @@ ghost use Rattle.point_core.specs.declared.refusal.Refusal.TheVariants.{Write as
 
 use crate::finding::Difference;
 use crate::form::{CheckForm, Place};
-use crate::parts::{Part, write_parts};
+use crate::parts::{ReportPart, write_parts};
 use line_core::first_line;
 use point_core::Refusal;
 use std::alloc::Global;
@@ -39,25 +39,24 @@ fn report_line<'a, W: Write>(
     let [begin, end] = around(bold);
     let number = u64::from(difference.number.max(1));
     let command = match difference.number {
-        0 => Part::Text("before the first command"),
-        _ => Part::Escaped(difference.command),
+        0 => ReportPart::Text("before the first command"),
+        _ => ReportPart::Escaped(difference.command),
     };
     let expected = quoted_or(difference.expected, "nothing more");
     let came = quoted_or(first_of(difference.came), "nothing");
     let parts = [
-        Part::Text(begin),
-        Part::Text(name),
-        Part::Text(":"),
-        Part::Number(number),
-        Part::Text(end),
+        ReportPart::Text(name),
+        ReportPart::Text(":"),
+        ReportPart::Number(number),
+        ReportPart::Text(end),
         command,
-        Part::Text(": expected "),
+        ReportPart::Text(": expected "),
         expected,
-        Part::Text(", came "),
+        ReportPart::Text(", came "),
         came,
-        Part::Text("\n"),
+        ReportPart::Text("\n"),
     ];
-    write_parts(alloc, &parts, writer)
+    write_parts(alloc, begin, &parts, writer)
 }
 
 /// The texts before and after `FILE:LINE`.
@@ -78,23 +77,22 @@ fn report_item<W: Write>(
     ensures refusals { IfErr result (λ refusal. (refusal ≡ WriteFault) ⊎ (refusal ≡ Memory)) }
 {
     let parts = [
-        Part::Text("    - line: "),
-        Part::Number(u64::from(difference.number)),
-        Part::Text("\n      command: "),
-        Part::Quoted(difference.command),
-        Part::Text("\n      expected: "),
+        ReportPart::Number(u64::from(difference.number)),
+        ReportPart::Text("\n      command: "),
+        ReportPart::Quoted(difference.command),
+        ReportPart::Text("\n      expected: "),
         quoted_or(difference.expected, "null"),
-        Part::Text("\n      came: "),
+        ReportPart::Text("\n      came: "),
         quoted_or(first_of(difference.came), "null"),
-        Part::Text("\n"),
+        ReportPart::Text("\n"),
     ];
-    write_parts(alloc, &parts, writer)
+    write_parts(alloc, "    - line: ", &parts, writer)
 }
 
-fn quoted_or<'a>(line: Option<&'a [u8]>, other: &'static str) -> Part<'a> {
+fn quoted_or<'a>(line: Option<&'a [u8]>, other: &'static str) -> ReportPart<'a> {
     match line {
-        Some(line) => Part::Quoted(line),
-        None => Part::Text(other),
+        Some(line) => ReportPart::Quoted(line),
+        None => ReportPart::Text(other),
     }
 }
 

@@ -1,19 +1,21 @@
 //! Checks files and standard input one after another, and reports each and the counts. `fencectl check` calls it.
-ghost use Rattle.std.specs.Prelude.{◌≡◌, ◌⊎◌, ◌++◌, ◌∷◌, [], Ok, Some, IfOk, OnOk, IfErr, length, string_bytes};
+ghost use Rattle.std.specs.Prelude.{◌≡◌, ◌⊎◌, [], Ok, Some, IfOk, OnOk, IfErr, length, string_bytes};
 ghost use Rattle.point_core.specs.declared.refusal.Refusal.TheVariants.{Write as WriteFault, Memory};
 ghost use Rattle.source_core.specs.Input.{file_named};
 ghost use Rattle.source_core.specs.Source.{HasUnread};
-ghost use Rattle.check_core.specs.Outcome.{CameOf, CameOfEach, ComesOf, IsOutcome};
+ghost use Rattle.check_core.specs.Outcome.{CameOf, CameOfEach, ComesOf, IsOutcome, is_passed};
+ghost use Rattle.check_core.specs.Tap.{TellsTest};
 
 use crate::form::{CheckForm, Place};
+use crate::list::push;
 use crate::outcome::{CheckOutcome, Verdict, verdict_of};
 use crate::reading::check;
 use crate::sink::Sink;
 use crate::summary::report_summary;
-use crate::tap::{Test, write_failed, write_passed, write_plan};
+use crate::tap::{Test, write_plan};
 use point_core::Refusal;
 use source_core::{Input, Source};
-use std::alloc::{AllocError, Global};
+use std::alloc::Global;
 use std::io::{Read, Write};
 use std::rt::Files;
 
@@ -25,8 +27,8 @@ pub struct Plan {
     pub allows_empty: bool,
 }
 
-/// Checks the scripts of these names, one after another; `-` is standard input. Results are written in the form of the plan:
-/// tests to `output`, all else to `errors`. The cause of a failed open or read is reported on standard error.
+/// Checks the scripts of these names, one after another; `-` is standard input. Results are written in the form of the
+/// plan: tests to `output`, all else to `errors`. The cause of a failed open or read is reported on standard error.
 ///
 /// Fails with `Write` if a write failed, and with `Memory`.
 pub fn check_scripts<R: Files + Eprint + AllocGlobal, S: Read + Copy + Drop, O: Write, W: Write>(
@@ -37,12 +39,13 @@ pub fn check_scripts<R: Files + Eprint + AllocGlobal, S: Read + Copy + Drop, O: 
     output: &mut O,
     errors: &mut W,
 ) -> Result<Verdict, Refusal>
-    ensures verdict { IfOk result (ComesOf (λ name. HasUnread R.File.remaining S.remaining
-        (file_named (Some (string_bytes name))) standard_input) names.now plan.now.allows_empty) }
+    ensures verdict { IfOk result (λ verdict. ComesOf (λ name. HasUnread R.File.remaining S.remaining
+        (file_named (Some (string_bytes name))) standard_input) names.now plan.now verdict (W.contents errors.new)) }
     ensures refusals { IfErr result (λ refusal. (refusal ≡ WriteFault) ⊎ (refusal ≡ Memory)) }
 {
+    write_plan(rt.alloc(), plan.form, names.len(), output)?;
     let mut outcomes = Vec::new(rt.alloc());
-    check_all(
+    check_each(
         rt,
         plan,
         names,
@@ -50,28 +53,10 @@ pub fn check_scripts<R: Files + Eprint + AllocGlobal, S: Read + Copy + Drop, O: 
         &mut outcomes,
         output,
         errors,
-    )
-}
-
-/// Body of `check_scripts`; `outcomes` must be empty.
-fn check_all<R: Files + Eprint + AllocGlobal, S: Read + Copy + Drop, O: Write, W: Write>(
-    rt: &R,
-    plan: &Plan,
-    names: &[String],
-    standard_input: S,
-    outcomes: &mut Vec<CheckOutcome>,
-    output: &mut O,
-    errors: &mut W,
-) -> Result<Verdict, Refusal>
-    requires none { outcomes.old.items ≡ [] }
-    ensures verdict { IfOk result (ComesOf (λ name. HasUnread R.File.remaining S.remaining
-        (file_named (Some (string_bytes name))) standard_input) names.now plan.now.allows_empty) }
-    ensures refusals { IfErr result (λ refusal. (refusal ≡ WriteFault) ⊎ (refusal ≡ Memory)) }
-{
-    write_plan(rt.alloc(), plan.form, names.len(), output)?;
-    check_each(rt, plan, names, standard_input, outcomes, output, errors)?;
-    report_summary(rt.alloc(), plan, names, outcomes.as_slice(), errors)?;
-    Ok(verdict_of(outcomes.as_slice(), plan.allows_empty))
+    )?;
+    let outcomes = outcomes.as_slice();
+    report_summary(rt.alloc(), plan, names, outcomes, errors)?;
+    Ok(verdict_of(outcomes, plan.allows_empty))
 }
 
 /// Checks each script, and appends its outcome.
@@ -102,13 +87,6 @@ fn check_each<R: Files + Eprint + AllocGlobal, S: Read + Copy + Drop, O: Write, 
         )?;
         push(outcomes, outcome)?;
     }
-    Ok(())
-}
-
-fn push(outcomes: &mut Vec<CheckOutcome>, outcome: CheckOutcome) -> Result<(), AllocError>
-    ensures { OnOk result (outcomes.new.items ≡ outcomes.old.items ++ outcome ∷ []) }
-{
-    outcomes.push(outcome)?;
     Ok(())
 }
 
@@ -160,6 +138,8 @@ fn report_test<'a, O: Write>(
     output: &mut O,
 ) -> Result<CheckOutcome, Refusal>
     ensures outcome { IfOk result (λ reported. outcome ≡ Ok reported) }
+    ensures told { IfOk result (λ reported. TellsTest (is_passed plan.now.allows_empty reported)
+        (O.contents output.old) (O.contents output.new)) }
     ensures refusals { IfErr result (λ refusal. (refusal ≡ WriteFault) ⊎ (refusal ≡ Memory)) }
 {
     let Ok(outcome) = outcome else {
@@ -171,23 +151,8 @@ fn report_test<'a, O: Write>(
         outcome,
         differences,
     };
-    write_test(alloc, &test, outcome.passes(plan.allows_empty), output)?;
+    test.write(alloc, outcome.passes(plan.allows_empty), output)?;
     Ok(outcome)
-}
-
-fn write_test<O: Write>(
-    alloc: Global,
-    test: &Test<'_>,
-    passes: bool,
-    output: &mut O,
-) -> Result<(), Refusal>
-    ensures refusals { IfErr result (λ refusal. (refusal ≡ WriteFault) ⊎ (refusal ≡ Memory)) }
-{
-    if passes {
-        write_passed(alloc, test, output)
-    } else {
-        write_failed(alloc, test, output)
-    }
 }
 
 /// The outcome of a script. Its differences go to the sink.

@@ -1,11 +1,11 @@
 //! `Stage`: how much of an answer the expected lines have matched so far. `IsAt` ties a stage to the lines.
-ghost use Rattle.std.specs.Prelude.{◌≡◌, ◌≤◌, ◌++◌, ◌∷◌, [], List, ℕ, length, option_map};
+ghost use Rattle.std.specs.Prelude.{◌≡◌, ◌≢◌, ◌≤◌, ◌++◌, ◌∷◌, [], List, ℕ, length, option_map, MatchOption};
 ghost use Rattle.check_core.specs.Finding.{is_asked_finding, is_difference};
-ghost use Rattle.check_core.specs.Expected.{is_asked, differs};
+ghost use Rattle.check_core.specs.Expected.{differs, ended, is_asked};
 ghost use Rattle.check_core.specs.Tally.{one_if};
 
 use crate::finding::Finding;
-use crate::prefix::strip_line;
+use line_core::strip_prefix;
 
 /// How much of an answer the lines that are expected of it so far have matched.
 #[derive(Clone, Copy)]
@@ -70,4 +70,14 @@ impl Stage {
             Stage::Differs => Finding::Differs,
         }
     }
+}
+
+/// The text after `line` and its line feed, if it begins with these.
+fn strip_line<'a>(text: &'a [u8], line: &[u8]) -> Option<&'a [u8]>
+    ensures cases { MatchOption result
+        ((more : List ℕ) → text.now ≢ ended line.now ++ more)
+        (λ rest. text.now ≡ ended line.now ++ rest.now) }
+{
+    let rest = strip_prefix(text, line)?;
+    strip_prefix(rest, b"\n")
 }

@@ -1,12 +1,13 @@
 //! Reports the scripts that do not pass, and the counts, at the end of a check.
-ghost use Rattle.std.specs.Prelude.{◌≡◌, ◌⊎◌, ◌<◌, ◌^◌, OnOk, IfErr};
+ghost use Rattle.std.specs.Prelude.{◌≡◌, ◌⊎◌, ◌<◌, ◌^◌, IsTrue, length, OnOk, IfErr};
 ghost use Rattle.std.specs.Io.KnownBytes.{Appends, Keeps};
 ghost use Rattle.point_core.specs.declared.refusal.Refusal.TheVariants.{Write as WriteFault, Memory};
+ghost use Rattle.check_core.specs.Outcome.{EndsInCounts, has_counts, totals_of};
 ghost use Rattle.check_core.specs.Tally.{count_text, totals_text};
 
 use crate::form::CheckForm;
 use crate::outcome::CheckOutcome;
-use crate::parts::{Part, write_parts};
+use crate::parts::{ReportPart, write_parts};
 use crate::scripts::Plan;
 use crate::tally::Tally;
 use itoa::Buffer;
@@ -15,8 +16,7 @@ use report_core::write_whole;
 use std::alloc::Global;
 use std::io::Write;
 
-/// Writes the end of a report in the form of the plan, and flushes: a line for each script that does not pass, the counts, or
-/// nothing.
+/// Writes the end of a report in its form, and flushes: a line for each script that does not pass, the counts, or nothing.
 pub(crate) fn report_summary<W: Write>(
     alloc: Global,
     plan: &Plan,
@@ -24,6 +24,10 @@ pub(crate) fn report_summary<W: Write>(
     outcomes: &[CheckOutcome],
     writer: &mut W,
 ) -> Result<(), Refusal>
+
+    // The counts come last, and are the sums of the counts of all scripts.
+    ensures counts { OnOk result (IsTrue (has_counts plan.now.form) → EndsInCounts
+        (length outcomes.now) (totals_of outcomes.now) (W.contents writer.new)) }
     ensures refusals { IfErr result (λ refusal. (refusal ≡ WriteFault) ⊎ (refusal ≡ Memory)) }
 {
     match plan.form {
@@ -65,46 +69,46 @@ fn report_script<W: Write>(
         return Ok(());
     }
     let [what, count, of, all, end] = parts_of_outcome(outcome);
-    let name = Part::Text(name);
     let parts = [
-        name,
-        Part::Text(": "),
+        ReportPart::Text(": "),
         what,
         count,
         of,
         all,
         end,
-        Part::Text("\n"),
+        ReportPart::Text("\n"),
     ];
-    write_parts(alloc, &parts, writer)
+    write_parts(alloc, name, &parts, writer)
 }
 
 /// The reason why a script does not pass.
-pub(crate) fn parts_of_outcome(outcome: CheckOutcome) -> [Part<'static>; 5] {
-    let none = Part::Text("");
+pub(crate) fn parts_of_outcome(outcome: CheckOutcome) -> [ReportPart<'static>; 5] {
+    let none = ReportPart::Text("");
     match outcome {
         CheckOutcome::Checked(tally) if tally.checked == 0 => {
-            [Part::Text("expects nothing"), none, none, none, none]
+            [ReportPart::Text("expects nothing"), none, none, none, none]
         }
         CheckOutcome::Checked(tally) => [
-            Part::Text("differs in "),
-            Part::Number(tally.differing),
-            Part::Text(" of "),
-            Part::Number(tally.checked),
-            Part::Text(" answers"),
+            ReportPart::Text("differs in "),
+            ReportPart::Number(tally.differing),
+            ReportPart::Text(" of "),
+            ReportPart::Number(tally.checked),
+            ReportPart::Text(" answers"),
         ],
         CheckOutcome::Failed(refusal) => [
-            Part::Text("not checked: "),
-            Part::Number(u64::from(refusal.number())),
-            Part::Text(" "),
-            Part::Text(refusal.name()),
+            ReportPart::Text("not checked: "),
+            ReportPart::Number(u64::from(refusal.number())),
+            ReportPart::Text(" "),
+            ReportPart::Text(refusal.name()),
             none,
         ],
     }
 }
 
 /// The counts of all of them together.
-fn totals_of(outcomes: &[CheckOutcome]) -> Tally {
+fn totals_of(outcomes: &[CheckOutcome]) -> Tally
+    ensures { result ≡ totals_of outcomes.now }
+{
     let mut totals = Tally::new();
     for outcome in outcomes {
         totals = totals.with(&outcome.tally());

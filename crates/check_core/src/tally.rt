@@ -16,7 +16,7 @@ pub struct Tally {
 }
 
 impl Tally {
-    ghost use Rattle.check_core.specs.Tally.{one_if, IsEmpty, HasRoom};
+    ghost use Rattle.check_core.specs.Tally.{one_if, with_counts, IsEmpty, HasRoom};
 
     pub(crate) fn new() -> Self
         ensures empty { IsEmpty result }
@@ -46,7 +46,9 @@ impl Tally {
     }
 
     /// The counts of both together. A sum that would pass the greatest number stays at it.
-    pub(crate) fn with(self, other: &Tally) -> Tally {
+    pub(crate) fn with(self, other: &Tally) -> Tally
+        ensures { result ≡ with_counts self other.now }
+    {
         Tally {
             lines: self.lines.saturating_add(other.lines),
             checked: self.checked.saturating_add(other.checked),

@@ -1,10 +1,11 @@
 //! Writes the Test Anything Protocol: a plan, and a test for each script. Its version is 13 or 14.
-ghost use Rattle.std.specs.Prelude.{◌≡◌, ◌⊎◌, IfErr};
+ghost use Rattle.std.specs.Prelude.{◌≡◌, ◌⊎◌, true, false, OnOk, IfErr};
 ghost use Rattle.point_core.specs.declared.refusal.Refusal.TheVariants.{Write as WriteFault, Memory};
+ghost use Rattle.check_core.specs.Tap.{TellsTest};
 
 use crate::form::CheckForm;
 use crate::outcome::CheckOutcome;
-use crate::parts::{Part, write_parts};
+use crate::parts::{ReportPart, write_parts};
 use crate::summary::parts_of_outcome;
 use point_core::Refusal;
 use std::alloc::Global;
@@ -23,13 +24,12 @@ pub(crate) fn write_plan<W: Write>(
         return Ok(());
     };
     let parts = [
-        Part::Text("TAP version "),
-        Part::Number(version),
-        Part::Text("\n1.."),
-        Part::Number(tests as u64),
-        Part::Text("\n"),
+        ReportPart::Number(version),
+        ReportPart::Text("\n1.."),
+        ReportPart::Number(tests as u64),
+        ReportPart::Text("\n"),
     ];
-    write_parts(alloc, &parts, writer)
+    write_parts(alloc, "TAP version ", &parts, writer)
 }
 
 /// The test of a script.
@@ -43,57 +43,73 @@ pub(crate) struct Test<'a> {
     pub(crate) differences: &'a [u8],
 }
 
-/// Writes a test that passes, which is skipped if its script expects nothing.
-pub(crate) fn write_passed<W: Write>(
-    alloc: Global,
-    test: &Test<'_>,
-    writer: &mut W,
-) -> Result<(), Refusal>
-    ensures refusals { IfErr result (λ refusal. (refusal ≡ WriteFault) ⊎ (refusal ≡ Memory)) }
-{
-    let end = match test.outcome.tally().checked {
-        0 => " # SKIP expects nothing\n",
-        _ => "\n",
-    };
-    let number = (test.before as u64).saturating_add(1);
-    let parts = [
-        Part::Text("ok "),
-        Part::Number(number),
-        Part::Text(" - "),
-        Part::Description(test.name),
-        Part::Text(end),
-    ];
-    write_parts(alloc, &parts, writer)
-}
+impl<'a> Test<'a> {
+    /// Writes the test, which `passes` or does not.
+    pub(crate) fn write<W: Write>(
+        &self,
+        alloc: Global,
+        passes: bool,
+        writer: &mut W,
+    ) -> Result<(), Refusal>
+        ensures told { OnOk result (TellsTest passes (W.contents writer.old) (W.contents writer.new)) }
+        ensures refusals { IfErr result (λ refusal. (refusal ≡ WriteFault) ⊎ (refusal ≡ Memory)) }
+    {
+        if passes {
+            self.write_passed(alloc, writer)
+        } else {
+            self.write_failed(alloc, writer)
+        }
+    }
 
-/// Writes a test that does not pass, why, and each answer that differs.
-pub(crate) fn write_failed<W: Write>(
-    alloc: Global,
-    test: &Test<'_>,
-    writer: &mut W,
-) -> Result<(), Refusal>
-    ensures refusals { IfErr result (λ refusal. (refusal ≡ WriteFault) ⊎ (refusal ≡ Memory)) }
-{
-    let list = match test.differences.is_empty() {
-        true => "\"\n",
-        false => "\"\n  differences:\n",
-    };
-    let number = (test.before as u64).saturating_add(1);
-    let [what, count, of, all, end] = parts_of_outcome(test.outcome);
-    let parts = [
-        Part::Text("not ok "),
-        Part::Number(number),
-        Part::Text(" - "),
-        Part::Description(test.name),
-        Part::Text("\n  ---\n  message: \""),
-        what,
-        count,
-        of,
-        all,
-        end,
-        Part::Text(list),
-        Part::Bytes(test.differences),
-        Part::Text("  ...\n"),
-    ];
-    write_parts(alloc, &parts, writer)
+    /// Writes a test that passes, which is skipped if its script expects nothing.
+    fn write_passed<W: Write>(&self, alloc: Global, writer: &mut W) -> Result<(), Refusal>
+        ensures told { OnOk result (TellsTest true (W.contents writer.old) (W.contents writer.new)) }
+        ensures refusals { IfErr result (λ refusal. (refusal ≡ WriteFault) ⊎ (refusal ≡ Memory)) }
+    {
+        let end = match self.outcome.tally().checked {
+            0 => " # SKIP expects nothing\n",
+            _ => "\n",
+        };
+        let number = self.number();
+        let parts = [
+            ReportPart::Number(number),
+            ReportPart::Text(" - "),
+            ReportPart::Description(self.name),
+            ReportPart::Text(end),
+        ];
+        write_parts(alloc, "ok ", &parts, writer)
+    }
+
+    /// Writes a test that does not pass, why, and each answer that differs.
+    fn write_failed<W: Write>(&self, alloc: Global, writer: &mut W) -> Result<(), Refusal>
+        ensures told { OnOk result (TellsTest false (W.contents writer.old) (W.contents writer.new)) }
+        ensures refusals { IfErr result (λ refusal. (refusal ≡ WriteFault) ⊎ (refusal ≡ Memory)) }
+    {
+        let list = match self.differences.is_empty() {
+            true => "\"\n",
+            false => "\"\n  differences:\n",
+        };
+        let [what, count, of, all, end] = parts_of_outcome(self.outcome);
+        let number = self.number();
+        let parts = [
+            ReportPart::Number(number),
+            ReportPart::Text(" - "),
+            ReportPart::Description(self.name),
+            ReportPart::Text("\n  ---\n  message: \""),
+            what,
+            count,
+            of,
+            all,
+            end,
+            ReportPart::Text(list),
+            ReportPart::Bytes(self.differences),
+            ReportPart::Text("  ...\n"),
+        ];
+        write_parts(alloc, "not ok ", &parts, writer)
+    }
+
+    /// Its number among the tests, from 1.
+    fn number(&self) -> u64 {
+        (self.before as u64).saturating_add(1)
+    }
 }

@@ -1,5 +1,5 @@
 //! Updates files: reads each, rewrites its script, and replaces the file. `fencectl check --update` calls it.
-ghost use Rattle.std.specs.Prelude.{◌≡◌, ◌⊎◌, ◌+◌, ◌<◌, ◌≤◌, ◌^◌, ◌++◌, [], ◌∷◌, IfOk, OnOk, IfErr, All, length, string_bytes};
+ghost use Rattle.std.specs.Prelude.{◌≡◌, ◌⊎◌, ◌+◌, ◌<◌, ◌≤◌, ◌^◌, [], IfOk, OnOk, IfErr, All, length, string_bytes};
 ghost use Rattle.std.specs.Io.KnownBytes.{Appends};
 ghost use Rattle.std.specs.List.{list_any};
 ghost use Rattle.line_core.specs.declared.script.TheConstants.{SCRIPT_BYTES};
@@ -8,6 +8,7 @@ ghost use Rattle.source_core.specs.FileBytes.{HasFront, WasGiven};
 ghost use Rattle.check_core.specs.Kept.{kept};
 ghost use Rattle.check_core.specs.Update.{HasReported, IsUpdate, Passes, failure_text, is_failed, one_if_written, update_text, updates_text, update_totals, verdict_of_updates, written_count};
 
+use crate::list::push;
 use crate::outcome::Verdict;
 use crate::update::updated;
 use itoa::Buffer;
@@ -69,13 +70,6 @@ fn update_each<R: Files + Eprint + AllocGlobal, W: Write>(
         report_update(rt.alloc(), name.as_str(), update, errors)?;
         push(updates, update)?;
     }
-    Ok(())
-}
-
-fn push(updates: &mut Vec<Update>, update: Update) -> Result<(), AllocError>
-    ensures { OnOk result (updates.new.items ≡ updates.old.items ++ update ∷ []) }
-{
-    updates.push(update)?;
     Ok(())
 }
 

@@ -16,5 +16,5 @@ loop-index-preserved g c =
     let o = c.in_ok-outcome.outcome in
     let at = slice_get_read names (length names) c.loop-index.index name refl c.loop-index-test.true c.index-names-index.is in
     let came = subst (λ (text : List ℕ). CameOf (opened text) o) c.as_str.ensures.value c.in_ok-outcome.ensures.outcome in
-    let next = CameOfEach-next opens names c.loop-index.outcomes.items c.push.new.outcomes.items c.loop-index.index name o was.count at was.each came c.in_ok-push.ensures in
+    let next = CameOfEach-next opens names c.loop-index.outcomes.items c.push.new.items.items c.loop-index.index name o was.count at was.each came c.in_ok-push.ensures in
     record { count = next.0; each = next.1 }

@@ -16,7 +16,7 @@ loop-name-preserved g c =
     let middle = contents c.loop-name.errors in
     let after = contents c.report_update.new.errors in
     let written = subst (λ (text : List ℕ). Appends middle after (update_text text update)) c.as_str-in-loop-name.ensures.value c.in_ok-report_update.ensures.ok in
-    let next = reported-next text_of c.args.names.now c.loop-name.name-index c.name-item.result c.loop-name.updates.items c.push.new.updates.items update before middle after
+    let next = reported-next text_of c.args.names.now c.loop-name.name-index c.name-item.result c.loop-name.updates.items c.push.new.items.items update before middle after
     c.loop-name-test.true c.name-item.is was.count was.reported written c.in_ok-push.ensures in
-    let each = each-next (IsUpdate (HasFront g.R.File.Read.remaining (SCRIPT_BYTES + 1)) (WasGiven g.R.File.Write.contents)) c.loop-name.updates.items c.push.new.updates.items update was.each c.in_ok-update.ensures.update c.in_ok-push.ensures in
+    let each = each-next (IsUpdate (HasFront g.R.File.Read.remaining (SCRIPT_BYTES + 1)) (WasGiven g.R.File.Write.contents)) c.loop-name.updates.items c.push.new.items.items update was.each c.in_ok-update.ensures.update c.in_ok-push.ensures in
     record { count = next.0; each = each; reported = next.1 }
