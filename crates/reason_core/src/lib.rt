@@ -2,7 +2,7 @@
 //! it, and the `Book` of lines that made each name. `explain` runs a script and explains it.
 //!
 //! Proved are its faults, that it begins with its line's number, and that it follows the answers of all lines up to its
-//! own. What else an explanation is, no contract says: its texts are tested.
+//! own. No contract says more of an explanation: its texts are tested.
 #![tactic(auto)]
 
 mod book;

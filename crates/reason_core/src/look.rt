@@ -1,4 +1,5 @@
-//! `Look` and `Place`, the style and the line of an explanation, and the functions that write one from parts.
+//! `Look` and `Place`, the style and the line of an explanation, and `NotePart`, a part of it. `refused.rt` and `syntax.rt`
+//! write an explanation as a list of parts, by `note`.
 ghost use Rattle.std.specs.Prelude.{◌≡◌, IfErr, OnErr, OnOk};
 ghost use Rattle.std.specs.Io.KnownBytes.{Appends};
 ghost use Rattle.point_core.specs.declared.refusal.Refusal.TheVariants.{Write as WriteFault};
@@ -29,17 +30,19 @@ pub struct Place {
 
 /// A part of an explanation.
 #[derive(Clone, Copy)]
-pub(crate) enum Part<'a> {
+pub(crate) enum NotePart<'a> {
     Text(&'a str),
     Number(u64),
     /// Bytes that do not print are written as in a Rust literal.
     Bytes(&'a [u8]),
+    /// As `Bytes`, between quotes.
+    Quoted(&'a [u8]),
 }
 
 /// Writes `line N: ` and the parts, and ends the line.
 pub(crate) fn note<N: Write>(
     place: &Place,
-    parts: &[Part<'_>],
+    parts: &[NotePart<'_>],
     notes: &mut N,
 ) -> Result<(), Refusal>
     ensures noted { Notes result place.now.line (N.contents notes.old) (N.contents notes.new) }
@@ -47,24 +50,7 @@ pub(crate) fn note<N: Write>(
 {
     begin(place, notes)?;
     write_parts(parts, notes)?;
-    write_part(&Part::Text("\n"), notes)
-}
-
-/// Writes `line N: "WORD"` and the parts, and ends the line.
-pub(crate) fn note_word<N: Write>(
-    place: &Place,
-    word: &[u8],
-    parts: &[Part<'_>],
-    notes: &mut N,
-) -> Result<(), Refusal>
-    ensures noted { Notes result place.now.line (N.contents notes.old) (N.contents notes.new) }
-    ensures refusals { IfErr result (λ refusal. refusal ≡ WriteFault) }
-{
-    begin(place, notes)?;
-    let quoted = [Part::Text("\""), Part::Bytes(word), Part::Text("\"")];
-    write_parts(&quoted, notes)?;
-    write_parts(parts, notes)?;
-    write_part(&Part::Text("\n"), notes)
+    write_part(&NotePart::Text("\n"), notes)
 }
 
 /// Writes `line N: `.
@@ -100,7 +86,7 @@ fn after_number(look: Look) -> &'static [u8]
     }
 }
 
-fn write_parts<N: Write>(parts: &[Part<'_>], notes: &mut N) -> Result<(), Refusal>
+fn write_parts<N: Write>(parts: &[NotePart<'_>], notes: &mut N) -> Result<(), Refusal>
     ensures grows { Grows (N.contents notes.old) (N.contents notes.new) }
     ensures refusals { IfErr result (λ refusal. refusal ≡ WriteFault) }
 {
@@ -110,14 +96,15 @@ fn write_parts<N: Write>(parts: &[Part<'_>], notes: &mut N) -> Result<(), Refusa
     Ok(())
 }
 
-fn write_part<N: Write>(part: &Part<'_>, notes: &mut N) -> Result<(), Refusal>
+fn write_part<N: Write>(part: &NotePart<'_>, notes: &mut N) -> Result<(), Refusal>
     ensures grows { Grows (N.contents notes.old) (N.contents notes.new) }
     ensures refusals { IfErr result (λ refusal. refusal ≡ WriteFault) }
 {
     match part {
-        Part::Text(text) => write_bytes(text.as_bytes(), notes),
-        Part::Number(number) => write_number(*number, notes),
-        Part::Bytes(bytes) => write_escaped(bytes, notes),
+        NotePart::Text(text) => write_bytes(text.as_bytes(), notes),
+        NotePart::Number(number) => write_number(*number, notes),
+        NotePart::Bytes(bytes) => write_escaped(bytes, notes),
+        NotePart::Quoted(bytes) => write_quoted(bytes, notes),
     }
 }
 
@@ -127,6 +114,15 @@ fn write_number<N: Write>(number: u64, notes: &mut N) -> Result<(), Refusal>
 {
     let mut digits = Buffer::new();
     write_bytes(digits.format(number).as_bytes(), notes)
+}
+
+fn write_quoted<N: Write>(bytes: &[u8], notes: &mut N) -> Result<(), Refusal>
+    ensures grows { Grows (N.contents notes.old) (N.contents notes.new) }
+    ensures refusals { IfErr result (λ refusal. refusal ≡ WriteFault) }
+{
+    write_bytes(b"\"", notes)?;
+    write_escaped(bytes, notes)?;
+    write_bytes(b"\"", notes)
 }
 
 fn write_escaped<N: Write>(bytes: &[u8], notes: &mut N) -> Result<(), Refusal>

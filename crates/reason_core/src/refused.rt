@@ -1,11 +1,11 @@
-//! Explains a command that the desk refused, by the desk and the book. A note begins with the line's number;
-//! what follows it, no contract says: tests compare it.
+//! Explains a command that the desk refused, by the desk and the book. A note begins with the line's number; no contract says
+//! what follows, and tests compare it.
 ghost use Rattle.std.specs.Prelude.{◌≡◌, IfErr};
 ghost use Rattle.point_core.specs.declared.refusal.Refusal.TheVariants.{Write as WriteFault};
 ghost use Rattle.reason_core.specs.Notes.{Notes};
 
 use crate::book::Book;
-use crate::look::{Part, Place, note};
+use crate::look::{NotePart, Place, note};
 use crate::names::{is_there, word_of};
 use command_core::{Command, Space};
 use desk_core::Desk;
@@ -14,7 +14,7 @@ use point_core::{BUFFERS, CONTEXTS, LimitKind, Name, Point, Refusal};
 use std::io::Write;
 use syncfile_core::FILES;
 
-const UNSIGNALLED: Part<'static> = Part::Text("the file is not signalled");
+const UNSIGNALLED: NotePart<'static> = NotePart::Text("the file is not signalled");
 
 /// Why a command was refused, with the line that matters.
 #[derive(Clone, Copy)]
@@ -134,67 +134,67 @@ fn explain_reason<N: Write>(place: &Place, reason: &Reason, notes: &mut N) -> Re
             note(place, &parts_of_overflow(timeline, *value, *count), notes)
         }
         Reason::Limit(kind) => note(place, &parts_of_limit(*kind), notes),
-        Reason::Text(text) => note(place, &[Part::Text(*text)], notes),
+        Reason::Text(text) => note(place, &[NotePart::Text(*text)], notes),
     }
 }
 
-fn parts_of_missing(space: Space, name: &Name) -> [Part<'_>; 4] {
+fn parts_of_missing(space: Space, name: &Name) -> [NotePart<'_>; 4] {
     [
-        Part::Text("there is no "),
-        Part::Text(word_of(space)),
-        Part::Text(" named "),
-        Part::Bytes(name.as_bytes()),
+        NotePart::Text("there is no "),
+        NotePart::Text(word_of(space)),
+        NotePart::Text(" named "),
+        NotePart::Bytes(name.as_bytes()),
     ]
 }
 
-fn parts_of_taken(space: Space, name: &Name, line: u32) -> [Part<'_>; 6] {
+fn parts_of_taken(space: Space, name: &Name, line: u32) -> [NotePart<'_>; 6] {
     [
-        Part::Text("there is already a "),
-        Part::Text(word_of(space)),
-        Part::Text(" named "),
-        Part::Bytes(name.as_bytes()),
-        Part::Text(", made on line "),
-        Part::Number(u64::from(line)),
+        NotePart::Text("there is already a "),
+        NotePart::Text(word_of(space)),
+        NotePart::Text(" named "),
+        NotePart::Bytes(name.as_bytes()),
+        NotePart::Text(", made on line "),
+        NotePart::Number(u64::from(line)),
     ]
 }
 
-fn parts_of_watched(cookie: u64, line: u32) -> [Part<'static>; 4] {
+fn parts_of_watched(cookie: u64, line: u32) -> [NotePart<'static>; 4] {
     [
-        Part::Text("cookie "),
-        Part::Number(cookie),
-        Part::Text(" is in use by the watch made on line "),
-        Part::Number(u64::from(line)),
+        NotePart::Text("cookie "),
+        NotePart::Number(cookie),
+        NotePart::Text(" is in use by the watch made on line "),
+        NotePart::Number(u64::from(line)),
     ]
 }
 
-fn parts_of_closed(timeline: &Name, line: u32) -> [Part<'_>; 4] {
+fn parts_of_closed(timeline: &Name, line: u32) -> [NotePart<'_>; 4] {
     [
-        Part::Text("timeline "),
-        Part::Bytes(timeline.as_bytes()),
-        Part::Text(" was closed on line "),
-        Part::Number(u64::from(line)),
+        NotePart::Text("timeline "),
+        NotePart::Bytes(timeline.as_bytes()),
+        NotePart::Text(" was closed on line "),
+        NotePart::Number(u64::from(line)),
     ]
 }
 
-fn parts_of_overflow(timeline: &Name, value: u64, count: u64) -> [Part<'_>; 8] {
+fn parts_of_overflow(timeline: &Name, value: u64, count: u64) -> [NotePart<'_>; 8] {
     [
-        Part::Text("timeline "),
-        Part::Bytes(timeline.as_bytes()),
-        Part::Text(" is at "),
-        Part::Number(value),
-        Part::Text("; adding "),
-        Part::Number(count),
-        Part::Text(" would exceed "),
-        Part::Number(u64::MAX),
+        NotePart::Text("timeline "),
+        NotePart::Bytes(timeline.as_bytes()),
+        NotePart::Text(" is at "),
+        NotePart::Number(value),
+        NotePart::Text("; adding "),
+        NotePart::Number(count),
+        NotePart::Text(" would exceed "),
+        NotePart::Number(u64::MAX),
     ]
 }
 
-fn parts_of_limit(kind: LimitKind) -> [Part<'static>; 4] {
+fn parts_of_limit(kind: LimitKind) -> [NotePart<'static>; 4] {
     [
-        Part::Text("limit reached: "),
-        Part::Number(most_of(kind)),
-        Part::Text(" "),
-        Part::Text(kind.word()),
+        NotePart::Text("limit reached: "),
+        NotePart::Number(most_of(kind)),
+        NotePart::Text(" "),
+        NotePart::Text(kind.word()),
     ]
 }
 
@@ -278,17 +278,17 @@ fn explain_wait<'a, N: Write>(
     ensures refusals { IfErr result (λ refusal. refusal ≡ WriteFault) }
 {
     let parts = [
-        Part::Text("file "),
-        Part::Bytes(file.as_bytes()),
-        Part::Text(" waits for point "),
-        Part::Number(point),
-        Part::Text(" of "),
-        Part::Bytes(timeline.as_bytes()),
-        Part::Text(", which is at "),
-        Part::Number(value),
-        Part::Text(": "),
-        Part::Number(point.saturating_sub(value)),
-        Part::Text(" to go"),
+        NotePart::Text("file "),
+        NotePart::Bytes(file.as_bytes()),
+        NotePart::Text(" waits for point "),
+        NotePart::Number(point),
+        NotePart::Text(" of "),
+        NotePart::Bytes(timeline.as_bytes()),
+        NotePart::Text(", which is at "),
+        NotePart::Number(value),
+        NotePart::Text(": "),
+        NotePart::Number(point.saturating_sub(value)),
+        NotePart::Text(" to go"),
     ];
     note(place, &parts, notes)
 }

@@ -1,10 +1,10 @@
-//! Explains a line that is no command: finds the word at fault. A note begins with the line's number;
-//! what follows it, no contract says: tests compare it.
+//! Explains a line that is no command: finds the word at fault. A note begins with the line's number; no contract says what
+//! follows, and tests compare it.
 ghost use Rattle.std.specs.Prelude.{◌≡◌, ◌⊎◌, IfErr};
 ghost use Rattle.point_core.specs.declared.refusal.Refusal.TheVariants.{Write as WriteFault, Memory};
 ghost use Rattle.reason_core.specs.Notes.{Notes};
 
-use crate::look::{Part, Place, note, note_word};
+use crate::look::{NotePart, Place, note};
 use crate::operands::{absence, mismatch};
 use line_core::{LINE_BYTES, Operand, RawLine, SCRIPT_BYTES, command_form, commands};
 use point_core::{LimitKind, Refusal};
@@ -40,10 +40,10 @@ fn explain_long_line<N: Write>(place: &Place, length: usize, notes: &mut N) -> R
     ensures refusals { IfErr result (λ refusal. refusal ≡ WriteFault) }
 {
     let parts = [
-        Part::Text("the line is "),
-        Part::Number(length as u64),
-        Part::Text(" bytes long; the limit is "),
-        Part::Number(LINE_BYTES as u64),
+        NotePart::Text("the line is "),
+        NotePart::Number(length as u64),
+        NotePart::Text(" bytes long; the limit is "),
+        NotePart::Number(LINE_BYTES as u64),
     ];
     note(place, &parts, notes)
 }
@@ -53,9 +53,9 @@ fn explain_long_script<N: Write>(place: &Place, notes: &mut N) -> Result<(), Ref
     ensures refusals { IfErr result (λ refusal. refusal ≡ WriteFault) }
 {
     let parts = [
-        Part::Text("the script is longer than the limit of "),
-        Part::Number(SCRIPT_BYTES as u64),
-        Part::Text(" bytes"),
+        NotePart::Text("the script is longer than the limit of "),
+        NotePart::Number(SCRIPT_BYTES as u64),
+        NotePart::Text(" bytes"),
     ];
     note(place, &parts, notes)
 }
@@ -76,7 +76,10 @@ fn explain_syntax<N: Write>(
     }
     let (word, rest) = first_word(line);
     match command_form(word) {
-        Some(form) => explain_words(place, word, form.operands, rest, notes),
+        Some(form) => {
+            let (word, reason) = wrong_word(word, form.operands, rest);
+            explain_word(place, word, reason, notes)
+        }
         None => explain_no_command(alloc, place, word, notes),
     }
 }
@@ -85,13 +88,18 @@ fn explain_syntax<N: Write>(
 fn explain_word<N: Write>(
     place: &Place,
     word: &[u8],
-    reason: &str,
+    reason: &'static str,
     notes: &mut N,
 ) -> Result<(), Refusal>
     ensures noted { Notes result place.now.line (N.contents notes.old) (N.contents notes.new) }
     ensures refusals { IfErr result (λ refusal. refusal ≡ WriteFault) }
 {
-    note_word(place, word, &[Part::Text(": "), Part::Text(reason)], notes)
+    let parts = [
+        NotePart::Quoted(word),
+        NotePart::Text(": "),
+        NotePart::Text(reason),
+    ];
+    note(place, &parts, notes)
 }
 
 /// The first word with a byte that no word may have, and the sentence on it.
@@ -143,26 +151,21 @@ fn explain_no_command<N: Write>(
     ensures refusals { IfErr result (λ refusal. (refusal ≡ WriteFault) ⊎ (refusal ≡ Memory)) }
 {
     match nearest(alloc, word)? {
-        Some(command) => suggest(place, word, command, notes),
-        None => note_word(place, word, &[Part::Text(": unknown command")], notes),
+        Some(command) => {
+            let parts = [
+                NotePart::Quoted(word),
+                NotePart::Text(": unknown command; did you mean \""),
+                NotePart::Text(command),
+                NotePart::Text("\"?"),
+            ];
+            note(place, &parts, notes)
+        }
+        None => note(
+            place,
+            &[NotePart::Quoted(word), NotePart::Text(": unknown command")],
+            notes,
+        ),
     }
-}
-
-fn suggest<N: Write>(
-    place: &Place,
-    word: &[u8],
-    command: &str,
-    notes: &mut N,
-) -> Result<(), Refusal>
-    ensures noted { Notes result place.now.line (N.contents notes.old) (N.contents notes.new) }
-    ensures refusals { IfErr result (λ refusal. refusal ≡ WriteFault) }
-{
-    let parts = [
-        Part::Text(": unknown command; did you mean \""),
-        Part::Text(command),
-        Part::Text("\"?"),
-    ];
-    note_word(place, word, &parts, notes)
 }
 
 /// The command that differs in the fewest letters, if these are few; two letters that are swapped count as one.
@@ -182,20 +185,6 @@ fn nearest(alloc: Global, word: &[u8]) -> Result<Option<&'static str>, Refusal>
         }
     }
     Ok(found)
-}
-
-fn explain_words<N: Write>(
-    place: &Place,
-    command: &[u8],
-    operands: &[Operand],
-    rest: &[u8],
-    notes: &mut N,
-) -> Result<(), Refusal>
-    ensures noted { Notes result place.now.line (N.contents notes.old) (N.contents notes.new) }
-    ensures refusals { IfErr result (λ refusal. refusal ≡ WriteFault) }
-{
-    let (word, reason) = wrong_word(command, operands, rest);
-    explain_word(place, word, reason, notes)
 }
 
 /// The first word that does not match its operand, or the command if a word is missing, and the sentence on it.
