@@ -1,11 +1,11 @@
 //! Answers as JSON: one object on a line for each answer.
 #![tactic(auto)]
 
+mod array;
 mod members;
 mod objects;
 mod part;
 mod reading;
-mod tables;
 
 pub use members::push_line;
 pub use reading::run_json;

@@ -1,15 +1,14 @@
 //! The JSON object of an answer: the line, its text, and the members that its kind of answer has.
-ghost use Rattle.std.specs.Prelude.{flat_map, ◌≡◌, ◌++◌, IfOk, IfErr, OnOk};
+ghost use Rattle.std.specs.Prelude.{◌≡◌, ◌++◌, IfOk, IfErr, OnOk};
 ghost use Rattle.std.specs.Str.Lossy.{utf8_lossy};
 ghost use Rattle.point_core.specs.declared.refusal.Refusal.TheVariants.{Memory};
-ghost use Rattle.report_core.specs.Answer.{driver_of};
 ghost use Rattle.json_core.specs.Part.{Adds};
 ghost use Rattle.json_core.specs.Json.{answer_tokens, info_tokens, limit_of, line_text, line_tokens};
-ghost use Rattle.json_core.specs.Json.{number_tokens, value_tokens, raised_tokens, refusal_tokens, said_tokens, fence_tokens, limit_tokens};
+ghost use Rattle.json_core.specs.Json.{limit_tokens, raised_tokens, refusal_tokens, report_tokens, said_tokens, show_tokens, value_tokens};
 
-use crate::part::{Part, put_all};
-use crate::tables::{put_report, put_show};
-use command_core::{Answer, FenceRow, Info, Maker};
+use crate::array::put_array;
+use crate::part::{AnswerPart, put_all};
+use command_core::{Answer, Info, Report, ShowRow};
 use json::Writer;
 use point_core::{LimitKind, Refusal};
 use std::alloc::{AllocError, Global};
@@ -51,7 +50,7 @@ fn put_line(writer: &mut Writer, number: u32, line: &str, answer: &Answer) -> Re
 {
     put_said(writer, number, line)?;
     put_answer(writer, answer)?;
-    put_all(writer, &[Part::EndObject])?;
+    put_all(writer, &[AnswerPart::EndObject])?;
     Ok(())
 }
 
@@ -59,11 +58,11 @@ fn put_said(writer: &mut Writer, number: u32, line: &str) -> Result<(), AllocErr
     ensures added { OnOk result (Adds writer.old writer.new (said_tokens number line.now)) }
 {
     let parts = [
-        Part::BeginObject,
-        Part::Key("line"),
-        Part::Number(u64::from(number)),
-        Part::Key("command"),
-        Part::Text(line),
+        AnswerPart::BeginObject,
+        AnswerPart::Key("line"),
+        AnswerPart::Number(u64::from(number)),
+        AnswerPart::Key("command"),
+        AnswerPart::Text(line),
     ];
     put_all(writer, &parts)
 }
@@ -72,7 +71,7 @@ fn put_answer(writer: &mut Writer, answer: &Answer) -> Result<(), AllocError>
     ensures added { OnOk result (Adds writer.old writer.new (answer_tokens answer.now)) }
 {
     match answer {
-        Answer::Done => put_all(writer, &[Part::Key("ok"), Part::Bool(true)]),
+        Answer::Done => put_all(writer, &[AnswerPart::Key("ok"), AnswerPart::Bool(true)]),
         Answer::Value(value) => put_value(writer, *value),
         Answer::Raised(value, fired) => put_raised(writer, *value, fired.as_slice()),
         Answer::Info(info) => put_info(writer, info),
@@ -86,10 +85,10 @@ fn put_value(writer: &mut Writer, value: u64) -> Result<(), AllocError>
     ensures added { OnOk result (Adds writer.old writer.new (value_tokens value)) }
 {
     let parts = [
-        Part::Key("ok"),
-        Part::Bool(true),
-        Part::Key("value"),
-        Part::Number(value),
+        AnswerPart::Key("ok"),
+        AnswerPart::Bool(true),
+        AnswerPart::Key("value"),
+        AnswerPart::Number(value),
     ];
     put_all(writer, &parts)
 }
@@ -98,18 +97,7 @@ fn put_raised(writer: &mut Writer, value: u64, fired: &[u64]) -> Result<(), Allo
     ensures added { OnOk result (Adds writer.old writer.new (raised_tokens value fired.now)) }
 {
     put_value(writer, value)?;
-    put_all(writer, &[Part::Key("fired"), Part::BeginArray])?;
-    put_numbers(writer, fired)?;
-    put_all(writer, &[Part::EndArray])?;
-    Ok(())
-}
-
-fn put_numbers(writer: &mut Writer, numbers: &[u64]) -> Result<(), AllocError>
-    ensures added { OnOk result (Adds writer.old writer.new (flat_map number_tokens numbers.now)) }
-{
-    for number in numbers {
-        put_all(writer, &[Part::Number(*number)])?;
-    }
+    put_array(writer, "fired", fired)?;
     Ok(())
 }
 
@@ -117,74 +105,52 @@ fn put_info(writer: &mut Writer, info: &Info) -> Result<(), AllocError>
     ensures added { OnOk result (Adds writer.old writer.new (info_tokens info.now)) }
 {
     let file = [
-        Part::Key("ok"),
-        Part::Bool(true),
-        Part::Key("file"),
-        Part::Name(&info.name),
-        Part::Key("status"),
-        Part::Status(info.status),
-        Part::Key("fences"),
-        Part::BeginArray,
+        AnswerPart::Key("ok"),
+        AnswerPart::Bool(true),
+        AnswerPart::Key("file"),
+        AnswerPart::Name(&info.name),
+        AnswerPart::Key("status"),
+        AnswerPart::Status(info.status),
     ];
     put_all(writer, &file)?;
-    put_fences(writer, info.fences.as_slice())?;
-    put_all(writer, &[Part::EndArray])?;
+    put_array(writer, "fences", info.fences.as_slice())?;
     Ok(())
 }
 
-fn put_fences(writer: &mut Writer, fences: &[FenceRow]) -> Result<(), AllocError>
-    ensures added { OnOk result (Adds writer.old writer.new (flat_map fence_tokens fences.now)) }
+fn put_show(writer: &mut Writer, rows: &[ShowRow]) -> Result<(), AllocError>
+    ensures added { OnOk result (Adds writer.old writer.new (show_tokens rows.now)) }
 {
-    for fence in fences {
-        put_fence(writer, fence)?;
-    }
+    put_all(writer, &[AnswerPart::Key("ok"), AnswerPart::Bool(true)])?;
+    put_array(writer, "rows", rows)?;
     Ok(())
 }
 
-fn put_fence(writer: &mut Writer, fence: &FenceRow) -> Result<(), AllocError>
-    ensures added { OnOk result (Adds writer.old writer.new (fence_tokens fence.now)) }
+fn put_report(writer: &mut Writer, report: &Report) -> Result<(), AllocError>
+    ensures added { OnOk result (Adds writer.old writer.new (report_tokens report.now)) }
 {
-    let driver = name_of(fence.driver);
-    let parts = [
-        Part::BeginObject,
-        Part::Key("timeline"),
-        Part::Name(&fence.timeline),
-        Part::Key("driver"),
-        Part::Text(driver),
-        Part::Key("point"),
-        Part::Number(fence.point),
-        Part::Key("status"),
-        Part::Status(fence.status),
-        Part::EndObject,
-    ];
-    put_all(writer, &parts)
-}
-
-fn name_of(driver: Maker) -> &'static str
-    ensures { result.now ≡ driver_of driver }
-{
-    match driver {
-        Maker::SwSync => "sw_sync",
-        Maker::Stub => "stub",
-    }
+    put_all(writer, &[AnswerPart::Key("ok"), AnswerPart::Bool(true)])?;
+    put_array(writer, "timelines", report.timelines.as_slice())?;
+    put_array(writer, "files", report.files.as_slice())?;
+    put_array(writer, "buffers", report.buffers.as_slice())?;
+    Ok(())
 }
 
 fn put_refusal(writer: &mut Writer, refusal: Refusal) -> Result<(), AllocError>
     ensures added { OnOk result (Adds writer.old writer.new (refusal_tokens refusal)) }
 {
     let error = [
-        Part::Key("ok"),
-        Part::Bool(false),
-        Part::Key("error"),
-        Part::BeginObject,
-        Part::Key("number"),
-        Part::Number(u64::from(refusal.number())),
-        Part::Key("name"),
-        Part::Text(refusal.name()),
+        AnswerPart::Key("ok"),
+        AnswerPart::Bool(false),
+        AnswerPart::Key("error"),
+        AnswerPart::BeginObject,
+        AnswerPart::Key("number"),
+        AnswerPart::Number(u64::from(refusal.number())),
+        AnswerPart::Key("name"),
+        AnswerPart::Text(refusal.name()),
     ];
     put_all(writer, &error)?;
     put_limit(writer, limit_of(refusal))?;
-    put_all(writer, &[Part::EndObject])?;
+    put_all(writer, &[AnswerPart::EndObject])?;
     Ok(())
 }
 
@@ -192,7 +158,10 @@ fn put_limit(writer: &mut Writer, limit: Option<LimitKind>) -> Result<(), AllocE
     ensures added { OnOk result (Adds writer.old writer.new (limit_tokens limit)) }
 {
     match limit {
-        Some(kind) => put_all(writer, &[Part::Key("limit"), Part::Text(kind.word())]),
+        Some(kind) => put_all(
+            writer,
+            &[AnswerPart::Key("limit"), AnswerPart::Text(kind.word())],
+        ),
         None => Ok(()),
     }
 }

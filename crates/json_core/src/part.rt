@@ -1,4 +1,5 @@
-//! `Part`: a piece of a JSON text, so that a document is a list of pieces, and its contract a list of tokens.
+//! `AnswerPart`: a part of the JSON of an answer, so that an object is a list of parts, and its contract a list of tokens.
+//! `members.rt` and `array.rt` write objects by `put_all`.
 ghost use Rattle.std.specs.Prelude.{OnOk};
 ghost use Rattle.json.specs.Written.{Writes};
 ghost use Rattle.json.specs.Token.{string};
@@ -8,9 +9,9 @@ use json::Writer;
 use point_core::{Name, Status};
 use std::alloc::AllocError;
 
-/// A piece of a JSON text.
+/// A part of the JSON of an answer.
 #[derive(Clone, Copy)]
-pub(crate) enum Part<'a> {
+pub(crate) enum AnswerPart<'a> {
     BeginObject,
     EndObject,
     BeginArray,
@@ -24,7 +25,7 @@ pub(crate) enum Part<'a> {
 }
 
 /// Writes the parts, one after another.
-pub(crate) fn put_all(writer: &mut Writer, parts: &[Part<'_>]) -> Result<(), AllocError>
+pub(crate) fn put_all(writer: &mut Writer, parts: &[AnswerPart<'_>]) -> Result<(), AllocError>
     ensures added { OnOk result (Adds writer.old writer.new (tokens_of parts.now)) }
 {
     for part in parts {
@@ -33,20 +34,20 @@ pub(crate) fn put_all(writer: &mut Writer, parts: &[Part<'_>]) -> Result<(), All
     Ok(())
 }
 
-fn put(writer: &mut Writer, part: &Part<'_>) -> Result<(), AllocError>
+fn put(writer: &mut Writer, part: &AnswerPart<'_>) -> Result<(), AllocError>
     ensures written { Writes result writer.old writer.new (token_of part.now) }
 {
     match part {
-        Part::BeginObject => writer.begin_object(),
-        Part::EndObject => writer.end_object(),
-        Part::BeginArray => writer.begin_array(),
-        Part::EndArray => writer.end_array(),
-        Part::Key(name) => writer.key(name),
-        Part::Text(text) => writer.string(text),
-        Part::Name(name) => put_name(writer, name),
-        Part::Number(number) => writer.u64(*number),
-        Part::Status(status) => writer.i64(i64::from(status.number())),
-        Part::Bool(value) => writer.boolean(*value),
+        AnswerPart::BeginObject => writer.begin_object(),
+        AnswerPart::EndObject => writer.end_object(),
+        AnswerPart::BeginArray => writer.begin_array(),
+        AnswerPart::EndArray => writer.end_array(),
+        AnswerPart::Key(name) => writer.key(name),
+        AnswerPart::Text(text) => writer.string(text),
+        AnswerPart::Name(name) => put_name(writer, name),
+        AnswerPart::Number(number) => writer.u64(*number),
+        AnswerPart::Status(status) => writer.i64(i64::from(status.number())),
+        AnswerPart::Bool(value) => writer.boolean(*value),
     }
 }
 

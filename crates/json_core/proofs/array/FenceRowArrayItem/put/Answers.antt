@@ -1,5 +1,5 @@
 use Rattle.std.proofs.Common.{rules}
-use Rattle.json_core.proofs.members.put_fence.Goals as goal
+use Rattle.json_core.proofs.array.FenceRowArrayItem.put.Goals as goal
 
 pub returns : goal.returns
 returns c =
