@@ -45,13 +45,14 @@ fn put_and_look(rt: &HostRuntime, calls: &mut Calls, board: &Board, words: &Word
     show_listing(rt, calls, &listing);
 }
 
-/// Settles the plan of that put.
+/// Settles the plan of that put, and takes the seat back.
 fn settle(rt: &HostRuntime, calls: &mut Calls, board: &Board, words: &Words, seat: Seat)
     requires own { (seat.words ≡ words.now) × (board.now ≡ words.now) }
 {
     if let Ok(mut all) = seat.gather() {
         let settled = settled(rt.alloc(), calls, board, words, &mut all);
         calls.tell(rt, "settle", &settled);
+        calls.tell(rt, "seat", &all.seat().parts());
     }
 }
 

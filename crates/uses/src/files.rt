@@ -15,6 +15,7 @@ pub(crate) fn make_calls(rt: &HostRuntime, calls: &mut Calls) {
     }
 }
 
+/// Merges no files, files of two contexts, a file that is missing, and into a name that is taken.
 fn create_and_merge(rt: &HostRuntime, calls: &mut Calls, files: &mut Files) -> Result<(), Refusal> {
     let (f, g, h) = (name(b'f')?, name(b'g')?, name(b'h')?);
     let (m, n, p) = (name(b'm')?, name(b'n')?, name(b'p')?);
@@ -29,6 +30,7 @@ fn create_and_merge(rt: &HostRuntime, calls: &mut Calls, files: &mut Files) -> R
     for file in [f, g, h, m, n, p] {
         show_points(rt, calls, files, &file);
     }
+    info(rt, calls, files, &m);
     Ok(())
 }
 
@@ -40,6 +42,7 @@ fn create(rt: &HostRuntime, calls: &mut Calls, files: &mut Files, file: Name, po
     calls.tell(rt, "create", &created);
 }
 
+/// Merges the files at a reach of 0, which drops no point.
 fn merge_many(rt: &HostRuntime, calls: &mut Calls, files: &mut Files, made: Name, inputs: &[Name]) {
     let merged = match calls.allow() {
         Ok(()) => files.merge_many(made, inputs, &Reach::zero()),
@@ -62,6 +65,15 @@ fn show_floor(rt: &HostRuntime, calls: &mut Calls, files: &Files, file: &Name) {
     }
 }
 
+/// The file's name, status and fences at the value 4 of the first context. A file without points has one fence.
+fn info(rt: &HostRuntime, calls: &mut Calls, files: &Files, file: &Name) {
+    let info = match calls.allow() {
+        Ok(()) => files.info(file, &Clocks::open(&reach_at(4))),
+        Err(refusal) => Err(refusal),
+    };
+    calls.tell(rt, "info", &info);
+}
+
 /// Makes a file of a listing, and closes it.
 fn adopt_and_close(rt: &HostRuntime, calls: &mut Calls, files: &mut Files) -> Result<(), Refusal> {
     let m = name(b'm')?;
@@ -69,6 +81,7 @@ fn adopt_and_close(rt: &HostRuntime, calls: &mut Calls, files: &mut Files) -> Re
     show_points(rt, calls, files, &m);
     show_floor(rt, calls, files, &m);
     names(rt, calls, files);
+    info(rt, calls, files, &m);
     show_state(rt, calls, files, &m);
     calls.tell(rt, "close", &files.close(&m));
     show_state(rt, calls, files, &m);

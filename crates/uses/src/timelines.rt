@@ -9,6 +9,7 @@ pub(crate) fn make_calls(rt: &HostRuntime, calls: &mut Calls) {
     }
 }
 
+/// Makes two timelines and refuses a third of a known name, raises the second, looks at both, and closes the second.
 fn name_and_advance(
     rt: &HostRuntime,
     calls: &mut Calls,
@@ -23,6 +24,7 @@ fn name_and_advance(
     calls.tell(rt, "value", &timelines.value(&b));
     show(rt, calls, timelines, &b);
     rows(rt, calls, timelines);
+    shut(rt, calls, timelines, &b);
     Ok(())
 }
 
@@ -53,4 +55,24 @@ fn rows(rt: &HostRuntime, calls: &mut Calls, timelines: &Timelines) {
         Err(refusal) => Err(refusal),
     };
     calls.tell(rt, "rows", &rows);
+}
+
+/// The reach after one more increment, before and after the timeline is closed. A closed one keeps its value, and is never
+/// incremented.
+fn shut(rt: &HostRuntime, calls: &mut Calls, timelines: &mut Timelines, timeline: &Name) {
+    raised(rt, calls, timelines, timeline);
+    calls.tell(rt, "shut", &timelines.shut(timeline));
+    calls.tell(rt, "shut", &timelines.shut(timeline));
+    calls.tell(rt, "inc", &timelines.inc(timeline, 1));
+    calls.tell(rt, "value", &timelines.value(timeline));
+    raised(rt, calls, timelines, timeline);
+}
+
+fn raised(rt: &HostRuntime, calls: &mut Calls, timelines: &Timelines, timeline: &Name) {
+    if let Some(ctx) = timelines.context(timeline) {
+        match timelines.reach().raised(ctx, 1) {
+            Some(reach) => calls.tell(rt, "raised", &reach.get(ctx)),
+            None => calls.tell(rt, "raised", &Refusal::Overflow),
+        }
+    }
 }
