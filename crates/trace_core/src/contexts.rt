@@ -63,7 +63,7 @@ impl Context {
     }
 }
 
-/// The contexts, by first sight but for gaps that forgotten ones leave.
+/// The contexts that are kept, each with what it did.
 #[derive(Drop)]
 pub struct Contexts {
     by_key: IndexMap<ContextKey, Context>,
@@ -79,7 +79,7 @@ impl Contexts {
         }
     }
 
-    /// What the context did.
+    /// What the context did, or `Context::NONE` if it was never seen or is forgotten.
     pub fn context(&self, key: &ContextKey) -> Context
         ensures { result ≡ context_at self.now key.now }
     {
@@ -89,7 +89,7 @@ impl Contexts {
         }
     }
 
-    /// The contexts with what they did, by first sight but for gaps that forgotten ones leave.
+    /// The contexts with what they did, by first sight, except that the last one takes the place of one that is forgotten.
     pub fn by_key(&self) -> &IndexMap<ContextKey, Context>
         ensures { result.now ≡ self.now.by_key }
     {

@@ -60,7 +60,7 @@ impl Delays {
 
     /// Counts a time.
     ///
-    /// Fails only with `Memory`.
+    /// Fails only with `Memory`; then the delays are not to be used further.
     pub fn add(&mut self, timeline: TimelineKey, time: u64) -> Result<(), Refusal>
         ensures memory { IfErr result (λ e. e ≡ Memory) }
     {
@@ -94,7 +94,7 @@ impl Delays {
         }
     }
 
-    /// The count, the percentiles and the longest of a timeline's times.
+    /// The count, the percentiles and the longest of a timeline's times; all are 0 if it has none.
     pub fn delay(&self, timeline: &TimelineKey) -> Delay {
         let span = self.span(timeline);
         Delay {

@@ -8,6 +8,9 @@ ghost use Rattle.trace_core.specs.Printing.{IsRecord};
 ghost use Rattle.trace_core.specs.Record.{Printed, record_of};
 
 /// A piece is read as a record exactly where it is one as the kernel prints it, and then as that record.
+///
+/// That the kernel prints so is trusted: `IsRecord` of `specs/Printing.antt` says how, and `tests/traces` has texts that kernels
+/// printed.
 pub fn records_as_printed()
     ensures read { (piece : List ℕ) → (r : Printed) → record_of piece ≡ Some r → IsRecord piece r }
     ensures printed { (piece : List ℕ) → (r : Printed) → IsRecord piece r → record_of piece ≡ Some r }

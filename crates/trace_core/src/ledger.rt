@@ -1,7 +1,7 @@
 //! `Ledger`: what the events of a trace say of its fences.
 //!
-//! After any steps the ledger equals the folds of `specs/History.antt` over them (`IsLedgerOf`). `see`, `lose` and `forget` each
-//! add one step; the tracker calls them in the order of the text.
+//! After any calls of `see`, `lose` and `forget`, which are its steps, the ledger equals the folds of `specs/History.antt` over
+//! them (`IsLedgerOf`). The tracker makes the calls in the order of the text.
 ghost use Rattle.std.specs.Prelude.{◌≡◌, List, [], ◌∷◌, true, false, OnOk, IfOk, IfErr};
 ghost use Rattle.point_core.specs.declared.refusal.Refusal.TheVariants.{Memory};
 ghost use Rattle.trace_core.specs.Contexts.{context_at};
@@ -115,7 +115,7 @@ impl Ledger {
                 .is_only(key.seqno)
     }
 
-    /// What is known of the key.
+    /// What is known of the key: `Life::UNBORN` if no fence of it is alive.
     pub fn life(&self, key: &FenceKey) -> Life
         ensures known { (steps : List Step) → IsLedgerOf self.now steps → result ≡ life_in steps key.now }
     {
@@ -137,7 +137,7 @@ impl Ledger {
         key.seqno == 0 && self.timeline(&key.timeline_key()).events.emit > 0
     }
 
-    /// What the timeline did.
+    /// What the timeline did; each count is 0 if no event of it was seen.
     pub fn timeline(&self, key: &TimelineKey) -> Tally
         ensures counted { (steps : List Step) → IsLedgerOf self.now steps →
             result ≡ tally_in (is_of_timeline key.now) steps }
@@ -145,7 +145,7 @@ impl Ledger {
         self.timelines.tally(key)
     }
 
-    /// What all fences did.
+    /// What all fences did, forgotten contexts included.
     pub fn total(&self) -> Tally
         ensures counted { (steps : List Step) → IsLedgerOf self.now steps → result ≡ tally_in every steps }
     {
@@ -159,14 +159,14 @@ impl Ledger {
         self.events
     }
 
-    /// The keys of fences that are alive.
+    /// The `Life` of each key that has fences alive. A key whose fences are all gone is not in it.
     pub fn lives(&self) -> &Lives
         ensures { result.now ≡ self.now.lives }
     {
         &self.lives
     }
 
-    /// The contexts, by first sight.
+    /// The contexts that are kept.
     pub fn contexts(&self) -> &Contexts
         ensures { result.now ≡ self.now.contexts }
     {

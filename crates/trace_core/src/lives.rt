@@ -31,7 +31,7 @@ impl Lives {
         }
     }
 
-    /// What is known of the key.
+    /// What is known of the key: `Life::UNBORN` if no fence of it is alive.
     pub fn life(&self, key: &FenceKey) -> Life
         ensures { result ≡ life_at self.now key.now }
     {

@@ -31,7 +31,7 @@ impl Names {
         }
     }
 
-    /// The name with this number, if a name has it.
+    /// The name with this number, if a name has it. Numbers are given from 0 on, by first sight.
     pub fn name(&self, number: u32) -> Option<&[u8]>
         ensures { option_map (λ n. n.now) result ≡ name_at self.now number }
     {

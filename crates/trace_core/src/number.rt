@@ -1,4 +1,4 @@
-//! Numbers of a line: decimal, of 32 or 64 bits, and times with decimals. A number that is too great is none.
+//! Numbers of a line: decimal, of 32 or 64 bits, and times with decimals. A number that is too great gives None.
 ghost use Rattle.std.specs.Prelude.{◌≡◌, ◌≤◌, ◌^◌, length, option_map, take, drop};
 ghost use Rattle.std.specs.List.{prefix_len};
 ghost use Rattle.std.specs.Char.{is_ascii_digit};
@@ -45,7 +45,7 @@ fn small_numeral(word: &[u8]) -> Option<u32>
     }
 }
 
-/// The number that the bytes begin with, and the rest.
+/// The number that the bytes begin with, and the rest. None if they begin with no digit, or the number has more than 32 bits.
 #[tactic(auto, unfolding(crate::specs::Number::number_at))]
 pub(crate) fn number_at(bytes: &[u8]) -> Option<(u32, &[u8])>
     ensures value { option_map (λ n. (n.0, n.1.now)) result ≡ number_at (2 ^ 32) bytes.now }
@@ -98,7 +98,8 @@ pub(crate) fn number_at_end<'a>(bytes: &'a [u8], text: &[u8]) -> Option<(&'a [u8
     Some((front, small_numeral(digits)?))
 }
 
-/// The time that the bytes begin with, in microseconds, and the rest: seconds with six decimals or more.
+/// The time that the bytes begin with, in microseconds, and the rest: seconds with six decimals or more (a clock in nanoseconds
+/// has nine). Decimals past the sixth are cut, and the rest begins after them. None for fewer, or if the time is too great.
 #[tactic(auto, unfolding(crate::specs::Number::time_at))]
 pub(crate) fn time_at(bytes: &[u8]) -> Option<(u64, &[u8])>
     ensures value { option_map (λ t. (t.0, t.1.now)) result ≡ time_at bytes.now }
@@ -125,7 +126,7 @@ fn microseconds(seconds: u64, part: u64) -> Option<u64>
     seconds.checked_mul(SECOND)?.checked_add(part)
 }
 
-/// The time in microseconds that the word spells: seconds, with up to six decimals after a point.
+/// The time in microseconds that the word spells: seconds, with up to six decimals after a point. None for any other word.
 #[tactic(auto, unfolding(crate::specs::Number::time_spelled))]
 pub(crate) fn time_spelled(word: &[u8]) -> Option<u64>
     ensures value { result ≡ time_spelled word.now }

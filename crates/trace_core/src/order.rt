@@ -18,7 +18,7 @@ pub struct Order {
     pub furthest: u32,
     /// The furthest on the circle of 32 bits.
     pub furthest_wrapped: u32,
-    /// How many events came before that one's signal.
+    /// How many events came before the signal of `furthest_wrapped`.
     pub at: u64,
     /// The last that was signalled.
     pub last: u32,

@@ -35,7 +35,7 @@ pub struct Pending {
     pub since: u64,
 }
 
-/// The fences that are pending, in the order of the ledger's keys.
+/// The fences that are pending, in no order, as `Lives::by_key` has them.
 pub fn pending_of(alloc: Global, ledger: &Ledger) -> Result<Vec<Pending>, Refusal>
     ensures pending { IfOk result (λ pending. (steps : List Step) → IsLedgerOf ledger.now steps →
         pending.items ≡ pending_among steps (keys_of ledger.now.lives.by_key.entries)) }

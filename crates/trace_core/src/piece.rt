@@ -61,7 +61,7 @@ fn begins_record(line: &[u8]) -> bool
     header_of(line).is_some()
 }
 
-/// The rest of a line that is too long.
+/// The rest of a line that is too long, or none if its line feed must be read first.
 pub(crate) fn rest_of_line(bytes: &[u8], whole: bool) -> Option<Piece<'_>>
     ensures unread { IfSome result (λ p. meaning_of p.item ≡ Unread) }
     ensures rest { IfSome result (λ p. IsRestOfLine bytes.now whole p.length) }

@@ -47,7 +47,8 @@ pub struct Summary {
     /// Lines that say that events were lost, and not how many.
     pub unnumbered_losses: u64,
     pub counts: Option<Counts>,
-    /// The processors that lack all events before some time, since their buffers started late.
+    /// The processors that lack all events before some time, since their buffers started late: the first `LATE_BUFFERS`, in the
+    /// order of the text.
     pub late_buffers: Vec<u32>,
     pub clock: Option<Clock>,
 }
@@ -72,7 +73,7 @@ impl Summary {
 
     /// Takes in a piece of the text.
     ///
-    /// Fails only with `Memory`.
+    /// Fails only with `Memory`; then the piece may be counted in part.
     pub fn take(&mut self, piece: &Piece<'_>) -> Result<(), Refusal>
         ensures memory { IfErr result (λ e. e ≡ Memory) }
     {

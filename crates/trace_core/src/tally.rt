@@ -1,4 +1,4 @@
-//! `Tally`: how often each thing was found of events. Each counter is a function of the `Finding`, so it is proved once.
+//! `Tally`: the number of events by finding. Each counter is a function of the `Finding`, so it is proved once.
 ghost use Rattle.std.specs.Prelude.{◌≡◌};
 ghost use Rattle.trace_core.specs.Tally.{counts_after, tally_after, count_if};
 

@@ -10,7 +10,7 @@ pub struct TaskName {
 }
 
 impl TaskName {
-    /// The name, cut to `TASK_BYTES` bytes.
+    /// The name, cut to `TASK_BYTES` bytes, and at a 0.
     pub fn new(name: &[u8]) -> TaskName {
         let mut bytes = [0; TASK_BYTES];
         for (place, byte) in name.iter().enumerate() {

@@ -29,7 +29,7 @@ impl Timelines {
         }
     }
 
-    /// What the timeline did.
+    /// What the timeline did; each count is 0 if no event of it was seen.
     pub fn tally(&self, key: &TimelineKey) -> Tally
         ensures { result ≡ tally_at self.now key.now }
     {

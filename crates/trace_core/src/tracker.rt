@@ -63,7 +63,7 @@ impl Tracker {
         }
     }
 
-    /// Takes in the next piece of the text. Answers the event, if the piece is the record of one.
+    /// Takes in the next piece of the text. Answers the event, or none if the piece is not the record of one.
     ///
     /// After `Memory` the tracker is not to be used further.
     pub fn take(&mut self, piece: &Piece<'_>) -> Result<Option<Seen>, Refusal>

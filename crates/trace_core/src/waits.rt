@@ -124,7 +124,9 @@ impl Waits {
         self.unsignalled
     }
 
-    /// Begins a wait, and answers it.
+    /// Begins a wait, and answers it, with a length of 0.
+    ///
+    /// Fails only with `Memory`, and then nothing has begun.
     pub fn start(&mut self, sighting: &Sighting, task: TaskName) -> Result<Wait, Refusal>
         ensures begun { IfOk result (IsWaitOf sighting.now) }
         ensures start { IfOk result (λ wait. wait.start ≡ sighting.now.time) }
@@ -145,7 +147,10 @@ impl Waits {
         Ok(wait)
     }
 
-    /// Ends a wait for a fence that is pending or not. Answers the wait, if its start was seen.
+    /// Ends a wait for a fence; if the fence `is_pending`, the wait counts as unsignalled. Answers the wait, or none if its start was
+    /// not seen: such an end only counts as one without a start.
+    ///
+    /// Fails only with `Memory`; then the wait has ended, but the sums may lack it.
     pub fn end(&mut self, sighting: &Sighting, is_pending: bool) -> Result<Option<Wait>, Refusal>
         ensures ended { IfOk result (λ wait. IfSome wait (IsWaitOf sighting.now)) }
         ensures memory { IfErr result (λ e. e ≡ Memory) }
