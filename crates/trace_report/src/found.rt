@@ -1,4 +1,5 @@
-//! `Found`: the fences that are pending at the end of a trace, grouped by timeline. `AreHangs` says that those that hang are exact.
+//! `Found`: the fences that are pending at the end of a trace, grouped by timeline. It is proved that `hangs` has exactly the fences
+//! that hang (`AreHangs`); the order, `unknown` and `unnumbered` are tested (`tests/traces`). `report_trace` makes it.
 ghost use Rattle.std.specs.Prelude.{◌≡◌, ◌++◌, [], ◌∷◌, List, map, IfOk, IfErr, OnOk};
 ghost use Rattle.std.specs.List.{filter};
 ghost use Rattle.std.specs.List.Sorted.{IsPermutation};
@@ -51,7 +52,7 @@ impl Found {
     }
 }
 
-/// Adds each fence to the list that its kind belongs to. Gives how many fences have no number yet.
+/// Adds each fence to the list that its kind belongs to. Answers how many fences have no number yet.
 fn split(
     pending: &[Pending],
     hangs: &mut Vec<Pending>,
@@ -68,7 +69,7 @@ fn split(
     Ok(unnumbered)
 }
 
-/// Adds a fence that has a number. Gives whether it has.
+/// Adds the fence to the list of its kind, and answers true. A fence without a number has no list: it answers false.
 fn put(
     fence: &Pending,
     hangs: &mut Vec<Pending>,
@@ -90,7 +91,8 @@ fn push(list: &mut Vec<Pending>, fence: &Pending) -> Result<bool, AllocError>
     Ok(true)
 }
 
-/// Groups the pending fences by timeline, in creation order.
+/// Groups the pending fences by timeline: the timelines by their first fence, and the fences of each by their making. No clause says
+/// the order; tests compare it.
 fn ordered(alloc: Global, pending: Vec<Pending>) -> Result<Vec<Listed>, AllocError>
     ensures same { IfOk result (λ v. IsPermutation (map key_of pending.items) (map listed_key v.items)) }
 {

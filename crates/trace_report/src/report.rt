@@ -42,7 +42,7 @@ pub enum Outcome {
 /// Reads a trace to its end, and writes the report.
 ///
 /// Fails with `Read` or `Write` if the reader or the writer fails, and with `Memory`. After `Write` a prefix of the report may have
-/// been written.
+/// been written; after `Read` and `Memory` nothing was. A text of more pieces than 64 bits count is refused with `Read`.
 pub fn report_trace<R: Read, W: Write>(
     alloc: Global,
     form: Form,

@@ -32,7 +32,7 @@ impl Timelines {
         Ok(timelines)
     }
 
-    /// How many fences of the timeline are pending.
+    /// How many fences of the timeline are pending, without fences that have no number yet.
     pub(crate) fn pending(&self, timeline: &TimelineKey) -> u64 {
         match self.pending.get(timeline) {
             Some(count) => *count,

@@ -24,7 +24,7 @@ pub(crate) struct Fence {
     pub(crate) key: FenceKey,
     /// The place of its timeline.
     pub(crate) timeline: usize,
-    /// Its point there, or 0 where it was not signalled.
+    /// Its point there, from 1; 0 while it is not signalled, until `number_the_rest`.
     pub(crate) point: u64,
 }
 

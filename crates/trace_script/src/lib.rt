@@ -1,6 +1,7 @@
 //! A trace as a script: its fences are made, signalled and closed as they were in the kernel, within a window of time.
 //!
-//! At the script's end the fences that are pending are those at the end of the window. `fencectl trace --script` calls it.
+//! The files that are pending at the script's end are the fences that are pending at the end of the window; this is tested, not
+//! proved. `fencectl trace --script` calls it.
 #![tactic(auto)]
 
 mod acts;

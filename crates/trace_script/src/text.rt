@@ -1,7 +1,8 @@
 //! A script of a trace: reads the window, then writes what happened in it, line by line.
 //!
-//! The script is text, since it is what a user saves and runs; `ScriptsTrace` says when there is one, and that it has only lines
-//! of known forms and is within the limit of scripts. `fencectl trace --script` and `--draw` call it.
+//! The script is text, since it is what a user saves and runs. `ScriptsTrace` says only that it has lines of known forms and is
+//! within the limit of scripts, unless the text has no events; which lines it has is tested. `fencectl trace --script` and
+//! `--draw` call it.
 ghost use Rattle.std.specs.Prelude.{◌≡◌, ◌≤◌, ◌⊎◌, ◌||◌, [], false, length, nat_lt, IfOk, IfErr, IfSome, OnOk};
 ghost use Rattle.line_core.specs.declared.script.TheConstants.{SCRIPT_BYTES};
 ghost use Rattle.point_core.specs.declared.context.TheConstants.{CONTEXTS};
@@ -28,15 +29,19 @@ pub enum Scripted {
     Script(Vec<u8>),
     /// The text has no event of a fence up to the end of the window.
     NoEvents,
-    /// The window has more timelines, files at a time or bytes than a script may have.
+    /// The window has more timelines, files at a time, acts or bytes than a script may have, or a file whose name none may have.
     TooLong,
 }
 
 /// Reads a trace up to the end of a window, and gives what happened in the window as a script.
 ///
-/// A timeline of the script is all timelines of one name. Its points number the fences: signalled ones first, in the order of
-/// their signals, then the others. A file is a fence, and is closed when the fence was destroyed. Fences that are pending when
-/// the window begins are made first. So each line is accepted, and a file is pending at the end exactly if its fence is.
+/// A timeline of the script is all timelines of one driver and name. Its points number the fences from 1: signalled ones first, in
+/// the order of their signals, then the others. A file is a fence, and is closed when the fence was destroyed. Fences that are
+/// pending when the window begins are made first, and a fence that its driver has not numbered is left out.
+///
+/// So each line should be accepted, and a file be pending at the end exactly if its fence is. No clause says so: tests run the
+/// scripts of traces and compare what is pending (`tests/topics/traces`). The contract has only the form of each line and the
+/// script's length.
 ///
 /// Fails with `Read` if the reader fails, and with `Memory`. A text of more pieces than 64 bits count is refused with `Read`.
 pub fn script_of_trace<R: Read>(

@@ -57,6 +57,8 @@ impl Page {
     }
 
     /// Writes what is held where it is a block.
+    ///
+    /// After a failure a prefix was written, and all is still held.
     pub(crate) fn write_block<W: Write>(&mut self, writer: &mut W) -> Result<(), Refusal>
         ensures refusals { IfErr result (λ e. e ≡ WriteFault) }
         ensures passed { OnOk result (Passes self.old.held.items self.new.held.items
@@ -70,6 +72,8 @@ impl Page {
     }
 
     /// Writes what is held.
+    ///
+    /// Fails as `write_block`.
     pub(crate) fn write<W: Write>(&mut self, writer: &mut W) -> Result<(), Refusal>
         ensures refusals { IfErr result (λ e. e ≡ WriteFault) }
         ensures written { OnOk result (Appends (W.contents writer.old) (W.contents writer.new) self.old.held.items) }

@@ -82,7 +82,8 @@ impl Rows {
         }
     }
 
-    /// A row of the track on which each slice ended before `begin`: the one that was left last, or a new one if there is none.
+    /// A row of the track on which each slice ended before `begin`: the one that was left last, or a new one if there is none. That no
+    /// slices of a row overlap is tested, not proved.
     pub(crate) fn place(&mut self, track: Track, begin: u64, end: u64) -> Result<Place, AllocError>
         ensures process { IfOk result (λ place. place.row.process ≡ process_of track) }
     {
