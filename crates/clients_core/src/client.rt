@@ -31,7 +31,7 @@ pub(crate) struct Shared<'a, R, T, G> {
     pub gate: &'a G,
 }
 
-/// The acts of a client's plan, in order, each between the gate's two calls.
+/// The acts of a client's plan, in order, each between the gate's two calls. `client` is its number, from 1.
 ///
 /// Ends at the first act that is refused: with `TimedOut` if the gate gave up, with `Torn` or with `Memory`.
 pub(crate) fn act_all<R: Wait, T: SharedTable, G: Gate>(

@@ -105,8 +105,8 @@ impl Tops {
         put_at(&mut self.bookkeep, Usage::Bookkeep, entry);
     }
 
-    /// The points above the reach, from the strongest usage to the weakest, by rising context. The tables must have begun at this
-    /// reach or a lower one.
+    /// The points above the reach, from the strongest usage to the weakest, by rising context. Nothing is promised of tables that
+    /// began at a higher reach, since they lack the points up to it. The room of all rows is allocated first, so no push can fail.
     pub fn rows(&self, alloc: Global, reach: &Reach) -> Result<Vec<TopRow>, Refusal>
         ensures rows { (es : List Entry) → AreTops self.now reach.now es →
             IfOk result (λ rows. rows.items ≡ rows_of es reach.now) }
