@@ -1,5 +1,6 @@
-//! The command of each call, from its arguments, or the refusal for a bad argument. `lib.rt` calls one function for each
-//! export.
+//! The command of each call, from its arguments, or the refusal for the first bad one: Syntax for a name, Flags for a
+//! usage's number. `lib.rt` calls one function for each export. Each is inlined, as `reserve` and `keep` are, so that no
+//! command is stored as a whole (`NOTES.md`).
 ghost use Rattle.std.specs.Prelude.{◌≡◌, ok_or};
 ghost use Rattle.c_desk.specs.Commands.{name_of, usage_of, timeline_command, inc_command, shut_command, value_command, fence_command, merge_command, close_command, wait_command, info_command, buffer_command, add_command, import_command, export_command, test_command, trim_command, show_command, watch_command};
 

@@ -1,7 +1,8 @@
 //! The device for C programs: one export for each request, one that takes the files that were woken, and queries
 //! that change nothing. `bimphlai-run` serves its processes with it.
 //!
-//! `include/bimphlai.h` has the signatures. A name is a pointer and a length.
+//! `include/bimphlai.h` has the signatures. A name is a pointer and a length. A request or a query returns 0 or Linux's errno:
+//! EBADF for a closed handle, EINVAL for a number of no usage, and then `device_core`'s. A refused one stores nothing.
 #![tactic(auto)]
 
 ghost use Rattle.std.specs.Prelude.{◌≡◌, false, IfErr, OnOk, OnErr, Ok, ⊤};
@@ -208,7 +209,7 @@ pub extern "C" fn bim_device_export(
     number(&given)
 }
 
-/// `DMA_BUF_IOCTL_IMPORT_SYNC_FILE`.
+/// `DMA_BUF_IOCTL_IMPORT_SYNC_FILE`: puts the pending fences of a file into a buffer. The file stays open.
 #[unsafe(no_mangle)]
 pub extern "C" fn bim_device_import(
     device: &mut DeviceHandle,
@@ -296,8 +297,8 @@ pub extern "C" fn bim_device_fence_of(
     number(&found)
 }
 
-/// Takes files that were woken and are still open, in order, as many as there is room for, and returns how many. A
-/// closed handle has none.
+/// Takes files that were woken and are still open, in the order of waking (by rising number in one request), as many as
+/// there is room for, and returns how many. A closed handle has none.
 #[unsafe(no_mangle)]
 pub extern "C" fn bim_device_take_woken(device: &mut DeviceHandle, files: &mut [u64]) -> usize
     ensures { IsTaking device.old device.new files.old files.new result }

@@ -37,7 +37,7 @@ pub struct CPoint {
     pub is_pending: i32,
 }
 
-/// Stores rows, as many as there is room for.
+/// Stores rows, as many as there is room for. Rows past the last fence keep what they had.
 pub fn put(fences: &[FenceInfo], rows: &mut [CFenceInfo])
     ensures { rows.new ≡ over (map c_fence_info fences.now) rows.old }
 {
@@ -46,6 +46,7 @@ pub fn put(fences: &[FenceInfo], rows: &mut [CFenceInfo])
     }
 }
 
+/// The fence's timeline, its point of 64 bits, and 1 while it is pending, else 0.
 #[inline(always)]
 pub fn c_point(fence: &Fence) -> CPoint
     ensures { result ≡ c_point fence.now }

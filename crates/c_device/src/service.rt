@@ -46,7 +46,8 @@ impl Service {
         }
     }
 
-    /// The answer to one request, as `Device::serve`. The files that it wakes are queued.
+    /// The answer to one request, as `Device::serve`. The files that it wakes are queued. `NoMemory` may also come from the
+    /// queue; nothing has changed then.
     #[inline(always)]
     pub fn step(&mut self, request: Request) -> Result<Reply, Errno>
         ensures { IsStep self.old self.new request result }
@@ -83,7 +84,8 @@ impl Service {
         self.device.fence_of(file, index)
     }
 
-    /// Takes files that were woken and are still open, in order, as many as there is room for, and returns how many.
+    /// Takes files that were woken and are still open, in the order of waking (by rising number in one request), as many as
+    /// there is room for, and returns how many.
     pub fn take(&mut self, files: &mut [u64]) -> usize
         ensures count { result ≡ min (length files.old) (length self.old.woken) }
         ensures taken { files.new ≡ over self.old.woken files.old }
