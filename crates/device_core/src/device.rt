@@ -372,21 +372,21 @@ impl Device {
         self.files.len()
     }
 
-    /// Whether a file has that number.
+    /// Whether an open file has that number.
     pub fn is_file(&self, number: u64) -> bool
         ensures { result ≡ is_some (file_at self.now number) }
     {
         self.files.contains_key(&number)
     }
 
-    /// Whether a timeline has that number.
+    /// Whether an open timeline has that number.
     pub fn is_timeline(&self, number: u64) -> bool
         ensures { result ≡ is_some (timeline_at self.now number) }
     {
         self.timelines.contains_key(&number)
     }
 
-    /// The value of a timeline.
+    /// The value of an open timeline.
     ///
     /// Fails with `NoEntry`, or with `WrongKind` at a file or a buffer. Takes no memory.
     pub fn value(&self, timeline: u64) -> Result<u64, Errno>

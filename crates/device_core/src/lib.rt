@@ -1,5 +1,5 @@
-//! Fences by number, with the lifetimes of the kernel's: timelines, sync files and buffers have numbers that rise and
-//! are never reused, and memory follows what is alive. `bimphlai-run` and the C library serve their calls with it.
+//! Fences by number, with the kernel's lifetimes: timelines, sync files and buffers have numbers that rise and are never
+//! reused, and memory follows what is alive. `bimphlai-run` and the C library serve their calls with it.
 #![tactic(auto)]
 
 mod buffer;

@@ -10,7 +10,7 @@ use crate::waiting_files::WaitingFiles;
 use std::collections::HashMap;
 
 /// Signals the pending fences of a timeline up to the value, in each file. Only the files that wait there are looked
-/// at.
+/// at: the index is searched by its order.
 pub(crate) fn signal_due(
     waiting: &mut WaitingFiles,
     files: &mut HashMap<u64, File>,
