@@ -79,7 +79,8 @@ impl Model for Report {
 }
 
 impl Report {
-    /// The number of rows: one for each timeline, file and buffer, and the rows of each buffer's table.
+    /// The number of rows: one for each timeline, file and buffer, and the rows of each buffer's table. Lengths of 64 bits
+    /// add up to more, so it has 128.
     pub fn row_count(&self) -> u128
         ensures { result ≡ row_count self.now }
     {

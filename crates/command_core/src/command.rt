@@ -90,7 +90,7 @@ impl Command {
         }
     }
 
-    /// The name that it makes, if it is accepted.
+    /// The name that it makes, if it is accepted. None for a command that makes no object; a watch has no name.
     pub fn made(&self) -> Option<(Space, Name)>
         ensures { result ≡ made_by self.now }
     {
@@ -104,7 +104,7 @@ impl Command {
         }
     }
 
-    /// The name that it closes, if it is accepted. A file's name is free again; a timeline keeps its name.
+    /// The name that it closes, if it is accepted, or none. A file's name is free again; a timeline keeps its name.
     pub fn closed(&self) -> Option<(Space, Name)>
         ensures { result ≡ closed_by self.now }
     {
@@ -115,7 +115,8 @@ impl Command {
         }
     }
 
-    /// The names that it looks up, in the order in which they are reported as missing.
+    /// The names that it looks up, in the order in which they are reported as missing. None in place of a name that it
+    /// doesn't have.
     pub fn looked_up(&self) -> [Option<(Space, Name)>; 2]
         ensures { result ≡ looked_up_by self.now }
     {
@@ -149,7 +150,7 @@ impl Command {
         }
     }
 
-    /// The timeline that must be open for it.
+    /// The timeline that must be open for it, or none: the other commands accept a closed timeline too.
     pub fn needs_open(&self) -> Option<Name>
         ensures { result ≡ needed_open_by self.now }
     {

@@ -26,7 +26,7 @@ const DRIVER_BYTES: usize = 7;
 /// The bytes of the answer `ok`, with its line feed.
 const DONE_BYTES: usize = 3;
 
-/// Appends the text of the answer of line `line` to `out`.
+/// Appends the text of the answer of line `line` to `out`. Only a refusal shows the line's number, which counts from 1.
 ///
 /// Fails only with Memory, and then leaves `out` as it was.
 pub fn print(line: u32, answer: &Answer, out: &mut Vec<u8>) -> Result<(), Refusal>

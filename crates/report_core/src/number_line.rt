@@ -1,4 +1,4 @@
-//! A line of a word and a number, as `ok 5` and `fired 7`.
+//! A line of a word and a number, such as `ok 5` and `fired 7`.
 ghost use Rattle.std.specs.Prelude.{◌≡◌, ◌++◌, ◌+◌, ◌≤◌, ◌∷◌, [], OnOk, OnErr, Err, decimal, length};
 ghost use Rattle.std.specs.Prelude.{vec_len, vec_capacity};
 ghost use Rattle.point_core.specs.declared.refusal.Refusal.TheVariants.{Memory};

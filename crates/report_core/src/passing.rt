@@ -21,7 +21,7 @@ use std::io::Write;
 /// is appended by its timelines, file by file and buffer by buffer, and is never stored as a whole.
 ///
 /// Fails with Write if a write failed or took no byte, and with Memory if an allocation failed: then a prefix of the
-/// pending output and of the text is written.
+/// pending output and of the text is written, and `out` is unspecified.
 #[inline(always)]
 pub fn pass_answer<W: Write>(
     line: u32,

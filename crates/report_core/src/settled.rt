@@ -24,6 +24,7 @@ pub fn settled_text(settled: &Settled, out: &mut Vec<u8>) -> Result<(), Refusal>
     Ok(())
 }
 
+/// Appends the rows of the clients' timelines, as `settled_text` names them.
 fn push_clients(out: &mut Vec<u8>, values: &[u64]) -> Result<(), Refusal>
     ensures ok { OnOk result (out.new.items ≡ out.old.items ++ flat_map client_text (enumerate_from 1 values.now)) }
     ensures err { OnErr result ((result ≡ Err Memory) × StartsWith out.new.items out.old.items) }

@@ -29,9 +29,9 @@ pub fn write_whole<W: Write>(writer: &mut W, bytes: &[u8]) -> Result<(), Refusal
     Ok(())
 }
 
-/// Writes the output if it is long enough, and clears it.
+/// Writes the output if it has `WRITE_BYTES` or more, and clears it.
 ///
-/// Fails as `write_whole`.
+/// Fails as `write_whole`; the output then still has all of its bytes, of which a prefix was written.
 #[inline(always)]
 pub fn write_many<W: Write>(writer: &mut W, out: &mut Vec<u8>) -> Result<(), Refusal>
     ensures ok { OnOk result ((written : List ℕ) × (out.old.items ≡ written ++ out.new.items)
@@ -45,9 +45,9 @@ pub fn write_many<W: Write>(writer: &mut W, out: &mut Vec<u8>) -> Result<(), Ref
     Ok(())
 }
 
-/// Writes the output, and clears it.
+/// Writes the output, and clears it. Without output there is no write.
 ///
-/// Fails as `write_whole`.
+/// Fails as `write_many`.
 #[inline(never)]
 pub fn write_out<W: Write>(writer: &mut W, out: &mut Vec<u8>) -> Result<(), Refusal>
     ensures ok { OnOk result ((written : List ℕ) × (out.old.items ≡ written ++ out.new.items)
