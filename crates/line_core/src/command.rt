@@ -1,4 +1,7 @@
-//! Parses a command line: one `take_*` function per command.
+//! Parses a command line: one `take_*` function per command, which gives its command to the visitor. If the words don't fit
+//! the command's row, it answers none and does nothing.
+//!
+//! None of them is inlined: each contains the visitor's use of its command (`NOTES.md`), and the loop over lines would contain all.
 ghost use Rattle.std.specs.Prelude.{◌≡◌, None, Some, if◌then◌else◌, option_map};
 ghost use Rattle.line_core.specs.Following.{one_name, one_number, name_and_number, two_names_and_number};
 ghost use Rattle.line_core.specs.Following.{three_names, two_names_number_and_usage, two_names_and_flags, name_and_usage};

@@ -1,5 +1,5 @@
 //! `LineCutter`: cuts a script into lines as its bytes arrive, in constant memory. `ScriptLines` keeps in it the line
-//! that spans two blocks; callers feed it byte by byte.
+//! that spans two blocks, which it adds in parts. Users of the library feed it byte by byte; no program here does.
 ghost use Rattle.std.specs.Prelude.{◌≡◌, ◌+◌, ◌^◌, ◌<◌, ◌≤◌, ◌==◌, [], length};
 
 use crate::line::{LINE_BYTES, Line};
@@ -46,7 +46,7 @@ impl LineCutter {
         }
     }
 
-    /// The number of the line that is held.
+    /// The number of the line that is held, even if it has no bytes yet.
     pub fn number(&self) -> u32
         ensures number { result ≡ self.now.number }
     {
@@ -55,6 +55,8 @@ impl LineCutter {
 
     /// Takes one byte of the script. A line feed returns the line that was held, or none if it has no answer, and
     /// begins the next line. Any other byte is appended to the line, and returns none.
+    ///
+    /// For users of the library; no program here calls it.
     pub fn feed(&mut self, byte: u8) -> Option<Line>
         requires few { self.old.number ≤ SCRIPT_BYTES }
         ensures line { result ≡ line_at self.old byte }
@@ -69,7 +71,8 @@ impl LineCutter {
         line
     }
 
-    /// Ends the script: returns the line that was held, or none if it has no answer.
+    /// Ends the script: returns the line that was held, or none if it has no answer. For users of the library; no program
+    /// here calls it.
     pub fn end(self) -> Option<Line>
         ensures line { result ≡ line_of self }
     {
