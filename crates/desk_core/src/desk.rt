@@ -271,6 +271,7 @@ impl Desk {
         Ok((value, Items::of(fired)))
     }
 
+    // For the command. Callers of the crate ask `timeline_value`, which answers none where this fails with NoEntry.
     fn value(&self, name: &Name) -> Result<u64, Refusal>
         ensures refused { IsRefusedFor (cause_of self.now (Command.Value name.now)) result }
         ensures sure { IfErr result (λ e. e ≢ Refusal.Memory) }

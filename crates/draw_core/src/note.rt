@@ -7,7 +7,7 @@ use line_core::{Body, RawLine};
 use point_core::Refusal;
 use report_core::print;
 
-/// The most bytes of an answer in a note. A longer answer is cut.
+/// The most bytes of a line and its answer in a note. A longer text is cut there, and ends with `...`.
 const NOTE_BYTES: usize = 2048;
 
 /// Explains refused lines in the notes of a picture. It sees every line of the run in order, so it may remember which line

@@ -55,7 +55,7 @@ fn push_start(picture: &Picture, out: &mut Vec<u8>) -> Result<(), AllocError> {
     push_parts(out, &[Part::Text(style())])
 }
 
-/// The area of a column, over which its note shows.
+/// The area of a column, over which its note shows. The note is escaped, but for its line feeds.
 fn push_note(
     picture: &Picture,
     area: &ColumnArea,

@@ -207,7 +207,7 @@ impl FileSlots {
 }
 
 impl NumberedFile {
-    // A new slot, not a reused one.
+    // A new slot, for when none is left to reuse: empty, at number 0, until `take_up` fills it. Does not allocate.
     fn blank(alloc: Global, name: Name) -> NumberedFile {
         NumberedFile {
             file: SyncFile::blank(alloc, name),

@@ -145,6 +145,8 @@ impl Timelines {
     /// pending points are cancelled: each point of it is reached from now on.
     ///
     /// Fails with `NoEntry`, and with `Cancelled` if it is closed already; then nothing has changed. Takes no memory.
+    ///
+    /// For users of the library; no program here calls it: the desk calls `current` and `close`.
     pub fn shut(&mut self, name: &Name) -> Result<u64, Refusal>
         ensures value { IfOk result (λ v. v ≡ value_of self.old name.now) }
         ensures shut { OnOk result (self.new ≡ shut self.old name.now) }
