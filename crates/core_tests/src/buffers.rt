@@ -18,7 +18,7 @@ fn create_of_each_context(rt: &impl Abort, files: &mut Files) {
     }
 }
 
-/// Merges the files of all contexts into the file `all`.
+/// Merges the files of all contexts into the file `all`. At a reach of 0 it keeps every point. A refusal aborts.
 fn merge_all(rt: &impl Abort, alloc: Global, files: &mut Files) {
     let mut names = Vec::new(alloc);
     for index in 0..CONTEXTS {

@@ -152,7 +152,7 @@ fn puts_of(table: OddTable) -> Vec<Entry> {
     puts.into_inner()
 }
 
-/// Checks that the table of two clients has recorded the puts of both.
+/// Checks that a table which records its puts has recorded both, of the two clients of `plans_of_two`.
 fn check_recorded<R: Threads + Wait + Abort + Sync>(rt: &R, alloc: Global, plans: &[Plan]) {
     let (_, table) = run_clients::<R, OddTable, OpenGate>(rt, alloc, 1, plans, &OpenGate).expect(
         rt,
