@@ -22,6 +22,7 @@ pub enum Event {
 }
 
 /// The event that an event's text begins with, and the fields after its name. Blanks and `dma_fence:` may precede the name.
+/// None for any other text.
 #[tactic(auto, unfolding(crate::specs::Event::event_at))]
 pub(crate) fn event_at(text: &[u8]) -> Option<(Event, &[u8])>
     ensures event { option_map (λ e. (e.0, e.1.now)) result ≡ event_at text.now }

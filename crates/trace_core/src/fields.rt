@@ -15,7 +15,7 @@ pub(crate) struct Fields<'a> {
 }
 
 /// `driver=D timeline=T context=N seqno=N`: the driver's name goes up to the first ` timeline=`, and the timeline's up to the
-/// last ` context=`.
+/// last ` context=`. None for any other text, and if a number has more than 32 bits.
 #[tactic(auto, unfolding(crate::specs::Fields::fields_of))]
 pub(crate) fn fields_of(text: &[u8]) -> Option<Fields<'_>>
     ensures fields { option_map fields_from result ≡ fields_of text.now }

@@ -9,6 +9,7 @@ use crate::steps::{after, after_blanks, is};
 
 /// `CPU:n [LOST m EVENTS]` or `CPU:n [LOST EVENTS]`, or in a report of `trace-cmd` `CPU:n [m EVENTS DROPPED]` or
 /// `CPU:n [EVENTS DROPPED]`.
+/// Answers the processor, and m where the line has it. None for any other line.
 #[tactic(auto, unfolding(crate::specs::Loss::lost))]
 pub(crate) fn lost(line: &[u8]) -> Option<(u32, Option<u64>)>
     ensures lost { result ≡ lost line.now }
