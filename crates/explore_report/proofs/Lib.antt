@@ -1,6 +1,5 @@
 mod Exploring
 mod Marks
 mod Mistakes
-mod Notes
 mod Readings
 mod Rows

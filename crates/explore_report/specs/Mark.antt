@@ -3,13 +3,14 @@ use Rattle.std.specs.Prelude.{ℕ, ◌==◌, length, Bool, false, is_some, if◌
 use Rattle.std.specs.Char.{is_ascii_alphabetic}
 use Rattle.std.specs.Str.{bytes_eq}
 use Rattle.line_core.specs.Following.{is_name}
+use Rattle.line_core.specs.Fronts.{drop_spaces, strip_prefix}
 use Rattle.line_core.specs.Line.{body_of}
 use Rattle.line_core.specs.declared.line.Body.{Body}
 use Rattle.line_core.specs.declared.line.Body.TheVariants.{Cmd, Bad}
 use Rattle.explore_report.specs.declared.cause.Cause.TheVariants as cause
 use Rattle.explore_report.specs.declared.mark.Mark.{Mark}
 use Rattle.explore_report.specs.declared.mark.Mark.TheVariants as mark
-use Rattle.explore_report.specs.Words.{drop_spaces, first_word, strip_prefix, words_after}
+use Rattle.explore_report.specs.Words.{first_word, words_after}
 
 -- a letter follows the first byte
 abbrev pub begins_directive : List ℕ → Bool

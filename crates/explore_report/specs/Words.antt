@@ -1,15 +1,7 @@
 -- The words of a note.
-use Rattle.std.specs.Prelude.{ℕ, nat_eq, if◌then◌else◌, List, [], ◌∷◌, length, take, drop, Option, None, Some, position, unwrap_or}
-use Rattle.std.specs.List.{starts_with}
+use Rattle.std.specs.Prelude.{ℕ, List, length, take, drop, position, unwrap_or}
+use Rattle.line_core.specs.Fronts.{drop_spaces}
 use Rattle.line_core.specs.Words.{is_space}
-
-abbrev pub drop_spaces : List ℕ → List ℕ
-drop_spaces [] = []
-drop_spaces (b ∷ bytes) = if is_space b then drop_spaces bytes else b ∷ bytes
-
--- what follows that front
-abbrev pub strip_prefix : List ℕ → List ℕ → Option (List ℕ)
-strip_prefix bytes front = if starts_with nat_eq bytes front then Some (drop (length front) bytes) else None
 
 -- the number of bytes before the first space
 abbrev pub word_length : List ℕ → ℕ

@@ -1,7 +1,7 @@
 //! Whether an answer is as a plan expects it. `case.rt` asks for each answer of each line.
 use crate::plan_script::PlanScript;
 use crate::row::Row;
-use crate::words::strip_prefix;
+use line_core::strip_prefix;
 
 /// What is wrong with an answer.
 #[derive(Clone, Copy, Debug, PartialEq, Eq)]

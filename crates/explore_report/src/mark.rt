@@ -5,9 +5,9 @@ ghost use Rattle.explore_report.specs.Rows.{command_said};
 ghost use Rattle.explore_report.specs.Mark.{after_mark, alone, begins_directive, client_mark, client_named, directive_of, expected_text, mark_of, mark_of_body, note_of};
 
 use crate::cause::Cause;
-use crate::words::{first_word, strip_prefix, without_spaces, words_after};
+use crate::words::{first_word, words_after};
 use command_core::Command;
-use line_core::{Body, body_of};
+use line_core::{Body, body_of, strip_prefix, without_spaces};
 use point_core::Name;
 
 /// What a line says to the reader of a plan.
@@ -21,7 +21,7 @@ pub enum Mark {
     Await,
     /// `#= TEXT`: a line of the answer that is expected of the line above.
     Expected,
-    /// `#| TEXT`: the first line of another answer that is all right.
+    /// `#| TEXT`: the first line of another right answer.
     OrExpected,
     Command(Command),
     /// Nothing that a plan may have.

@@ -1,4 +1,4 @@
-//! `Mistake`: the first line of a script for which it is no plan, and why. `PlanScript::read` looks for one.
+//! `Mistake`: the first line that makes a script no plan, and why. `PlanScript::read` looks for one.
 ghost use Rattle.std.specs.Prelude.{◌≡◌, All, IfSome, MatchOption};
 ghost use Rattle.explore_report.specs.Mistake.{IsAwaiting, IsMisplaced, IsMissing, IsMistake, IsPastLimit, IsPlaced, IsTaken, await_cause, cause_of, client_cause, command_cause, expected_cause, finally_cause, has_client, has_some_client};
 
@@ -9,7 +9,7 @@ use crate::row::Row;
 use command_core::Command;
 use point_core::Name;
 
-/// The line for which a script is no plan, and why.
+/// The first line that makes a script no plan, and why.
 #[derive(Clone, Copy, Debug)]
 pub struct Mistake {
     /// The line's number, from 1.

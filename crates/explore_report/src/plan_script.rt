@@ -11,10 +11,10 @@ use crate::mark::{Mark, expected_text};
 use crate::mistake::{Mistake, mistake_of};
 use crate::row::{Row, rows_of};
 use crate::sections::plan_of;
-use crate::words::{without_last_spaces, without_spaces};
+use crate::words::without_last_spaces;
 use command_core::Command;
 use explore_core::{Found, Plan, explore};
-use line_core::{SCRIPT_BYTES, first_line};
+use line_core::{SCRIPT_BYTES, first_line, without_spaces};
 use point_core::Refusal;
 use std::alloc::{AllocError, Global};
 

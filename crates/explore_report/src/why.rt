@@ -1,5 +1,5 @@
-//! Why a client waits: what the desk refuses. The text of a report and its JSON say it of each client of a schedule that gets
-//! stuck.
+//! Why a client waits: what the desk refuses. The text of a report and its JSON say why for each client of a schedule that
+//! gets stuck.
 use crate::page::Page;
 use command_core::{Answer, Command};
 use desk_core::Desk;

@@ -1,30 +1,9 @@
 //! The words of a note: its first one, and what follows it. `mark.rt` calls these.
-ghost use Rattle.std.specs.Prelude.{◌≡◌, not, option_map, position};
+ghost use Rattle.std.specs.Prelude.{◌≡◌, position};
 ghost use Rattle.line_core.specs.Words.{is_space};
-ghost use Rattle.explore_report.specs.Words.{drop_spaces, first_word, strip_prefix, words_after};
+ghost use Rattle.explore_report.specs.Words.{first_word, words_after};
 
-/// What follows that front, if the bytes begin with it.
-pub(crate) fn strip_prefix<'a>(bytes: &'a [u8], front: &[u8]) -> Option<&'a [u8]>
-    ensures rest { option_map (λ r. r.now) result ≡ strip_prefix bytes.now front.now }
-{
-    bytes.strip_prefix(front)
-}
-
-/// What follows the spaces that a line begins with.
-pub(crate) fn without_spaces(line: &[u8]) -> &[u8]
-    ensures rest { result.now ≡ drop_spaces line.now }
-{
-    match first_other_than_space(line) {
-        Some(start) => &line[start..],
-        None => &[],
-    }
-}
-
-fn first_other_than_space(line: &[u8]) -> Option<usize>
-    ensures place { result ≡ position (λ b. not (is_space b)) line.now }
-{
-    line.iter().position(|byte| *byte != b' ')
-}
+use line_core::without_spaces;
 
 fn first_space(bytes: &[u8]) -> Option<usize>
     ensures place { result ≡ position is_space bytes.now }
