@@ -1,7 +1,11 @@
+pub mod Cases
 pub mod Context
+pub mod Finding
+pub mod Making
 pub mod Mark
 pub mod Mistake
 pub mod Plan
 pub mod Reading
+pub mod Report
 pub mod Rows
 pub mod Words

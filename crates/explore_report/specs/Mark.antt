@@ -27,16 +27,29 @@ abbrev pub client_mark : List ℕ → Mark
 client_mark words = if length (words_after words) == 0 then client_named (first_word words) else mark.Wrong cause.NoName
 
 -- that mark, if no word follows
-abbrev pub alone : List ℕ → Mark → Mark
-alone [] said = said
-alone (b ∷ words) said = mark.Wrong cause.WordFollows
+abbrev pub without_words : List ℕ → Mark → Mark
+without_words [] said = said
+without_words (b ∷ words) said = mark.Wrong cause.WordFollows
+
+-- the words would be a directive directly behind a `#`
+abbrev pub is_directive : List ℕ → List ℕ → Bool
+is_directive word words =
+    if bytes_eq word (codes "client") then length (words_after words) == 0
+    else if bytes_eq word (codes "finally") then length words == 0
+    else if bytes_eq word (codes "await") then length words == 0
+    else false
+
+-- a note with a blank behind its `#` says nothing, unless it reads as a directive
+abbrev pub blank_note : List ℕ → Option Mark
+blank_note words = if is_directive (first_word words) (words_after words) then Some (mark.Wrong cause.BlankFollows) else None
 
 -- by the first word of a note, and what follows it
 abbrev pub directive_of : List ℕ → List ℕ → Option Mark
 directive_of word words =
     if bytes_eq word (codes "#client") then Some (client_mark words)
-    else if bytes_eq word (codes "#finally") then Some (alone words mark.Finally)
-    else if bytes_eq word (codes "#await") then Some (alone words mark.Await)
+    else if bytes_eq word (codes "#finally") then Some (without_words words mark.Finally)
+    else if bytes_eq word (codes "#await") then Some (without_words words mark.Await)
+    else if bytes_eq word (codes "#") then blank_note words
     else if begins_directive word then Some (mark.Wrong cause.NoDirective)
     else None
 

@@ -13,10 +13,12 @@ pub const PLAN_LINES: usize = 4096;
 /// Why a script is no plan, so that nothing of it is explored.
 #[derive(Clone, Copy, Debug, PartialEq, Eq, Error)]
 pub enum Cause {
-    #[error("the line is not a command")]
+    #[error("the line is not a command; fencectl explain says why")]
     NoCommand,
     #[error("there is no such directive; a note has a space after its #")]
     NoDirective,
+    #[error("a blank after the # makes this a note; #client, #finally and #await have none")]
+    BlankFollows,
     #[error("#client takes one name")]
     NoName,
     #[error("#finally and #await take no words")]

@@ -1,7 +1,14 @@
 //! Whether an answer is as a plan expects it. `case.rt` asks for each answer of each line.
+ghost use Rattle.std.specs.Prelude.{◌≡◌, ◌++◌, IfOk, OnOk};
+ghost use Rattle.std.specs.List.{list_any};
+ghost use Rattle.std.specs.Str.{bytes_eq};
+ghost use Rattle.report_core.specs.Answer.{text_of};
+ghost use Rattle.explore_report.specs.Finding.{answer_from, begun_answers, finding_of, finding_unless, finding_without, is_right, line_expected, more_lines};
+
 use crate::plan_script::PlanScript;
 use crate::row::Row;
-use line_core::strip_prefix;
+use command_core::Answer;
+use std::alloc::{AllocError, Global};
 
 /// What is wrong with an answer.
 #[derive(Clone, Copy, Debug, PartialEq, Eq)]
@@ -13,52 +20,130 @@ pub(crate) enum Finding {
 }
 
 /// What is wrong with an answer of that text to the command of a row.
-pub(crate) fn finding_of(plan: &PlanScript<'_>, index: usize, text: &[u8]) -> Option<Finding> {
-    let expectations = plan.expectations(index);
-    if expectations.is_empty() {
-        return refused(text);
+pub(crate) fn finding_of(
+    alloc: Global,
+    plan: &PlanScript<'_>,
+    index: usize,
+    answer: &Answer,
+    text: &[u8],
+) -> Result<Option<Finding>, AllocError>
+    requires text { text.now ≡ text_of 0 answer.now }
+    ensures finding { IfOk result (λ finding. finding ≡ finding_of plan.now index answer.now) }
+{
+    let notes = plan.expectations(index);
+    if notes.is_empty() {
+        return Ok(finding_without(answer));
     }
-    if is_among(plan, expectations, text) {
+    let right = is_right(alloc, plan, notes, text)?;
+    Ok(finding_unless(right))
+}
+
+/// What is wrong with an answer where nothing is expected.
+fn finding_without(answer: &Answer) -> Option<Finding>
+    ensures { result ≡ finding_without answer.now }
+{
+    match answer {
+        Answer::Refused(_) => Some(Finding::Refused),
+        _ => None,
+    }
+}
+
+fn finding_unless(right: bool) -> Option<Finding>
+    ensures { result ≡ finding_unless right }
+{
+    if right {
         None
     } else {
         Some(Finding::Unexpected)
     }
 }
 
-fn refused(text: &[u8]) -> Option<Finding> {
-    if text.starts_with(b"err ") {
-        Some(Finding::Refused)
-    } else {
-        None
-    }
-}
-
 /// Whether one of the answers that the notes expect has that text.
-fn is_among(plan: &PlanScript<'_>, expectations: &[Row], text: &[u8]) -> bool {
-    for (index, row) in expectations.iter().enumerate() {
-        if (index == 0 || row.begins_answer()) && comes(plan, &expectations[index..], text) {
-            return true;
-        }
+fn is_right(
+    alloc: Global,
+    plan: &PlanScript<'_>,
+    notes: &[Row],
+    text: &[u8],
+) -> Result<bool, AllocError>
+    ensures right { IfOk result (λ right. right ≡ is_right plan.now notes.now text.now) }
+{
+    if is_answer(alloc, plan, notes, text)? {
+        return Ok(true);
     }
-    false
+    let begun = is_begun(alloc, plan, notes, text)?;
+    Ok(begun)
 }
 
-/// Whether the first answer that the notes expect has that text.
-fn comes(plan: &PlanScript<'_>, expectations: &[Row], text: &[u8]) -> bool {
-    let mut left = text;
-    for (index, row) in expectations.iter().enumerate() {
-        if index > 0 && row.begins_answer() {
-            break;
+/// Whether one of the answers that begin among the notes has that text.
+fn is_begun(
+    alloc: Global,
+    plan: &PlanScript<'_>,
+    notes: &[Row],
+    text: &[u8],
+) -> Result<bool, AllocError>
+    ensures begun { IfOk result (λ begun. begun ≡ list_any (bytes_eq text.now) (begun_answers plan.now notes.now)) }
+{
+    for (index, note) in notes.iter().enumerate() {
+        if !note.begins_answer() {
+            continue;
         }
-        match strip_line(left, plan.expected(row)) {
-            Some(rest) => left = rest,
-            None => return false,
+        if is_answer(alloc, plan, &notes[index..], text)? {
+            return Ok(true);
         }
     }
-    left.is_empty()
+    Ok(false)
 }
 
-/// What follows a line and its line feed, if the text begins with it.
-fn strip_line<'a>(text: &'a [u8], line: &[u8]) -> Option<&'a [u8]> {
-    strip_prefix(strip_prefix(text, line)?, b"\n")
+/// Whether the answer that the first notes expect has that text.
+fn is_answer(
+    alloc: Global,
+    plan: &PlanScript<'_>,
+    notes: &[Row],
+    text: &[u8],
+) -> Result<bool, AllocError>
+    ensures answer { IfOk result (λ is. is ≡ bytes_eq text.now (answer_from plan.now notes.now)) }
+{
+    let answer = answer_from(alloc, plan, notes)?;
+    Ok(text == answer.as_slice())
+}
+
+/// The answer that the first notes expect.
+fn answer_from(alloc: Global, plan: &PlanScript<'_>, notes: &[Row]) -> Result<Vec<u8>, AllocError>
+    ensures answer { IfOk result (λ answer. answer.items ≡ answer_from plan.now notes.now) }
+{
+    let mut answer = Vec::new(alloc);
+    push_answer(plan, notes, &mut answer)?;
+    Ok(answer)
+}
+
+fn push_answer(plan: &PlanScript<'_>, notes: &[Row], text: &mut Vec<u8>) -> Result<(), AllocError>
+    ensures pushed { OnOk result (text.new.items ≡ text.old.items ++ answer_from plan.now notes.now) }
+{
+    let Some((first, more)) = notes.split_first() else {
+        return Ok(());
+    };
+    push_line(plan, first, text)?;
+    push_more(plan, more, text)?;
+    Ok(())
+}
+
+/// The further lines of an answer, up to the note that begins another.
+fn push_more(plan: &PlanScript<'_>, notes: &[Row], text: &mut Vec<u8>) -> Result<(), AllocError>
+    ensures pushed { OnOk result (text.new.items ≡ text.old.items ++ more_lines plan.now notes.now) }
+{
+    for note in notes {
+        if note.begins_answer() {
+            return Ok(());
+        }
+        push_line(plan, note, text)?;
+    }
+    Ok(())
+}
+
+fn push_line(plan: &PlanScript<'_>, note: &Row, text: &mut Vec<u8>) -> Result<(), AllocError>
+    ensures pushed { OnOk result (text.new.items ≡ text.old.items ++ line_expected plan.now note.now) }
+{
+    text.extend_from_slice(plan.expected(note))?;
+    text.push(b'\n')?;
+    Ok(())
 }

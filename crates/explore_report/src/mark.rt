@@ -2,7 +2,7 @@
 ghost use Rattle.std.specs.Prelude.{◌≡◌};
 ghost use Rattle.explore_report.specs.Mistake.{is_named};
 ghost use Rattle.explore_report.specs.Rows.{command_said};
-ghost use Rattle.explore_report.specs.Mark.{after_mark, alone, begins_directive, client_mark, client_named, directive_of, expected_text, mark_of, mark_of_body, note_of};
+ghost use Rattle.explore_report.specs.Mark.{after_mark, begins_directive, blank_note, client_mark, client_named, directive_of, expected_text, is_directive, mark_of, mark_of_body, note_of, without_words};
 
 use crate::cause::Cause;
 use crate::words::{first_word, words_after};
@@ -55,6 +55,15 @@ const FINALLY: &[u8] = b"#finally";
 
 const AWAIT: &[u8] = b"#await";
 
+/// The first word of a note with a blank behind its `#`.
+const BLANK: &[u8] = b"#";
+
+const CLIENT_WORD: &[u8] = b"client";
+
+const FINALLY_WORD: &[u8] = b"finally";
+
+const AWAIT_WORD: &[u8] = b"await";
+
 /// The front of a note that expects a line of an answer.
 const EXPECTED: &[u8] = b"#=";
 
@@ -101,15 +110,45 @@ fn directive_of(word: &[u8], rest: &[u8]) -> Option<Mark>
         return Some(client_mark(rest));
     }
     if word == FINALLY {
-        return Some(alone(rest, Mark::Finally));
+        return Some(without_words(rest, Mark::Finally));
     }
     if word == AWAIT {
-        return Some(alone(rest, Mark::Await));
+        return Some(without_words(rest, Mark::Await));
+    }
+    if word == BLANK {
+        return blank_note(rest);
     }
     if begins_directive(word) {
         return Some(Mark::Wrong(Cause::NoDirective));
     }
     None
+}
+
+/// What a note says that has a blank behind its `#`: nothing, unless it reads as a directive.
+fn blank_note(rest: &[u8]) -> Option<Mark>
+    ensures mark { result ≡ blank_note rest.now }
+{
+    if is_directive(first_word(rest), words_after(rest)) {
+        Some(Mark::Wrong(Cause::BlankFollows))
+    } else {
+        None
+    }
+}
+
+/// Whether the words would be a directive directly behind a `#`.
+fn is_directive(word: &[u8], rest: &[u8]) -> bool
+    ensures directive { result ≡ is_directive word.now rest.now }
+{
+    if word == CLIENT_WORD {
+        return words_after(rest).is_empty();
+    }
+    if word == FINALLY_WORD {
+        return rest.is_empty();
+    }
+    if word == AWAIT_WORD {
+        return rest.is_empty();
+    }
+    false
 }
 
 /// The mark of `#client`, which one word has to follow.
@@ -133,8 +172,8 @@ fn client_named(name: &[u8]) -> Mark
 }
 
 /// The mark of a directive that no word follows.
-fn alone(rest: &[u8], mark: Mark) -> Mark
-    ensures mark { result ≡ alone rest.now mark }
+fn without_words(rest: &[u8], mark: Mark) -> Mark
+    ensures mark { result ≡ without_words rest.now mark }
 {
     if rest.is_empty() {
         mark

@@ -30,15 +30,21 @@ fn add_rows(report: &Report<'_>, page: &mut Page) {
 
 /// The object of a schedule that gets stuck.
 fn add_stuck(report: &Report<'_>, schedule: &[usize], page: &mut Page) -> Result<(), Refusal> {
-    let making = Making::of(report.alloc, report.plan, schedule)?;
     page.text("{\"stuck\":{\"steps\":");
     page.count(schedule.len());
     add_schedule(report.plan, schedule, None, page);
     page.text(",\"waiting\":[");
+    let making = Making::of(report.alloc, report.plan, schedule)?;
+    add_stuck_lines(report, &making, page)?;
+    page.text("]}}\n");
+    Ok(())
+}
+
+/// The lines at which the clients wait.
+fn add_stuck_lines(report: &Report<'_>, making: &Making, page: &mut Page) -> Result<(), Refusal> {
     let next = making.next_lines(report.alloc, report.plan)?;
     let (mut desk, _) = making.run(report.alloc, report.plan)?;
     add_all_waiting(report, next.as_slice(), &mut desk, page);
-    page.text("]}}\n");
     Ok(())
 }
 

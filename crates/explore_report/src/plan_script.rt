@@ -1,8 +1,9 @@
 //! `PlanScript`: a script that is a plan, with its rows and the plan that they make. Its plan can be explored.
 //! `Report` and `fencectl` read it.
-ghost use Rattle.std.specs.Prelude.{◌≡◌, IfErr, IfOk, map, true};
+ghost use Rattle.std.specs.Prelude.{◌≡◌, ◌+◌, IfErr, IfOk, drop, length, map, not, position, true};
 ghost use Rattle.line_core.specs.Script.{lines_of};
 ghost use Rattle.explore_core.specs.Found.{CanBeExplored, IsAll, IsTrue};
+ghost use Rattle.explore_report.specs.Finding.{expectations, expected, expecting, expects};
 ghost use Rattle.explore_report.specs.Reading.{IsReading};
 
 use crate::cause::Cause;
@@ -77,7 +78,9 @@ impl<'a> PlanScript<'a> {
     }
 
     /// The text that a note expects.
-    pub(crate) fn expected(&self, row: &Row) -> &'a [u8] {
+    pub(crate) fn expected(&self, row: &Row) -> &'a [u8]
+        ensures text { result.now ≡ expected self.now row.now }
+    {
         match self.lines.get(row.number.saturating_sub(1)) {
             Some(line) => expected_text(line),
             None => b"",
@@ -137,14 +140,15 @@ impl<'a> PlanScript<'a> {
     }
 
     /// The notes below a row that expect its answer.
-    pub(crate) fn expectations(&self, index: usize) -> &[Row] {
-        let rows = self.rows.as_slice();
-        let below = rows.get(index.saturating_add(1)..).unwrap_or(&[]);
-        let count = below.iter().position(|row| !row.expects());
-        &below[..count.unwrap_or(below.len())]
+    pub(crate) fn expectations(&self, index: usize) -> &[Row]
+        ensures notes { result.now ≡ expectations self.now.rows.items index }
+    {
+        expecting(below(self.rows.as_slice(), index))
     }
 
-    pub(crate) fn client_count(&self) -> usize {
+    pub(crate) fn client_count(&self) -> usize
+        ensures count { result ≡ length self.now.plan.clients }
+    {
         let plan = &self.plan;
         plan.clients.len()
     }
@@ -174,6 +178,32 @@ impl<'a> PlanScript<'a> {
         }
         None
     }
+}
+
+/// The rows below the row of that index.
+fn below(rows: &[Row], index: usize) -> &[Row]
+    ensures below { result.now ≡ drop (index + 1) rows.now }
+{
+    if index < rows.len() {
+        &rows[index + 1..]
+    } else {
+        &[]
+    }
+}
+
+/// The notes that the rows begin with and that expect an answer.
+fn expecting(rows: &[Row]) -> &[Row]
+    ensures notes { result.now ≡ expecting rows.now }
+{
+    let count = first_other(rows).unwrap_or(rows.len());
+    &rows[..count]
+}
+
+/// The first row that expects no answer.
+fn first_other(rows: &[Row]) -> Option<usize>
+    ensures place { result ≡ position (λ row. not (expects row)) rows.now }
+{
+    rows.iter().position(|row| !row.expects())
 }
 
 /// The lines of a script.

@@ -1,14 +1,20 @@
 //! `Report`: what is found of a plan, by its lines, to be written as text, as JSON, or as scripts of schedules. `fencectl explore`
 //! makes one.
+ghost use Rattle.std.specs.Prelude.{◌≡◌, IfOk, count_by};
+ghost use Rattle.desk_core.specs.theorem.World.{empty_world};
+ghost use Rattle.explore_core.specs.Alike.{answers_along};
+ghost use Rattle.explore_report.specs.Report.{IsReport, findings_in, is_wrong, outcome_of, stuck_in};
+
 use crate::case::{Case, cases_of};
 use crate::plan_script::PlanScript;
-use crate::schedule::Making;
+use crate::schedule::run_all;
 use crate::{objects, text, witness};
+use command_core::Answer;
 use explore_core::Found;
 use point_core::Refusal;
 use std::alloc::Global;
 
-/// What came of an exploration.
+/// The outcome of an exploration.
 #[derive(Clone, Copy, Debug, PartialEq, Eq)]
 pub enum Outcome {
     /// Every schedule was covered, and nothing was found.
@@ -36,8 +42,10 @@ impl<'a> Report<'a> {
         alloc: Global,
         plan: &'a PlanScript<'a>,
         found: &'a Found,
-    ) -> Result<Report<'a>, Refusal> {
-        let (_, first) = Making::of(alloc, plan, &[])?.run(alloc, plan)?;
+    ) -> Result<Report<'a>, Refusal>
+        ensures report { IfOk result (IsReport plan.now found.now) }
+    {
+        let first = first_answers(alloc, plan)?;
         let cases = cases_of(alloc, plan, first.as_slice(), found)?;
         Ok(Report {
             alloc,
@@ -70,29 +78,35 @@ impl<'a> Report<'a> {
     }
 
     /// How many answers are wrong.
-    pub fn findings(&self) -> usize {
-        let mut count: usize = 0;
-        for case in self.cases.as_slice() {
-            if case.finding.is_some() {
-                count = count.saturating_add(1);
-            }
-        }
-        count
+    pub fn findings(&self) -> usize
+        ensures findings { result ≡ findings_in self.now }
+    {
+        count_wrong(self.cases.as_slice())
     }
 
     /// How many schedules that get stuck are shown.
-    pub fn stuck(&self) -> usize {
-        usize::from(self.found.stuck.is_some())
+    pub fn stuck(&self) -> usize
+        ensures stuck { result ≡ stuck_in self.now }
+    {
+        match &self.found.stuck {
+            Some(_) => 1,
+            None => 0,
+        }
     }
 
-    pub fn outcome(&self) -> Outcome {
+    pub fn outcome(&self) -> Outcome
+        ensures outcome { result ≡ outcome_of self.now }
+    {
         if !self.found.covered {
-            Outcome::NotCovered
-        } else if self.stuck() > 0 || self.findings() > 0 {
-            Outcome::Findings
-        } else {
-            Outcome::Clean
+            return Outcome::NotCovered;
         }
+        if self.stuck() > 0 {
+            return Outcome::Findings;
+        }
+        if self.findings() > 0 {
+            return Outcome::Findings;
+        }
+        Outcome::Clean
     }
 
     /// The answers of a row.
@@ -103,4 +117,18 @@ impl<'a> Report<'a> {
         let count = below.iter().position(|case| case.row != row);
         &below[..count.unwrap_or(below.len())]
     }
+}
+
+/// The answers of the commands above the first client, which no schedule changes.
+fn first_answers(alloc: Global, plan: &PlanScript<'_>) -> Result<Vec<Answer>, Refusal>
+    ensures answers { IfOk result (λ answers. answers.items ≡ answers_along empty_world plan.now.plan.first) }
+{
+    let (_, answers) = run_all(alloc, plan.plan.first.as_slice())?;
+    Ok(answers)
+}
+
+fn count_wrong(cases: &[Case]) -> usize
+    ensures count { result ≡ count_by is_wrong cases.now }
+{
+    cases.iter().filter(|case| case.finding.is_some()).count()
 }

@@ -1,6 +1,8 @@
 //! `Row`: a line of a plan that says something, with its context. `plan_script.rt` keeps the rows of a plan.
 ghost use Rattle.std.specs.Prelude.{◌≡◌, ◌+◌, ◌++◌, OnOk, IfOk, Some, map};
+ghost use Rattle.explore_report.specs.Cases.{command_rows, index_at};
 ghost use Rattle.explore_report.specs.Context.{after};
+ghost use Rattle.explore_report.specs.Finding.{begins_answer, expects};
 ghost use Rattle.explore_report.specs.Mistake.{is_client_row, is_line};
 ghost use Rattle.explore_report.specs.Rows.{command_in, command_said, context_below, row_if, rows_at, rows_of};
 
@@ -57,13 +59,24 @@ impl Row {
     }
 
     /// Whether it expects a line of an answer.
-    pub(crate) fn expects(&self) -> bool {
-        matches!(self.mark, Mark::Expected | Mark::OrExpected)
+    pub(crate) fn expects(&self) -> bool
+        ensures { result ≡ expects self.now }
+    {
+        match self.mark {
+            Mark::Expected => true,
+            Mark::OrExpected => true,
+            _ => false,
+        }
     }
 
     /// Whether it begins another answer than the row above.
-    pub(crate) fn begins_answer(&self) -> bool {
-        matches!(self.mark, Mark::OrExpected)
+    pub(crate) fn begins_answer(&self) -> bool
+        ensures { result ≡ begins_answer self.now }
+    {
+        match self.mark {
+            Mark::OrExpected => true,
+            _ => false,
+        }
     }
 }
 
@@ -112,5 +125,33 @@ fn push_row(
     *context = context.after(mark);
     // The check of `push` has to see the type of a command.
     let _command = mark.command();
+    Ok(())
+}
+
+/// Appends the indices of the rows with a section's commands.
+pub(crate) fn push_commands(
+    rows: &[Row],
+    section: Section,
+    indices: &mut Vec<usize>,
+) -> Result<(), AllocError>
+    ensures pushed { OnOk result (indices.new.items ≡ indices.old.items ++ command_rows section rows.now) }
+{
+    for (index, row) in rows.iter().enumerate() {
+        push_index(index, row, section, indices)?;
+    }
+    Ok(())
+}
+
+fn push_index(
+    index: usize,
+    row: &Row,
+    section: Section,
+    indices: &mut Vec<usize>,
+) -> Result<(), AllocError>
+    ensures pushed { OnOk result (indices.new.items ≡ indices.old.items ++ index_at section index row.now) }
+{
+    if row.command_in(section).is_some() {
+        indices.push(index)?;
+    }
     Ok(())
 }

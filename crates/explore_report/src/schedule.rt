@@ -1,4 +1,9 @@
 //! `Making`: the rows of a plan in the order in which a schedule makes them. Reports and scripts of schedules go by it.
+ghost use Rattle.std.specs.Prelude.{◌≡◌, All, IfOk, IsTrue, false};
+ghost use Rattle.desk_core.specs.theorem.World.{empty_world};
+ghost use Rattle.explore_core.specs.Alike.{answers_along};
+ghost use Rattle.explore_report.specs.Making.{IsNotMemory};
+
 use crate::context::Section;
 use crate::plan_script::PlanScript;
 use command_core::{Answer, Command};
@@ -93,31 +98,49 @@ impl Making {
 
     /// Makes the rows on a fresh desk.
     ///
-    /// Fails with `Memory` only, also if a command was refused memory: that is no answer of the plan's.
+    /// Fails with `Memory` only, as `run_all`.
     pub(crate) fn run(
         &self,
         alloc: Global,
         plan: &PlanScript<'_>,
     ) -> Result<(Desk, Vec<Answer>), Refusal> {
         let commands = commands_of(alloc, plan, self.rows.as_slice())?;
-        let made = run(alloc, commands.as_slice())?;
-        if lacks_memory(made.1.as_slice()) {
-            return Err(Refusal::Memory);
-        }
-        Ok(made)
+        run_all(alloc, commands.as_slice())
     }
 }
 
+/// Makes the commands on a fresh desk.
+///
+/// Fails with `Memory` only, also if a command was refused memory, since no schedule of the plan answers so.
+pub(crate) fn run_all(alloc: Global, commands: &[Command]) -> Result<(Desk, Vec<Answer>), Refusal>
+    ensures answers { IfOk result (λ made. made.1.items ≡ answers_along empty_world commands.now) }
+{
+    let made = run(alloc, commands)?;
+    if lacks_memory(made.1.as_slice()) {
+        return Err(Refusal::Memory);
+    }
+    Ok(made)
+}
+
 /// Whether a command was refused memory.
-fn lacks_memory(answers: &[Answer]) -> bool {
+fn lacks_memory(answers: &[Answer]) -> bool
+    ensures { result ≡ false → All IsNotMemory answers.now }
+{
     for answer in answers {
-        if let Answer::Refused(refusal) = answer {
-            if *refusal == Refusal::Memory {
-                return true;
-            }
+        if is_memory(answer) {
+            return true;
         }
     }
     false
+}
+
+fn is_memory(answer: &Answer) -> bool
+    ensures { answer.now ≡ Answer.Refused Refusal.Memory → IsTrue result }
+{
+    match answer {
+        Answer::Refused(refusal) => *refusal == Refusal::Memory,
+        _ => false,
+    }
 }
 
 fn commands_of(

@@ -42,9 +42,16 @@ fn add_stuck(report: &Report<'_>, name: &str, page: &mut Page) -> Result<(), Ref
         return Ok(());
     };
     let making = Making::of(report.alloc, report.plan, schedule.as_slice())?;
+    add_stuck_head(report, name, schedule.len(), page);
+    add_stuck_lines(report, name, &making, page)?;
+    add_making(report.plan, making.rows.as_slice(), page);
+    Ok(())
+}
+
+fn add_stuck_head(report: &Report<'_>, name: &str, steps: usize, page: &mut Page) {
     page.text(name);
     page.text(": stuck after ");
-    page.count(schedule.len());
+    page.count(steps);
     page.text(" of ");
     page.count(report.plan.line_count());
     page.text(" steps");
@@ -52,29 +59,40 @@ fn add_stuck(report: &Report<'_>, name: &str, page: &mut Page) -> Result<(), Ref
         page.text("; no schedule gets stuck sooner");
     }
     page.text(" (schedule 1)\n");
+}
+
+/// The lines at which the clients wait.
+fn add_stuck_lines(
+    report: &Report<'_>,
+    name: &str,
+    making: &Making,
+    page: &mut Page,
+) -> Result<(), Refusal> {
     let next = making.next_lines(report.alloc, report.plan)?;
     let (mut desk, _) = making.run(report.alloc, report.plan)?;
-    for index in &next {
-        add_waiting(report, name, *index, &mut desk, page)?;
-    }
-    add_making(report.plan, making.rows.as_slice(), page);
+    add_all_waiting(report, name, next.as_slice(), &mut desk, page);
     Ok(())
 }
 
-/// A line at which a client waits. The desk refuses it, and so stays as it is.
-fn add_waiting(
+fn add_all_waiting(
     report: &Report<'_>,
     name: &str,
-    index: usize,
+    next: &[usize],
     desk: &mut Desk,
     page: &mut Page,
-) -> Result<(), Refusal> {
+) {
+    for index in next {
+        add_waiting(report, name, *index, desk, page);
+    }
+}
+
+/// A line at which a client waits. The desk refuses it, and so stays as it is.
+fn add_waiting(report: &Report<'_>, name: &str, index: usize, desk: &mut Desk, page: &mut Page) {
     if let Some(command) = report.plan.command_of(index) {
         add_head(report.plan, name, index, page);
         add_why(desk, &command, page);
         page.text("\n");
     }
-    Ok(())
 }
 
 /// `FILE:LINE: CLIENT: COMMAND: `.
@@ -92,7 +110,7 @@ fn add_head(plan: &PlanScript<'_>, name: &str, index: usize, page: &mut Page) {
     page.text(": ");
 }
 
-/// `    by CLIENT LINE..LINE, ..`: the lines of clients, in the order of making.
+/// `    by CLIENT LINE..LINE, ..`: the lines of clients, in the order of making; `    at the beginning` without any.
 fn add_making(plan: &PlanScript<'_>, rows: &[usize], page: &mut Page) {
     let mut front = "    by ";
     let mut run: Option<Run> = None;
@@ -116,7 +134,7 @@ fn add_making(plan: &PlanScript<'_>, rows: &[usize], page: &mut Page) {
     match run {
         Some(run) => run.add(plan, front, page),
         None => {
-            page.text("    by nobody");
+            page.text("    at the beginning");
         }
     }
     page.text("\n");

@@ -7,7 +7,7 @@ use crate::report::Report;
 use crate::schedule::Making;
 use command_core::Answer;
 use point_core::Refusal;
-use script_core::print;
+use report_core::print;
 use std::alloc::Global;
 
 pub(crate) fn script_of(report: &Report<'_>, number: usize) -> Result<Option<Vec<u8>>, Refusal> {
@@ -17,16 +17,21 @@ pub(crate) fn script_of(report: &Report<'_>, number: usize) -> Result<Option<Vec
     }
 }
 
-/// A schedule that gets stuck, with the lines at which the clients are.
+/// A schedule that gets stuck, with the lines at which the clients wait.
 fn stuck_script(report: &Report<'_>, schedule: &[usize]) -> Result<Vec<u8>, Refusal> {
+    let mut page = Page::new(report.alloc);
+    add_stuck(report, schedule, &mut page)?;
+    page.finish()
+}
+
+fn add_stuck(report: &Report<'_>, schedule: &[usize], page: &mut Page) -> Result<(), Refusal> {
+    page.text("# a shortest schedule that gets stuck\n");
     let mut making = Making::of(report.alloc, report.plan, schedule)?;
     let going = making.rows.len();
     let mut next = making.next_lines(report.alloc, report.plan)?;
     making.rows.append(&mut next)?;
-    let mut page = Page::new(report.alloc);
-    page.text("# a shortest schedule that gets stuck\n");
-    add_steps(report, &making, going, &mut page)?;
-    page.finish()
+    add_steps(report, &making, going, page)?;
+    Ok(())
 }
 
 /// The schedule of an answer that is wrong.
@@ -45,20 +50,25 @@ fn finding_script(report: &Report<'_>, number: usize) -> Result<Option<Vec<u8>>,
 }
 
 fn case_script(report: &Report<'_>, case: &Case) -> Result<Vec<u8>, Refusal> {
+    let mut page = Page::new(report.alloc);
+    add_case(report, case, &mut page)?;
+    page.finish()
+}
+
+fn add_case(report: &Report<'_>, case: &Case, page: &mut Page) -> Result<(), Refusal> {
+    page.text("# a schedule that gives line ");
+    page.count(report.plan.number_of(case.row));
+    page.text(" a wrong answer\n");
     let mut making = case.making(report.alloc, report.plan)?;
     if report.plan.section_of(case.row).is_same(Section::Last) {
         making.push_section(report.plan, Section::Last)?;
     }
-    let mut page = Page::new(report.alloc);
-    page.text("# a schedule that gives line ");
-    page.count(report.plan.number_of(case.row));
-    page.text(" a wrong answer\n");
     let going = making.rows.len();
-    add_steps(report, &making, going, &mut page)?;
-    page.finish()
+    add_steps(report, &making, going, page)?;
+    Ok(())
 }
 
-/// Each command with its answer; those from `going` on are refused.
+/// Each command with its answer; the commands from `going` on are refused.
 fn add_steps(
     report: &Report<'_>,
     making: &Making,
@@ -66,7 +76,18 @@ fn add_steps(
     page: &mut Page,
 ) -> Result<(), Refusal> {
     let (_, answers) = making.run(report.alloc, report.plan)?;
-    for (place, answer) in answers.as_slice().iter().enumerate() {
+    add_answers(report, making, answers.as_slice(), going, page)?;
+    Ok(())
+}
+
+fn add_answers(
+    report: &Report<'_>,
+    making: &Making,
+    answers: &[Answer],
+    going: usize,
+    page: &mut Page,
+) -> Result<(), Refusal> {
+    for (place, answer) in answers.iter().enumerate() {
         if let Some(index) = making.rows.get(place) {
             add_step(
                 report.alloc,

@@ -1,0 +1,34 @@
+-- What a report says of an exploration.
+use Rattle.std.specs.Prelude.{◌≡◌, ℕ, nat_lt, Bool, true, false, if◌then◌else◌, map, count_by, is_some}
+use Rattle.explore_core.specs.declared.found.Found.{Found}
+use Rattle.explore_report.specs.declared.case.Case.{Case}
+use Rattle.explore_report.specs.declared.plan_script.PlanScript.{PlanScript}
+use Rattle.explore_report.specs.declared.report.Outcome.{Outcome}
+use Rattle.explore_report.specs.declared.report.Outcome.TheVariants.{Clean, Findings, NotCovered}
+use Rattle.explore_report.specs.declared.report.Report.{Report}
+use Rattle.explore_report.specs.Cases.{cases_of, judged_of}
+
+abbrev pub is_wrong : Case → Bool
+is_wrong c = is_some c.finding
+
+-- the report is of what was found of that plan, and its cases are all answers that were found, and no others
+pub record IsReport (p : PlanScript) (found : Found) (report : Report) : Type 0 where
+  pub plan : report.plan.now ≡ p
+  pub found_is : report.found.now ≡ found
+  pub cases : map judged_of report.cases.items ≡ cases_of p found
+
+-- how many of the answers are wrong
+abbrev pub findings_in : Report → ℕ
+findings_in report = count_by is_wrong report.cases.items
+
+-- how many schedules that get stuck are shown: one at most
+abbrev pub stuck_in : Report → ℕ
+stuck_in report = if is_some report.found.now.stuck then 1 else 0
+
+abbrev pub outcome_by : Bool → ℕ → ℕ → Outcome
+outcome_by true stuck findings = if nat_lt 0 stuck then Findings else if nat_lt 0 findings then Findings else Clean
+outcome_by false stuck findings = NotCovered
+
+-- nothing is wrong exactly if every schedule was covered, none of them gets stuck, and no answer is wrong
+abbrev pub outcome_of : Report → Outcome
+outcome_of report = outcome_by report.found.now.covered (stuck_in report) (findings_in report)
