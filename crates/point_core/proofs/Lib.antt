@@ -1,5 +1,6 @@
 pub mod Agreement
 pub mod Canonical
+pub mod Indexes
 pub mod InUse
 pub mod Latest
 pub mod Listings

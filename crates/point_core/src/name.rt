@@ -15,6 +15,9 @@ pub const NAME_BYTES: usize = 31;
 
 const _: () = prove!(NAME_BYTES == 31);
 
+// 2 ^ 64 divided by the golden ratio, which spreads numbers that are close together, as in Fibonacci hashing.
+const GOLDEN_FACTOR: u64 = 0x9e37_79b9_7f4a_7c15;
+
 /// A name: 1 to `NAME_BYTES` letters, digits, `_`, `.` or `-`. It owns no memory.
 #[derive(Clone, Copy, Debug)]
 pub struct Name {
@@ -67,6 +70,14 @@ impl Name {
         let mut column = [b' '; NAME_BYTES];
         column.copy_from_slice(&lanes[..NAME_BYTES]);
         column
+    }
+
+    /// A number whose high half few other names share. It takes fewer instructions than a hash.
+    #[inline(always)]
+    pub(crate) fn mixed(&self) -> u64 {
+        let [a, b, c, d] = u64x4::from_le_bytes(self.lanes).to_array();
+        let sum = (a ^ d).wrapping_add(b ^ c.rotate_left(32));
+        sum.wrapping_mul(GOLDEN_FACTOR)
     }
 
     /// Its bytes.
