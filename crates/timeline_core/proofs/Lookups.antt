@@ -12,7 +12,7 @@ use lib.Pointwise.{pointwise}
 pub has_timeline-names_of : (ts : List Timeline) (name : List ℕ) → list_any (pointwise nat_eq name) (names_of ts) ≡ has_timeline ts name
 has_timeline-names_of ts name = has_named-names (λ (t : Timeline). t.name) ts name
 
-position_from-names_of : (ts : List Timeline) (name : List ℕ) (i : ℕ) → position_from (pointwise nat_eq name) i (names_of ts) ≡ position_from (is_named name) i ts
+pub position_from-names_of : (ts : List Timeline) (name : List ℕ) (i : ℕ) → position_from (pointwise nat_eq name) i (names_of ts) ≡ position_from (is_named name) i ts
 position_from-names_of [] name i = refl
 position_from-names_of (t ∷ ts) name i =
     ap (λ b. cond b (Some i) (position_from (pointwise nat_eq name) (i + 1) (names_of ts))) (nat_list_eq_equiv.symm name t.name)

@@ -1,9 +1,10 @@
 -- The place of the timeline of a name.
-use Rattle.std.proofs.Common.{◌≡◌, ℕ, ◌+◌, ◌-◌, ◌<◌, suc, Bool, true, false, cond, ◌||◌, refl, sym, ap, subst, ◌∙◌, List, [], ◌∷◌, length, get_or, slice_get, replicate, Option, None, Some, arith, true≢false, zero}
+use Rattle.std.proofs.Common.{◌≡◌, ℕ, ◌+◌, ◌-◌, ◌<◌, suc, Bool, true, false, cond, ◌||◌, refl, sym, ap, subst, ◌∙◌, List, [], ◌∷◌, length, get_or, slice_get, position, replicate, Option, None, Some, arith, true≢false, zero}
 use Rattle.std.specs.Prelude.{option_map, unwrap_or}
 use Rattle.std.specs.List.{position_from, AllByRecursion}
 use Rattle.std.specs.Cmp.Lexicographic.{same_text, nat_list_eq_equiv}
 use Rattle.std.proofs.Math.ListN.{get_or-append}
+use Rattle.std.proofs.lemmas.Iterator.Adapters.{position_from-zero}
 use Rattle.std.proofs.lemmas.List.{length-map}
 use Rattle.std.proofs.lemmas.Option.{none-some, same_Some}
 use Rattle.std.proofs.lemmas.Map.Keys.{IsDistinct-head, IsDistinct-tail}
@@ -11,11 +12,16 @@ use Rattle.point_core.specs.declared.context.TheConstants.{CONTEXTS}
 use Rattle.point_core.specs.Clocks.{new_clock}
 use Rattle.point_core.specs.Named.{same_name, HasDistinctNames}
 use Rattle.timeline_core.specs.Timeline.{Timeline, timeline_of, own_clock, is_named, names_of, own_clocks, has_timeline, timeline_at, context_of, clocks_of, clock_named}
-use Rattle.timeline_core.proofs.Lookups.{position_from-more}
+use Rattle.timeline_core.proofs.Lookups.{position_from-more, position_from-names_of}
 
 -- the first timeline of that name is at the place
 abbrev pub IsPlace : List Timeline → List ℕ → ℕ → Type 0
 IsPlace ts name k = position_from (is_named name) 0 ts ≡ Some k
+
+-- the place of a stored name
+pub IsPlace-stored : {names : List (List ℕ)} (ts : List Timeline) (name : List ℕ) (k : ℕ) → names ≡ names_of ts → Some k ≡ position (same_name name) names → IsPlace ts name k
+IsPlace-stored ts name k e found =
+    sym (position_from-names_of ts name 0) ∙ sym (position_from-zero (same_name name) (names_of ts)) ∙ ap (position (same_name name)) (sym e) ∙ sym found
 
 place_before : (o : Option ℕ) (k : ℕ) → option_map (λ j. j + 1) o ≡ Some k → (j : ℕ) × (o ≡ Some j) × (k ≡ suc j)
 place_before None k e = absurd (none-some k e)
