@@ -2,13 +2,16 @@
 use Rattle.std.proofs.Common.{◌≡◌, ℕ, ◌+◌, ◌-◌, ◌<◌, ◌≤◌, ◌||◌, Bool, true, not, cond, if◌then◌else◌, zero, suc, refl, sym, ap, ◌∙◌, subst, List, [], ◌∷◌, ◌++◌, length, map, take, set, get_or, slice_get, swap, swap_remove, position, option_map, Option, None, Some, false, arith, is_some}
 use Rattle.std.specs.List.{list_any}
 use Rattle.std.specs.List.Sorted.{IsPermutation, IsNonDecreasingBy}
+use Rattle.std.specs.Prelude.{IfSome}
+use Rattle.std.specs.Option.{option_map_or}
+use Rattle.std.proofs.lemmas.List.Quantifiers.{position-Some}
 use Rattle.std.specs.Map.{keys_of, values_of, lookup}
 use Rattle.std.proofs.lemmas.Bool.{false≢true}
 use Rattle.std.proofs.lemmas.List.{take_more_set, take-set, take-take, get_or-take, length-take-le, length-map, length-append, length-set, map-append, get_or_default}
-use Rattle.std.proofs.lemmas.Option.{slice_get-get_or}
+use Rattle.std.proofs.lemmas.Option.{none-some, slice_get-get_or}
 use Rattle.indexmap.specs.IndexMap.{swap_remove_by, swap_remove_entry}
 use Rattle.indexmap.specs.IndexSet.{insert_key}
-use Rattle.indexmap.proofs.MapLemmas.{Found-position, Missing-position, some_index, swap_remove_entry-found, swap_remove_entry-missing}
+use Rattle.indexmap.proofs.MapLemmas.{Found-position, Missing-position, some_index, swap_remove_entry-found, swap_remove_entry-missing, swap_remove-default}
 use Rattle.indexmap.proofs.SetLemmas.{map-swap_remove, keys_swap_remove_entry}
 use Rattle.point_core.specs.Named.{same_name}
 use Rattle.syncfile_core.specs.declared.file_slots.NumberedFile.{NumberedFile}
@@ -161,6 +164,23 @@ take-swap (y ∷ ys) i n last d more within =
     ∙ ap (take last) (take-set_inside n xs i (get_or xs last y))
     ∙ ap (λ z. take last (set (take n xs) i z)) (sym (get_or-take n xs last y (omega (arith, more))) ∙ get_or_default (take n xs) last y d low)
     ∙ ap (λ k. take k (set (take n xs) i (get_or (take n xs) k d))) (sym short)
+
+-- the names once the one at an index is removed, whose place the last one takes
+pub swap_remove_by-found : (names : List (List ℕ)) (name : List ℕ) (i : ℕ) (d : List ℕ) → position (same_name name) names ≡ Some i → swap_remove_by (same_name name) names ≡ swap_remove names i d
+swap_remove_by-found [] name i d is = absurd (none-some i is)
+swap_remove_by-found (x ∷ xs) name i d is =
+    ap (λ o. option_map_or (λ j. swap_remove (x ∷ xs) j x) o (x ∷ xs)) is ∙ swap_remove-default (x ∷ xs) i x d (omega arith)
+
+-- the names that are left, by what the removal of an index says of them
+pub swap_remove_by-removed : (names left : List (List ℕ)) (name : List ℕ) (i : ℕ) (gone : Option (List ℕ)) → position (same_name name) names ≡ Some i → gone ≡ slice_get names i → IfSome gone (λ k. left ≡ swap_remove names i k) → left ≡ swap_remove_by (same_name name) names
+swap_remove_by-removed names left name i (Some k) is at removed = removed ∙ sym (swap_remove_by-found names name i k is)
+swap_remove_by-removed names left name i None is at removed =
+    absurd (none-some (get_or names i name) (at ∙ slice_get-get_or names i name (position-Some (same_name name) names i name is).0))
+
+pub one_less-removed : (names left : List (List ℕ)) (name : List ℕ) (i : ℕ) (gone : Option (List ℕ)) → position (same_name name) names ≡ Some i → gone ≡ slice_get names i → length left + (if is_some gone then 1 else 0) ≡ length names → length left + 1 ≡ length names
+one_less-removed names left name i (Some k) is at less = less
+one_less-removed names left name i None is at less =
+    absurd (none-some (get_or names i name) (at ∙ slice_get-get_or names i name (position-Some (same_name name) names i name is).0))
 
 -- a file is removed, and the last takes its slot
 module _ (names left : List (List ℕ)) (made : List NumberedFile) (next : ℕ) (placed : AreInPlace names made next) (name : List ℕ) (i last : ℕ) (is : position (same_name name) names ≡ Some i)

@@ -1,6 +1,6 @@
 //! `FileSlots`: files by name, in order of making, each found, made and closed in constant time. `Files` keeps its files
 //! in one.
-ghost use Rattle.std.specs.Prelude.{◌≡◌, ℕ, ◌+◌, ◌^◌, ◌<◌, ◌≤◌, true, false, [], ◌∷◌, ◌++◌, length, take, map, option_copied, None, Some, Ok, Err, MatchBool, MatchOption, IsOk, IsErr, OnOk, OnErr, IfOk, IfErr};
+ghost use Rattle.std.specs.Prelude.{◌≡◌, ℕ, ◌+◌, ◌^◌, ◌<◌, ◌≤◌, true, false, [], ◌∷◌, ◌++◌, length, take, map, option_copied, position, None, Some, Ok, Err, MatchBool, MatchOption, IsOk, IsErr, OnOk, OnErr, IfOk, IfErr};
 ghost use Rattle.point_core.specs.declared.refusal.Refusal.TheVariants.{Memory, NoEntry};
 ghost use Rattle.std.specs.List.{IsDistinct};
 ghost use Rattle.std.specs.List.Sorted.{IsPermutation, IsNonDecreasingBy};
@@ -16,7 +16,7 @@ use crate::draft::Draft;
 use crate::files::FILES;
 use crate::sync_file::SyncFile;
 use indexmap::IndexSet;
-use point_core::{LimitKind, Name, Refusal};
+use point_core::{Hints, LimitKind, Name, Refusal};
 use std::alloc::{AllocError, Global};
 use std::marker::Model;
 
@@ -40,6 +40,8 @@ struct NumberedName {
 pub(crate) struct FileSlots {
     // the names of the open files, at the indexes that these have in `made`
     names: IndexSet<Name>,
+    // at the indexes of the names
+    hints: Hints,
     // the open files, and after them closed ones, whose memory the next files reuse
     made: Vec<NumberedFile>,
     // greater than each open file's number
@@ -65,6 +67,7 @@ impl FileSlots {
     {
         FileSlots {
             names: IndexSet::new(alloc),
+            hints: Hints::new(alloc),
             made: Vec::new(alloc),
             next: 0,
         }
@@ -74,7 +77,7 @@ impl FileSlots {
     pub(crate) fn get(&self, name: &Name) -> Option<&SyncFile>
         ensures found { option_copied result ≡ file_at self.now name.now }
     {
-        match self.names.get_index_of(name) {
+        match index_of(&self.names, &self.hints, name) {
             Some(index) => Some(&self.made[index].file),
             None => None,
         }
@@ -171,6 +174,9 @@ impl FileSlots {
         ensures last { result ≡ true → self.new ≡ self.old ++ drafted name draft.old ∷ [] }
         ensures unchanged { result ≡ false → self.new ≡ self.old }
     {
+        if self.hints.prepare(self.names.as_slice()).is_err() {
+            return false;
+        }
         let count = self.names.len();
         let Ok(()) = add_place(alloc, &mut self.made, count, name) else {
             return false;
@@ -183,6 +189,7 @@ impl FileSlots {
             Ok(true) => {
                 self.made[count].take_up(name, draft, number);
                 self.next = number + 1;
+                self.hints.put(&name, count);
                 true
             }
             Ok(false) => false,
@@ -197,12 +204,41 @@ impl FileSlots {
         ensures known { MatchBool (has_file self.old name.now) (IsOk result) (result ≡ Err NoEntry) }
         ensures without { self.new ≡ without_file self.old name.now }
     {
-        let Some((index, _name)) = self.names.swap_remove_full(name) else {
+        let Some(index) = index_of(&self.names, &self.hints, name) else {
             return Err(Refusal::NoEntry);
         };
+        self.names.swap_remove_index(index);
+        note_at(&mut self.hints, &self.names, index);
         let last = self.names.len();
         self.made.swap(index, last);
         Ok(())
+    }
+}
+
+/// The index of the name in the set, by its hint if that is right.
+#[inline(always)]
+fn index_of(names: &IndexSet<Name>, hints: &Hints, name: &Name) -> Option<usize>
+    ensures index { result ≡ position (same_name name.now) names.now.keys }
+{
+    match hints.find(name, names.as_slice()) {
+        Some(index) => Some(index),
+        None => index_by_search(names, name),
+    }
+}
+
+/// The index of the name in the set. It is a function of its own, so that its registers are saved only if a hint is
+/// wrong.
+#[inline(never)]
+fn index_by_search(names: &IndexSet<Name>, name: &Name) -> Option<usize>
+    ensures index { result ≡ position (same_name name.now) names.now.keys }
+{
+    names.get_index_of(name)
+}
+
+/// Notes the index of the name at it, if one is there.
+fn note_at(hints: &mut Hints, names: &IndexSet<Name>, index: usize) {
+    if let Some(name) = names.get_index(index) {
+        hints.put(name, index);
     }
 }
 
