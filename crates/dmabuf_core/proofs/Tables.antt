@@ -1,22 +1,25 @@
 -- Buffers in a map by name, after a write to one of them.
-use Rattle.std.proofs.Common.{◌≡◌, ℕ, ◌<◌, ◌≤◌, Bool, true, false, cond, nat_eq, refl, sym, ap, ◌∙◌, subst, List, [], ◌∷◌, ◌++◌, length, All, Option, None, Some, option_map, unwrap_or, is_some, Result, Ok, Err, OnErr, MatchBool, arith, inl, inr, length-append}
+use Rattle.std.proofs.Common.{◌≡◌, ◌≢◌, ℕ, ◌<◌, ◌≤◌, Bool, true, false, cond, if◌then◌else◌, nat_eq, refl, sym, ap, ◌∙◌, subst, List, [], ◌∷◌, ◌++◌, length, slice_get, position, All, Option, None, Some, option_map, unwrap_or, is_some, Result, Ok, Err, OnErr, MatchBool, arith, inl, inr, length-append}
+use Rattle.std.specs.Prelude.{IfNone, IfSome}
 use Rattle.std.specs.List.{IsDistinct}
 use Rattle.std.specs.Map.{values_of, lookup, set_value}
 use Rattle.std.proofs.lemmas.Bool.{cases_Bool, false≢true}
-use Rattle.std.specs.Cmp.Lexicographic.{nat_list_eq_equiv}
+use Rattle.std.specs.Cmp.Lexicographic.{nat_list_eq_equiv, same_text}
 use Rattle.std.proofs.lemmas.List.{map-append}
 use Rattle.std.proofs.lemmas.List.Elements.{All-append, All-cons, All-nil}
 use Rattle.std.proofs.lemmas.Map.{keys-set_value, length-set_value, lookup-set_value}
 use Rattle.std.proofs.lemmas.Map.Views.{All-values-set_value}
-use Rattle.indexmap.specs.IndexMap.{IndexMap, insert_entry}
+use Rattle.indexmap.specs.IndexMap.{IndexMap, insert_entry, set_value_at}
+use Rattle.indexmap.proofs.MapLemmas.{Found-position, Missing-position, insert_entry-first, some_index}
 use Rattle.indexmap.proofs.CallerLemmas.{insert_entry-new}
 use lib.Pointwise.{pointwise}
 use Rattle.point_core.specs.declared.entry.Entry.{Entry}
 use Rattle.point_core.specs.Agreement.{AgreesAbove}
+use Rattle.point_core.specs.Named.{same_name}
 use Rattle.resv_core.specs.Resv.{Reservation, IsTable, empty}
 use Rattle.point_core.specs.declared.context.TheConstants.{CONTEXTS}
 use Rattle.point_core.specs.declared.limits.TheConstants.{BUFFERS}
-use Rattle.dmabuf_core.specs.Buffers.{Buffer, AreBuffers, names_of, table_at, has_buffer, entries_of}
+use Rattle.dmabuf_core.specs.Buffers.{Buffer, AreBuffers, OnlyChanges, names_of, table_at, has_buffer, entries_of}
 
 -- one buffer has another table
 pub AreBuffers-set_value : (name : List ℕ) (bs : List Buffer) (w : Reservation) → AreBuffers bs → IsTable w → AreBuffers (set_value (pointwise nat_eq name) bs w)
@@ -85,3 +88,61 @@ OnErr-weaker (Err e) P Q f h = f h
 
 pub MatchBool-true : (b : Bool) (P Q : Type 0) → b ≡ true → P → MatchBool b P Q
 MatchBool-true b P Q is h = subst (λ p. MatchBool p P Q) (sym is) h
+
+-- a name that is there keeps its place
+insert_entry-present : (name : List ℕ) (w : Reservation) (bs : List Buffer) → has_buffer bs name ≡ true → insert_entry same_name bs name w ≡ set_value (same_name name) bs w
+insert_entry-present name w [] has = absurd (false≢true has)
+insert_entry-present name w (b ∷ bs) has = elim (cases_Bool (same_name name b.0)) [
+  | inl is ↦
+      ap (λ t. if t then (b.0, w) ∷ bs else b ∷ insert_entry same_name bs name w) is
+      ∙ sym (ap (λ t. cond t ((b.0, w) ∷ bs) (b ∷ set_value (same_name name) bs w)) is)
+  | inr not ↦
+      let there : has_buffer bs name ≡ true = sym (ap (λ t. is_some (cond t (Some b.1) (table_at bs name))) not) ∙ has in
+      ap (λ t. if t then (b.0, w) ∷ bs else b ∷ insert_entry same_name bs name w) not
+      ∙ ap (λ rest. b ∷ rest) (insert_entry-present name w bs there)
+      ∙ sym (ap (λ t. cond t ((b.0, w) ∷ bs) (b ∷ set_value (same_name name) bs w)) not)
+]
+
+-- what the index of a name says
+module _ (bs : List Buffer) (name : List ℕ) where
+  pub index-within : (index : Option ℕ) → index ≡ position (same_name name) (names_of bs) → IfSome index (λ i. i < length bs)
+  index-within None is = tt
+  index-within (Some i) is = (Found-position (same_name name) bs i (sym is)).within
+
+  pub index-table : (index : Option ℕ) → index ≡ position (same_name name) (names_of bs) → IfSome index (λ i. slice_get (values_of bs) i ≡ table_at bs name)
+  index-table None is = tt
+  index-table (Some i) is = sym (Found-position (same_name name) bs i (sym is)).value
+
+  pub index-missing : (index : Option ℕ) → index ≡ position (same_name name) (names_of bs) → IfNone index (table_at bs name ≡ None)
+  index-missing None is = (Missing-position (same_name name) bs (sym is)).value
+  index-missing (Some i) is = tt
+
+  -- the table at the index of the name is written
+  module _ (i : ℕ) (is : Some i ≡ position (same_name name) (names_of bs)) where
+    pub set_value-index : (w : Reservation) → set_value_at bs i w ≡ set_value (same_name name) bs w
+    set_value-index w =
+        sym (insert_entry-first same_name name w bs i (Found-position (same_name name) bs i (sym is)).first)
+        ∙ insert_entry-present name w bs (sym (some_index (same_name name) bs) ∙ ap is_some (sym is))
+
+    pub AreBuffers-written : (w : Reservation) → AreBuffers bs → IsTable w → AreBuffers (set_value_at bs i w)
+    AreBuffers-written w kept table = subst AreBuffers (sym (set_value-index w)) (AreBuffers-set_value name bs w kept table)
+
+    pub unwritten : (old w : Reservation) → table_at bs name ≡ Some old → w ≡ old → set_value_at bs i w ≡ bs
+    unwritten old w found same = set_value-index w ∙ set_value-same (same_name name) bs w (found ∙ ap Some (sym same))
+
+    pub OnlyChanges-written : (old w : Reservation) → table_at bs name ≡ Some old → OnlyChanges name bs (set_value_at bs i w)
+    OnlyChanges-written old w found = record {
+      names = ap names_of (set_value-index w) ∙ keys-set_value (same_name name) bs w;
+      others = λ other apart.
+          ap (λ es. table_at es other) (set_value-index w)
+          ∙ lookup-set_value nat_list_eq_equiv (same_name name) (nat_list_eq_equiv.congr name) other w bs (ap is_some found)
+          ∙ elim (cases_Bool (same_name name other)) [
+            | inl is ↦ absurd (apart (sym (same_text name other (sym is))))
+            | inr not ↦ ap (λ b. cond b (Some w) (table_at bs other)) not
+          ];
+    }
+
+    pub entries_of-written : (old w : Reservation) → table_at bs name ≡ Some old → entries_of (set_value_at bs i w) name ≡ w.entries
+    entries_of-written old w found =
+        ap (λ es. entries_of es name) (set_value-index w)
+        ∙ entries_of-found (set_value (same_name name) bs w) name w (table_at-set_value bs name old w found)

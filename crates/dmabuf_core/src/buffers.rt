@@ -1,9 +1,11 @@
 //! `Buffers`: the buffers by name, each with its reservation. Each call changes only the buffer that it names.
-ghost use Rattle.std.specs.Prelude.{◌≡◌, ℕ, false, ◌↔◌, ◌++◌, [], ◌∷◌, List, map, IfErr, IfNone, IfOk, IfSome, IsOk, IsOkAnd, IsTrue, MatchBool, MatchOption, MatchResult, Ok, Err, OnErr, OnOk, Some};
+ghost use Rattle.std.specs.Prelude.{◌≡◌, ◌<◌, ℕ, false, ◌↔◌, ◌++◌, [], ◌∷◌, List, length, map, position, slice_get, IfErr, IfNone, IfOk, IfSome, IsOk, IsOkAnd, IsTrue, MatchBool, MatchOption, MatchResult, Ok, Err, OnErr, OnOk, None, Some};
+ghost use Rattle.std.specs.Map.{values_of};
 ghost use Rattle.point_core.specs.declared.refusal.Refusal.TheVariants.{Memory, NoEntry};
 ghost use Rattle.point_core.specs.Agreement.{AgreesAbove, as_entries, HasRisingContexts, IsReached, listing};
 ghost use Rattle.point_core.specs.Latest.{points_above};
 ghost use Rattle.point_core.specs.Usage.{usage_number};
+ghost use Rattle.point_core.specs.Named.{same_name};
 ghost use Rattle.point_core.specs.Refusal.{IsRefusedFor};
 ghost use Rattle.resv_core.specs.Resv.{IsTable, IsTrimmed, empty, entry_of, rows_of};
 ghost use Rattle.dmabuf_core.specs.Flags.{export_usage, imported, with_usage};
@@ -12,7 +14,8 @@ ghost use Rattle.dmabuf_core.specs.Buffers.{AreBuffers, OnlyChanges, cause_by_fl
 use crate::flags::SyncFlags;
 use indexmap::IndexMap;
 use point_core::{
-    BUFFERS, Items, LatestPoints, LimitKind, Listing, Name, Point, Reach, Refusal, TopRow, Usage,
+    BUFFERS, Hints, Items, LatestPoints, LimitKind, Listing, Name, Point, Reach, Refusal, TopRow,
+    Usage,
 };
 use resv_core::TopTable;
 use std::alloc::Global;
@@ -23,6 +26,8 @@ use syncfile_core::SyncFile;
 #[derive(Drop)]
 pub struct Buffers {
     by_name: IndexMap<Name, TopTable>,
+    // at the indexes of the names
+    hints: Hints,
 }
 
 impl Model for Buffers {
@@ -43,6 +48,7 @@ impl Buffers {
     {
         Ok(Buffers {
             by_name: IndexMap::new(alloc),
+            hints: Hints::new(alloc),
         })
     }
 
@@ -62,6 +68,8 @@ impl Buffers {
         if self.by_name.len() >= BUFFERS {
             return Err(Refusal::Limit(LimitKind::Buffers));
         }
+        self.hints.prepare(self.by_name.keys().as_slice())?;
+        self.hints.put(&name, self.by_name.len());
         let table = TopTable::new(self.allocator());
         match self.by_name.insert(name, table) {
             Ok(_) => Ok(()),
@@ -94,10 +102,10 @@ impl Buffers {
         ensures unchanged { OnErr result (self.new ≡ self.old) }
         ensures kept { AreBuffers self.new }
     {
-        let Some(table) = self.by_name.get_mut(name) else {
+        let Some(index) = index_of(&self.by_name, &self.hints, name) else {
             return Err(Refusal::NoEntry);
         };
-        table.put(point, usage)
+        self.by_name[index].put(point, usage)
     }
 
     /// Adds the fences of a sync file to a buffer, as Linux's `DMA_BUF_IOCTL_IMPORT_SYNC_FILE`: with usage `Write` if
@@ -121,11 +129,16 @@ impl Buffers {
         ensures unchanged { OnErr result (self.new ≡ self.old) }
         ensures kept { AreBuffers self.new }
     {
-        let Some(table) = self.by_name.get_mut(name) else {
+        let Some(index) = index_of(&self.by_name, &self.hints, name) else {
             return Err(Refusal::NoEntry);
         };
         let usage = SyncFlags::of(flags)?.import_usage();
-        put_all(table, file.points.as_slice(), usage, reach)
+        put_all(
+            &mut self.by_name[index],
+            file.points.as_slice(),
+            usage,
+            reach,
+        )
     }
 
     /// The fences that an access with these flags has to wait for, as a listing for a sync file, as Linux's
@@ -192,10 +205,10 @@ impl Buffers {
         ensures unchanged { OnErr result (self.new ≡ self.old) }
         ensures kept { AreBuffers self.new }
     {
-        let Some(table) = self.by_name.get_mut(name) else {
+        let Some(index) = index_of(&self.by_name, &self.hints, name) else {
             return Err(Refusal::NoEntry);
         };
-        table.trim(reach);
+        self.by_name[index].trim(reach);
         Ok(())
     }
 
@@ -223,12 +236,39 @@ impl Buffers {
         ensures unknown { IfErr result (λ e. e ≡ NoEntry) }
         ensures absent { OnErr result (has_buffer self.now name.now ≡ false) }
     {
-        self.by_name.get(name).ok_or(Refusal::NoEntry)
+        let Some(index) = index_of(&self.by_name, &self.hints, name) else {
+            return Err(Refusal::NoEntry);
+        };
+        Ok(&self.by_name[index])
     }
 
     fn allocator(&self) -> Global {
         *self.by_name.allocator()
     }
+}
+
+/// The index of the buffer with that name, by its hint if that is right.
+#[inline(always)]
+fn index_of(by_name: &IndexMap<Name, TopTable>, hints: &Hints, name: &Name) -> Option<usize>
+    ensures index { result ≡ position (same_name name.now) (names_of by_name.now.entries) }
+    ensures within { IfSome result (λ index. index < length by_name.now.entries) }
+    ensures table { IfSome result (λ index.
+        slice_get (values_of by_name.now.entries) index ≡ table_at by_name.now.entries name.now) }
+    ensures missing { IfNone result (table_at by_name.now.entries name.now ≡ None) }
+{
+    match hints.find(name, by_name.keys().as_slice()) {
+        Some(index) => Some(index),
+        None => index_by_search(by_name, name),
+    }
+}
+
+/// The index of the buffer with that name. It is a function of its own, so that its registers are saved only if a hint
+/// is wrong.
+#[inline(never)]
+fn index_by_search(by_name: &IndexMap<Name, TopTable>, name: &Name) -> Option<usize>
+    ensures index { result ≡ position (same_name name.now) (names_of by_name.now.entries) }
+{
+    by_name.get_index_of(name)
 }
 
 /// Puts the points of a file into a table, with that usage.

@@ -1,35 +1,45 @@
-use Rattle.std.proofs.Common.{◌≡◌, ◌∷◌, [], Some, nat_eq, sym, ap, ◌∙◌, subst}
+use Rattle.std.proofs.Common.{◌≡◌, ◌∷◌, [], Some, sym, ap, ◌∙◌, subst}
 use Rattle.std.specs.Map.{set_value}
-use lib.Pointwise.{pointwise}
+use Rattle.indexmap.specs.IndexMap.{set_value_at}
+use Rattle.point_core.specs.Named.{same_name}
 use Rattle.resv_core.specs.Resv.{entry_of}
-use Rattle.dmabuf_core.specs.Buffers.{AreBuffers, table_at}
+use Rattle.dmabuf_core.specs.Buffers.{AreBuffers, OnlyChanges, table_at}
 use Rattle.dmabuf_core.proofs.Adding.{OnOk-weaker}
-use Rattle.dmabuf_core.proofs.Tables.{AreBuffers-set_value, AgreesAbove-written, OnErr-weaker, set_value-same}
+use Rattle.dmabuf_core.proofs.Tables.{AreBuffers-written, OnlyChanges-written, unwritten, set_value-index, AgreesAbove-written, OnErr-weaker}
 use Rattle.dmabuf_core.proofs.buffers.Buffers.add.Goals as goal
 
-kept : (c : goal.After-self-2-1) → AreBuffers (c.get_mut.follows.lender c.put.new.self).entries
-kept c = subst AreBuffers (sym (c.get_mut.follows.holds c.put.new.self).0) (AreBuffers-set_value c.args.name.now c.self.inside.by_name.entries c.put.new.self c.self.invariant c.put.ensures.table)
+table : (c : goal.After-self-1) → table_at c.self.inside.by_name.entries c.args.name.now ≡ Some c.index_mut.result.now
+table c = sym c.in-Some.ensures.table ∙ c.index_mut.ensures.value
 
-unwritten : (c : goal.After-self-2-1) → c.put.new.self ≡ c.in-Some.table.now → (c.get_mut.follows.lender c.put.new.self).entries ≡ c.args.self.now
-unwritten c is =
-    (c.get_mut.follows.holds c.put.new.self).0
-    ∙ set_value-same (pointwise nat_eq c.args.name.now) c.self.inside.by_name.entries c.put.new.self (sym c.in-Some.ensures.value ∙ ap Some (sym is))
-    ∙ c.self.view_is
+kept : (c : goal.After-self-1) → AreBuffers (set_value_at c.self.inside.by_name.entries c.in-Some.index c.put.new.self)
+kept c = AreBuffers-written c.self.inside.by_name.entries c.args.name.now c.in-Some.index c.in-Some.ensures.index c.put.new.self c.self.invariant c.put.ensures.table
 
-pub invariant_of-self-2 : goal.invariant_of-self-2
-invariant_of-self-2 c = kept c
+others : (c : goal.After-self-1) → OnlyChanges c.args.name.now c.args.self.now (set_value_at c.self.inside.by_name.entries c.in-Some.index c.put.new.self)
+others c =
+    subst (λ bs. OnlyChanges c.args.name.now bs (set_value_at c.self.inside.by_name.entries c.in-Some.index c.put.new.self)) c.self.view_is
+    (OnlyChanges-written c.self.inside.by_name.entries c.args.name.now c.in-Some.index c.in-Some.ensures.index c.index_mut.result.now c.put.new.self (table c))
+
+same : (c : goal.After-self-1) → c.put.new.self ≡ c.index_mut.result.now → set_value_at c.self.inside.by_name.entries c.in-Some.index c.put.new.self ≡ c.args.self.now
+same c is =
+    unwritten c.self.inside.by_name.entries c.args.name.now c.in-Some.index c.in-Some.ensures.index c.index_mut.result.now c.put.new.self (table c) is ∙ c.self.view_is
+
+pub invariant_of-self : goal.invariant_of-self
+invariant_of-self c = kept c
 
 pub returns-clause-agrees : goal.returns-clause-agrees
 returns-clause-agrees c =
     let added = entry_of c.args.point c.args.usage ∷ [] in
-    let found = ap (λ bs. table_at bs c.args.name.now) (sym c.self.view_is) ∙ sym c.in-Some.ensures.value in
-    let written = (c.get_mut.follows.holds c.put.new.self).0 ∙ ap (λ bs. set_value (pointwise nat_eq c.args.name.now) bs c.put.new.self) c.self.view_is in
+    let found = ap (λ bs. table_at bs c.args.name.now) (sym c.self.view_is) ∙ table c in
+    let written = set_value-index c.self.inside.by_name.entries c.args.name.now c.in-Some.index c.in-Some.ensures.index c.put.new.self ∙ ap (λ bs. set_value (same_name c.args.name.now) bs c.put.new.self) c.self.view_is in
     OnOk-weaker c.put.result _ _
-    (λ agrees. AgreesAbove-written added c.args.self.now (c.get_mut.follows.lender c.put.new.self).entries c.args.name.now c.in-Some.table.now c.put.new.self found written (agrees c.args.reach.now))
+    (λ agrees. AgreesAbove-written added c.args.self.now (set_value_at c.self.inside.by_name.entries c.in-Some.index c.put.new.self) c.args.name.now c.index_mut.result.now c.put.new.self found written (agrees c.args.reach.now))
     c.put.ensures.agrees
 
+pub returns-clause-others : goal.returns-clause-others
+returns-clause-others c = others c
+
 pub returns-clause-unchanged : goal.returns-clause-unchanged
-returns-clause-unchanged c = OnErr-weaker c.put.result _ _ (unwritten c) c.put.ensures.refused
+returns-clause-unchanged c = OnErr-weaker c.put.result _ _ (same c) c.put.ensures.refused
 
 pub returns-clause-kept : goal.returns-clause-kept
 returns-clause-kept c = kept c

@@ -1,46 +1,53 @@
-use Rattle.std.proofs.Common.{◌≡◌, Some, nat_eq, sym, ap, ◌∙◌, subst}
-use lib.Pointwise.{pointwise}
+use Rattle.std.proofs.Common.{◌≡◌, ◌++◌, map, Some, sym, ap, ◌∙◌, subst}
+use Rattle.std.specs.Map.{set_value}
+use Rattle.indexmap.specs.IndexMap.{set_value_at}
+use Rattle.point_core.specs.Named.{same_name}
+use Rattle.point_core.specs.Agreement.{AgreesAbove, as_entries}
 use Rattle.syncfile_core.specs.SyncFile.{File}
-use Rattle.dmabuf_core.specs.Buffers.{AreBuffers}
-use Rattle.dmabuf_core.proofs.Tables.{AreBuffers-set_value, OnErr-always, OnErr-weaker, set_value-same}
+use Rattle.dmabuf_core.specs.Flags.{import_usage, imported, with_usage}
+use Rattle.dmabuf_core.specs.Buffers.{AreBuffers, OnlyChanges, table_at}
+use Rattle.dmabuf_core.proofs.Adding.{OnOk-weaker}
+use Rattle.dmabuf_core.proofs.Tables.{AreBuffers-written, OnlyChanges-written, unwritten, set_value-index, AgreesAbove-written, OnErr-weaker}
 use Rattle.dmabuf_core.proofs.buffers.Buffers.import.Goals as goal
 
--- the table is written back as it was
-same : (c : goal.After-from_residual) → (c.get_mut.follows.lender c.in-Some.table.now).entries ≡ c.args.self.now
-same c =
-    (c.get_mut.follows.holds c.in-Some.table.now).0
-    ∙ set_value-same (pointwise nat_eq c.args.name.now) c.self.inside.by_name.entries c.in-Some.table.now (sym c.in-Some.ensures.value)
-    ∙ c.self.view_is
+table : (c : goal.After-self-1) → table_at c.self.inside.by_name.entries c.args.name.now ≡ Some c.index_mut.result.now
+table c = sym c.in-Some.ensures.table ∙ c.index_mut.ensures.value
 
-pub invariant_of-self-in_err-of : goal.invariant_of-self-in_err-of
-invariant_of-self-in_err-of c = subst AreBuffers (c.self.view_is ∙ sym (same c)) c.self.invariant
+kept : (c : goal.After-self-1) → AreBuffers (set_value_at c.self.inside.by_name.entries c.in-Some.index c.put_all.new.table)
+kept c = AreBuffers-written c.self.inside.by_name.entries c.args.name.now c.in-Some.index c.in-Some.ensures.index c.put_all.new.table c.self.invariant c.put_all.ensures.table
 
-pub returns-in_err-of-clause-nothing : goal.returns-in_err-of-clause-nothing
-returns-in_err-of-clause-nothing c = λ none. same c
+others : (c : goal.After-self-1) → OnlyChanges c.args.name.now c.args.self.now (set_value_at c.self.inside.by_name.entries c.in-Some.index c.put_all.new.table)
+others c =
+    subst (λ bs. OnlyChanges c.args.name.now bs (set_value_at c.self.inside.by_name.entries c.in-Some.index c.put_all.new.table)) c.self.view_is
+    (OnlyChanges-written c.self.inside.by_name.entries c.args.name.now c.in-Some.index c.in-Some.ensures.index c.index_mut.result.now c.put_all.new.table (table c))
 
-pub returns-in_err-of-clause-unchanged : goal.returns-in_err-of-clause-unchanged
-returns-in_err-of-clause-unchanged c = OnErr-always c.from_residual.result _ (same c)
+same : (c : goal.After-self-1) → c.put_all.new.table ≡ c.index_mut.result.now → set_value_at c.self.inside.by_name.entries c.in-Some.index c.put_all.new.table ≡ c.args.self.now
+same c is =
+    unwritten c.self.inside.by_name.entries c.args.name.now c.in-Some.index c.in-Some.ensures.index c.index_mut.result.now c.put_all.new.table (table c) is ∙ c.self.view_is
 
-pub returns-in_err-of-clause-kept : goal.returns-in_err-of-clause-kept
-returns-in_err-of-clause-kept c = subst AreBuffers (c.self.view_is ∙ sym (same c)) c.self.invariant
+pub invariant_of-self : goal.invariant_of-self
+invariant_of-self c = kept c
 
-kept : (c : goal.After-self-2-1) → AreBuffers (c.get_mut.follows.lender c.put_all.new.table).entries
-kept c = subst AreBuffers (sym (c.get_mut.follows.holds c.put_all.new.table).0) (AreBuffers-set_value c.args.name.now c.self.inside.by_name.entries c.put_all.new.table c.self.invariant c.put_all.ensures.table)
+pub returns-clause-agrees : goal.returns-clause-agrees
+returns-clause-agrees c =
+    let found = ap (λ bs. table_at bs c.args.name.now) (sym c.self.view_is) ∙ table c in
+    let written = set_value-index c.self.inside.by_name.entries c.args.name.now c.in-Some.index c.in-Some.ensures.index c.put_all.new.table ∙ ap (λ bs. set_value (same_name c.args.name.now) bs c.put_all.new.table) c.self.view_is in
+    let points : c.as_slice.result.now ≡ c.args.file.now.points = c.as_slice.ensures ∙ ap (λ (f : File). f.points) c.file.view_is in
+    let usage : c.import_usage-usage.result ≡ import_usage c.args.flags = c.import_usage-usage.ensures ∙ ap import_usage c.in_ok-of.ensures.number in
+    let added : map (with_usage c.import_usage-usage.result) (as_entries c.as_slice.result.now) ≡ imported c.args.flags (as_entries c.args.file.now.points) =
+    ap (λ u. map (with_usage u) (as_entries c.as_slice.result.now)) usage ∙ ap (λ ps. map (with_usage (import_usage c.args.flags)) (as_entries ps)) points in
+    OnOk-weaker c.put_all.result _ _
+    (λ agrees. AgreesAbove-written (imported c.args.flags (as_entries c.args.file.now.points)) c.args.self.now (set_value_at c.self.inside.by_name.entries c.in-Some.index c.put_all.new.table) c.args.name.now c.index_mut.result.now c.put_all.new.table found written (subst (λ es. AgreesAbove c.args.reach.now c.put_all.new.table.entries (c.index_mut.result.now.entries ++ es)) added agrees))
+    c.put_all.ensures.agrees
 
-unwritten : (c : goal.After-self-2-1) → c.put_all.new.table ≡ c.in-Some.table.now → (c.get_mut.follows.lender c.put_all.new.table).entries ≡ c.args.self.now
-unwritten c is =
-    (c.get_mut.follows.holds c.put_all.new.table).0
-    ∙ set_value-same (pointwise nat_eq c.args.name.now) c.self.inside.by_name.entries c.put_all.new.table (sym c.in-Some.ensures.value ∙ ap Some (sym is))
-    ∙ c.self.view_is
-
-pub invariant_of-self-2 : goal.invariant_of-self-2
-invariant_of-self-2 c = kept c
+pub returns-clause-others : goal.returns-clause-others
+returns-clause-others c = others c
 
 pub returns-clause-nothing : goal.returns-clause-nothing
-returns-clause-nothing c = λ none. unwritten c (c.put_all.ensures.nothing (c.as_slice.ensures ∙ ap (λ (f : File). f.points) c.file.view_is ∙ none))
+returns-clause-nothing c = λ none. same c (c.put_all.ensures.nothing (c.as_slice.ensures ∙ ap (λ (f : File). f.points) c.file.view_is ∙ none))
 
 pub returns-clause-unchanged : goal.returns-clause-unchanged
-returns-clause-unchanged c = OnErr-weaker c.put_all.result _ _ (unwritten c) c.put_all.ensures.unchanged
+returns-clause-unchanged c = OnErr-weaker c.put_all.result _ _ (same c) c.put_all.ensures.unchanged
 
 pub returns-clause-kept : goal.returns-clause-kept
 returns-clause-kept c = kept c
