@@ -1,5 +1,5 @@
-//! Loads bytes into the lanes of a vector, with zeros after them. `Name` keeps its bytes so, and `line_core` compares
-//! words as numbers.
+//! Loads bytes into the lanes of a vector, with zeros after them. `Name` keeps its bytes in this form, and `line_core`
+//! compares words as numbers.
 ghost use Rattle.std.specs.Prelude.{◌≡◌, ◌+◌, ◌*◌, ◌^◌, ◌<◌, ◌≤◌, length, get_or};
 ghost use Rattle.std.specs.Simd.Lanes.{chunk, digits_l, number_l};
 ghost use Rattle.point_core.specs.Name.{padded};

@@ -1,4 +1,4 @@
-//! `Act` and `Plan`: the script of one client, and `Settled`, the end that all plans come to in every schedule.
+//! `Act` and `Plan`: the acts of one client, and `Settled`, the end that all plans come to in every schedule.
 ghost use Rattle.std.specs.Prelude.{◌≡◌, ℕ, IfErr, IsTrue, OkIff, length};
 ghost use Rattle.std.specs.List.{list_all};
 ghost use Rattle.point_core.specs.declared.refusal.Refusal.TheVariants as refusal;
