@@ -4,15 +4,6 @@ ghost use Rattle.std.specs.Prelude.{◌≡◌, ◌++◌, ◌∷◌, [], IfOk, If
 use point_core::Refusal;
 use std::alloc::Global;
 
-pub(crate) fn copied(alloc: Global, places: &[usize]) -> Result<Vec<usize>, Refusal>
-    ensures copied { IfOk result (λ copy. copy.items ≡ places.now) }
-    ensures memory { IfErr result (λ e. e ≡ Refusal.Memory) }
-{
-    let mut copy = Vec::with_capacity(alloc, places.len())?;
-    copy.extend_from_slice(places)?;
-    Ok(copy)
-}
-
 /// The clients as they are shown.
 pub(crate) fn shown(alloc: Global, clients: &[u16]) -> Result<Vec<usize>, Refusal>
     ensures shown { IfOk result (λ shown. shown.items ≡ clients.now) }

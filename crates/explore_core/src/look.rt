@@ -210,20 +210,22 @@ fn buffer_looks(alloc: Global, desk: &Desk, names: &[Name]) -> Result<Vec<Buffer
 {
     let mut looks = Vec::new(alloc);
     for name in names {
-        let look = buffer_look(desk, name)?;
+        let look = buffer_look(alloc, desk, name)?;
         looks.push(look).map_err(|_| Refusal::Memory)?;
     }
     Ok(looks)
 }
 
 /// Fails also if there is no such buffer.
-fn buffer_look(desk: &Desk, name: &Name) -> Result<BufferLook, Refusal>
+fn buffer_look(alloc: Global, desk: &Desk, name: &Name) -> Result<BufferLook, Refusal>
     ensures look { IfOk result (λ look. look ≡ buffer_look desk.now name.now) }
     ensures memory { IfErr result (λ e. e ≡ Refusal.Memory) }
 {
-    let Ok(tops) = desk.buffer_rows(name) else {
+    let Ok(rows) = desk.buffer_rows(name) else {
         return Err(Refusal::Memory);
     };
+    // The rows have room for each timeline at each usage, 16 KiB. A copy has room only for its rows.
+    let tops = Vec::from_slice(alloc, rows.as_slice())?;
     Ok(BufferLook {
         name: *name,
         tops: Items::of(tops),

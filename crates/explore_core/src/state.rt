@@ -3,7 +3,6 @@ ghost use Rattle.std.specs.Prelude.{◌≡◌, true, length, IfOk, IfErr};
 ghost use Rattle.explore_core.specs.Search.{AreSameSeen, IsAt, IsSeen, standing_of};
 ghost use Rattle.explore_core.specs.Schedule.{ComesTo};
 
-use crate::list::copied;
 use crate::look::{Look, mix};
 use crate::plan::Plan;
 use crate::position::Position;
@@ -39,7 +38,7 @@ impl Seen {
         ensures schedule { IfOk result (λ seen. seen.state.schedule ≡ schedule) }
         ensures memory { IfErr result (λ e. e ≡ Refusal.Memory) }
     {
-        let made = copied(alloc, position.made.as_slice())?;
+        let made = Vec::from_slice(alloc, position.made.as_slice())?;
         let look = Look::of(alloc, plan, &position.desk)?;
         let state = State { schedule, made };
         Ok(Seen { state, look })

@@ -6,4 +6,4 @@ use Rattle.explore_core.proofs.look.buffer_look.Goals as goal
 pub returns-clause-look : goal.returns-clause-look
 returns-clause-look c =
     let look : List TopRow → BufferLook = λ tops. record { name = c.args.name.now; tops = tops } in
-    ap look (c.of.ensures ∙ c.in-Ok.ensures.rows)
+    ap look (c.of.ensures ∙ c.in_ok-tops.ensures.items ∙ c.as_slice.ensures.value ∙ c.in-Ok.ensures.rows)
