@@ -13,3 +13,4 @@ pub mod Trying
 pub mod Positions
 pub mod SameAnswers
 pub mod Visiting
+pub mod Replaying

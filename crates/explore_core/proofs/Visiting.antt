@@ -38,7 +38,7 @@ stays-by : (w : World) (c : Command) (refused : Bool) → (keeps_world c || refu
 stays-by w c true is = refl
 stays-by w c false is = keeps-world w c (or-false (keeps_world c) is)
 
-stays-world : (w : World) (c : Command) (given : Answer) → given ≡ answer_to w c → stays c given ≡ true → after_answer w c ≡ w
+pub stays-world : (w : World) (c : Command) (given : Answer) → given ≡ answer_to w c → stays c given ≡ true → after_answer w c ≡ w
 stays-world w c given is same = subst (λ (g : Answer). (if is_refused g then w else after w c) ≡ w) is (stays-by w c (is_refused given) same)
 
 -- so the desk has the history before the command too

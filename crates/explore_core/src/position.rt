@@ -1,10 +1,10 @@
 //! `Position`: a desk along a schedule, and how many lines each client has made on it.
-ghost use Rattle.std.specs.Prelude.{◌≡◌, ◌&&◌, true, List, None, IsTrue, IfOk, IfErr, OnOk, replicate, get_or, set, slice_get};
+ghost use Rattle.std.specs.Prelude.{◌≡◌, ◌+◌, ◌&&◌, true, List, None, Some, IsTrue, IfOk, IfErr, IfSome, OnOk, replicate, get_or, set, slice_get};
 ghost use Rattle.command_core.specs.declared.command.Command.{Command};
 ghost use Rattle.desk_core.specs.theorem.Answer.{is_refused};
 ghost use Rattle.desk_core.specs.theorem.Desk.{HasHistory};
-ghost use Rattle.explore_core.specs.Schedule.{Standing, history_along, lines_of};
-ghost use Rattle.explore_core.specs.Search.{IsMade, IsAt, IsTurn, standing_after, standing_along, standing_of};
+ghost use Rattle.explore_core.specs.Schedule.{Standing, ComesTo, Leads, after_one, history_along, lines_of};
+ghost use Rattle.explore_core.specs.Search.{IsMade, IsAt, IsTurn, keeps_world, standing_after, standing_of};
 
 use crate::plan::{Plan, Step};
 use command_core::{Answer, Command};
@@ -30,8 +30,9 @@ pub(crate) enum Turn {
 }
 
 impl Position {
-    /// Where the plan comes by that schedule, on a fresh desk.
+    /// The position after this schedule, on a fresh desk.
     pub(crate) fn at(alloc: Global, plan: &Plan, schedule: &[u16]) -> Result<Position, Refusal>
+        requires comes { ComesTo plan.now schedule.now (standing_of plan.now schedule.now) }
         ensures at { IfOk result (λ position. IsAt position (standing_of plan.now schedule.now)) }
         ensures memory { IfErr result (λ e. e ≡ Refusal.Memory) }
     {
@@ -43,15 +44,31 @@ impl Position {
         Ok(position)
     }
 
-    /// The clients go, one after another. A client that can't make its next line makes none.
+    /// The clients make their lines in the order of the schedule, if the schedule leads on from here.
     fn go_along(&mut self, plan: &Plan, schedule: &[u16]) -> Result<(), Refusal>
-        ensures along { OnOk result ((now : Standing) →
-            IsAt self.old now → IsAt self.new (standing_along plan.now now schedule.now)) }
+        ensures along { OnOk result ((from to : Standing) →
+            IsAt self.old from → Leads plan.now from schedule.now to → IsAt self.new to) }
         ensures memory { IfErr result (λ e. e ≡ Refusal.Memory) }
     {
         for client in schedule {
-            self.go(plan, usize::from(*client))?;
+            self.go_again(plan, usize::from(*client))?;
         }
+        Ok(())
+    }
+
+    /// The client makes its next line, which can be made here. A line that only asks is counted and not run: the desk answers
+    /// alike without it.
+    fn go_again(&mut self, plan: &Plan, client: usize) -> Result<(), Refusal>
+        ensures after { OnOk result ((now next : Standing) →
+            IsAt self.old now → after_one plan.now now client ≡ Some next → IsAt self.new next) }
+        ensures memory { IfErr result (λ e. e ≡ Refusal.Memory) }
+    {
+        let place = place_of(self.made.as_slice(), client);
+        if only_asks(plan, client, place) {
+            self.count(client, place)?;
+            return Ok(());
+        }
+        self.go(plan, client)?;
         Ok(())
     }
 
@@ -70,12 +87,22 @@ impl Position {
         if is_held(&step, &answer) {
             return Ok(Turn::Waits);
         }
+        self.count(client, place)?;
+        Ok(Turn::Made(place, answer))
+    }
+
+    /// Counts the client's line of that place as made.
+    fn count(&mut self, client: usize, place: usize) -> Result<(), Refusal>
+        ensures desk { self.new.desk ≡ self.old.desk }
+        ensures made { OnOk result (self.new.made.items ≡ set self.old.made.items client (place + 1)) }
+        ensures memory { IfErr result (λ e. e ≡ Refusal.Memory) }
+    {
         let Some(next) = place.checked_add(1) else {
-            // It does not come to this: there are fewer lines than a usize counts.
+            // This can't happen: there are fewer lines than a usize counts.
             return Err(Refusal::Memory);
         };
         set(self.made.as_mut_slice(), client, next);
-        Ok(Turn::Made(place, answer))
+        Ok(())
     }
 
     /// Takes back the client's line of that place, which has left the desk as it was.
@@ -128,6 +155,33 @@ pub(crate) fn line_at(plan: &Plan, client: usize, place: usize) -> Option<Step>
 {
     let lines = plan.clients.get(client)?;
     lines.get(place).copied()
+}
+
+/// Whether the client's line of that place only asks, or drops what no answer shows.
+fn only_asks(plan: &Plan, client: usize, place: usize) -> bool
+    ensures { result ≡ true →
+        IfSome (slice_get (lines_of plan.now client) place) (λ step. keeps_world step.command ≡ true) }
+{
+    let Some(step) = line_at(plan, client, place) else {
+        return false;
+    };
+    keeps_world(&step.command)
+}
+
+/// Whether the command only asks, or drops what no answer shows.
+pub(crate) fn keeps_world(command: &Command) -> bool
+    ensures { result ≡ keeps_world command.now }
+{
+    match command {
+        Command::Value(_) => true,
+        Command::Wait(_) => true,
+        Command::Info(_) => true,
+        Command::Test(_, _) => true,
+        Command::Trim(_) => true,
+        Command::Show(_) => true,
+        Command::Report => true,
+        _ => false,
+    }
 }
 
 /// Makes the commands one after another.

@@ -2,11 +2,11 @@
 //! away from the state, and the state's schedule is run again on a fresh desk before another client goes.
 ghost use Rattle.std.specs.Prelude.{◌≡◌, true, IfOk, IfErr, OnOk, IfSome, slice_get};
 ghost use Rattle.desk_core.specs.theorem.History.{IsHistory};
-ghost use Rattle.explore_core.specs.Schedule.{Standing, lines_of};
-ghost use Rattle.explore_core.specs.Search.{IsAt, IsVisitOf, Answers, keeps_world, stays, standing_of, standing_after};
+ghost use Rattle.explore_core.specs.Schedule.{Standing, ComesTo, lines_of};
+ghost use Rattle.explore_core.specs.Search.{IsAt, IsVisitOf, Answers, stays, standing_of, standing_after};
 
 use crate::plan::Plan;
-use crate::position::{Position, is_refused, line_at};
+use crate::position::{Position, is_refused, keeps_world, line_at};
 use command_core::{Answer, Command};
 use point_core::Refusal;
 use std::alloc::Global;
@@ -21,6 +21,7 @@ pub(crate) struct Visit {
 impl Visit {
     /// A visit of the state that the schedule comes to.
     pub(crate) fn at(alloc: Global, plan: &Plan, schedule: &[u16]) -> Result<Visit, Refusal>
+        requires comes { ComesTo plan.now schedule.now (standing_of plan.now schedule.now) }
         ensures at { IfOk result (λ visit. IsVisitOf visit (standing_of plan.now schedule.now)) }
         ensures memory { IfErr result (λ e. e ≡ Refusal.Memory) }
     {
@@ -38,6 +39,7 @@ impl Visit {
         plan: &Plan,
         schedule: &[u16],
     ) -> Result<(), Refusal>
+        requires comes { ComesTo plan.now schedule.now (standing_of plan.now schedule.now) }
         ensures at { OnOk result (IsVisitOf self.old (standing_of plan.now schedule.now) →
             IsAt self.new.position (standing_of plan.now schedule.now)) }
         ensures memory { IfErr result (λ e. e ≡ Refusal.Memory) }
@@ -78,20 +80,4 @@ fn stays(command: &Command, answer: &Answer) -> bool
     ensures { result ≡ stays command.now answer.now }
 {
     keeps_world(command) || is_refused(answer)
-}
-
-/// Whether the command only asks, or drops what no answer shows.
-fn keeps_world(command: &Command) -> bool
-    ensures { result ≡ keeps_world command.now }
-{
-    match command {
-        Command::Value(_) => true,
-        Command::Wait(_) => true,
-        Command::Info(_) => true,
-        Command::Test(_, _) => true,
-        Command::Trim(_) => true,
-        Command::Show(_) => true,
-        Command::Report => true,
-        _ => false,
-    }
 }

@@ -5,6 +5,11 @@ use Rattle.explore_core.proofs.Levels.{Grows-refl}
 use Rattle.explore_core.proofs.Finding.{Grows-ended, HasEnds-listed}
 use Rattle.explore_core.proofs.search.make_last.Goals as goal
 
+pub at-requires : goal.at-requires
+at-requires c = record {
+  comes = subst (λ (s : Schedule). ComesTo c.args.plan.now s (standing_of c.args.plan.now s)) (sym c.as_slice-schedule.ensures.value) c.requires.state.comes;
+}
+
 pub returns-in_default-clause-grows : goal.returns-in_default-clause-grows
 returns-in_default-clause-grows c = Grows-refl c.args.plan.now c.args.depth c.args.found.now
 

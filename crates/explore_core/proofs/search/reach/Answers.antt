@@ -10,6 +10,11 @@ returns-then-is_done-clause-reached c =
 pub returns-then-is_done-clause-at : goal.returns-then-is_done-clause-at
 returns-then-is_done-clause-at c = c.requires.at
 
+pub come_back-requires : goal.come_back-requires
+come_back-requires c = record {
+  comes = subst (λ (s : Schedule). ComesTo c.args.plan.now s (standing_of c.args.plan.now s)) (sym c.as_slice-schedule.ensures.value) c.requires.comes;
+}
+
 pub reach_from-requires : goal.reach_from-requires
 reach_from-requires c =
     let plan = c.args.plan.now in
