@@ -14,3 +14,4 @@ pub mod Positions
 pub mod SameAnswers
 pub mod Visiting
 pub mod Replaying
+pub mod Parting

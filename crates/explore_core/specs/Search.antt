@@ -1,5 +1,5 @@
 -- A search by levels: the states of a level are those that schedules of one length come to.
-use Rattle.std.specs.Prelude.{◌≡◌, ◌⊎◌, ℕ, ◌+◌, ◌<◌, ◌≤◌, Bool, true, false, not, ◌||◌, if◌then◌else◌, filter, List, [], ◌∷◌, ◌++◌, length, map, take, All, Contains, Option, None, Some, IsSome, slice_get, unwrap_or}
+use Rattle.std.specs.Prelude.{◌≡◌, ◌⊎◌, ℕ, ◌+◌, ◌<◌, ◌≤◌, Bool, true, false, not, ◌||◌, if◌then◌else◌, filter, List, [], ◌∷◌, ◌++◌, length, map, take, All, Contains, Option, None, Some, IsSome, slice_get, get_or, unwrap_or}
 use Rattle.std.specs.List.{list_any}
 use Rattle.point_core.specs.declared.entry.Point.{Point}
 use Rattle.point_core.specs.Clocks.{status_at}
@@ -23,6 +23,9 @@ use Rattle.explore_core.specs.declared.look.Look.{Look}
 use Rattle.explore_core.specs.declared.position.Position.{Position}
 use Rattle.explore_core.specs.declared.position.Turn.{Turn}
 use Rattle.explore_core.specs.declared.position.Turn.TheVariants.{Done, Waits, Made}
+use Rattle.explore_core.specs.declared.level.Kept.{Kept}
+use Rattle.explore_core.specs.declared.parts.Parts.{Parts}
+use Rattle.explore_core.specs.declared.parts.Places.{Places}
 use Rattle.explore_core.specs.declared.state.State.{State}
 use Rattle.explore_core.specs.declared.state.Seen.{Seen}
 use Rattle.explore_core.specs.declared.visit.Visit.{Visit}
@@ -191,6 +194,60 @@ pub record AreSameSeen (a b : Seen) : Type 0 where
 abbrev pub Keeps : List Seen → Seen → List Seen → Type 0
 Keeps old seen new =
     ((new ≡ old) × (other : Seen) × Contains old other × AreSameSeen seen other) ⊎ (new ≡ old ++ seen ∷ [])
+
+-- the new list begins with the old one
+pub record Begins {X : Type 0} (old new : List X) : Type 0 where
+  pub added : List X
+  pub is : new ≡ old ++ added
+
+abbrev pub no_parts : Parts
+no_parts = record { timelines = []; files = []; buffers = [] }
+
+abbrev pub no_file : FileLook
+no_file = record { name = []; points = [] }
+
+abbrev pub file_at : List FileLook → ℕ → FileLook
+file_at files place = get_or files place no_file
+
+-- the look that has its parts at these places
+abbrev pub look_of : Parts → Places → Look
+look_of parts places = record {
+  timelines = get_or parts.timelines places.timelines [];
+  files = map (file_at parts.files) places.files.items;
+  buffers = get_or parts.buffers places.buffers [];
+}
+
+-- there is a part at each of the places
+pub record Fits (parts : Parts) (places : Places) : Type 0 where
+  pub timelines : places.timelines < length parts.timelines
+  pub files : All (λ (i : ℕ). i < length parts.files) places.files.items
+  pub buffers : places.buffers < length parts.buffers
+
+-- no part has changed its place
+pub record IsGrown (old new : Parts) : Type 0 where
+  pub timelines : Begins old.timelines new.timelines
+  pub files : Begins old.files new.files
+  pub buffers : Begins old.buffers new.buffers
+
+-- the same places, those of files in whatever order
+pub record AreSamePlaces (a b : Places) : Type 0 where
+  pub timelines : a.timelines ≡ b.timelines
+  pub buffers : a.buffers ≡ b.buffers
+  pub there : All (Contains b.files.items) a.files.items
+  pub here : All (Contains a.files.items) b.files.items
+  pub count : length a.files.items ≡ length b.files.items
+
+-- in both, each client has made as many lines, and the looks have the same parts
+pub record AreSameKept (a b : Kept) : Type 0 where
+  pub made : a.state.made.items ≡ b.state.made.items
+  pub places : AreSamePlaces a.places b.places
+
+-- the state, with the look that has its parts there
+abbrev pub seen_of : Parts → Kept → Seen
+seen_of parts kept = record { state = kept.state; look = look_of parts kept.places }
+
+abbrev pub states_kept : List Kept → List State
+states_kept kept = map (λ (k : Kept). k.state) kept
 
 -- whatever was found is found still, and what is found anew comes about by schedules of that length
 pub record Grows (plan : Lines) (depth : ℕ) (old new : Found) : Type 0 where

@@ -1,9 +1,11 @@
 //! `Level`: the states that schedules of one length come to, while they are found; of states that are the same only the first.
 //! Once all are found only the states are kept, and not what was seen of their desks.
 ghost use Rattle.std.specs.Prelude.{◌≡◌, ◌++◌, ◌∷◌, true, [], IfOk, IfErr, OnOk, OnErr, Contains};
-ghost use Rattle.explore_core.specs.declared.state.Seen.{Seen as Sight};
-ghost use Rattle.explore_core.specs.Search.{Keeps, AreSameSeen, states_of};
+ghost use Rattle.explore_core.specs.declared.level.Kept.{Kept as Holding};
+ghost use Rattle.explore_core.specs.Search.{Keeps, AreSameKept, states_of, states_kept};
 
+use crate::look::mix;
+use crate::parts::{Parts, Places};
 use crate::search::Stop;
 use crate::state::{Seen, State};
 use indexmap::IndexMap;
@@ -11,23 +13,35 @@ use point_core::Refusal;
 use std::alloc::Global;
 use std::marker::Model;
 
-/// What was seen of each state, and a table by hashes. The table is a hint: a state that it suggests is compared as a whole, and
-/// a state that it misses is kept twice.
+/// The states with the places of their looks, the parts of these, and a table by hashes. The table is a hint: a state that it
+/// suggests is compared as a whole, and a state that it misses is kept twice. Each place is one of the parts.
 #[derive(Drop)]
 pub(crate) struct Level {
-    seen: Vec<Seen>,
+    kept: Vec<Kept>,
+    parts: Parts,
     by_hash: IndexMap<u64, usize>,
     // how many states there may be
     room: usize,
 }
 
 impl Model for Level {
-    ghost use Rattle.std.specs.Prelude.{List};
+    ghost use Rattle.std.specs.Prelude.{List, All, map};
+    ghost use Rattle.explore_core.specs.declared.level.Kept.{Kept};
     ghost use Rattle.explore_core.specs.declared.state.Seen.{Seen};
+    ghost use Rattle.explore_core.specs.Search.{Fits, seen_of};
 
     ghost Value = { List Seen };
 
-    ghost view = { λ l. l.seen.items };
+    ghost view = { λ l. map (seen_of l.parts) l.kept.items };
+
+    ghost invariant = { λ l. All (λ (k : Kept). Fits l.parts k.places) l.kept.items };
+}
+
+/// A state, and the places of its look.
+#[derive(Debug, Drop)]
+struct Kept {
+    state: State,
+    places: Places,
 }
 
 impl Level {
@@ -35,7 +49,8 @@ impl Level {
         ensures { result ≡ [] }
     {
         Level {
-            seen: Vec::new(alloc),
+            kept: Vec::new(alloc),
+            parts: Parts::new(alloc),
             by_hash: IndexMap::new(alloc),
             room,
         }
@@ -46,64 +61,94 @@ impl Level {
         ensures states { IfOk result (λ states. states.items ≡ states_of self) }
         ensures memory { IfErr result (λ e. e ≡ Refusal.Memory) }
     {
-        let Level { seen, .. } = self;
-        states_of(alloc, seen)
+        let Level { kept, .. } = self;
+        states_of(alloc, kept)
     }
 
     /// Keeps what was seen of a state, unless a state that is the same is kept.
     ///
     /// Fails if there is no room or no memory for it, and then keeps what it kept.
-    pub(crate) fn keep(&mut self, seen: Seen) -> Result<(), Stop>
+    pub(crate) fn keep(&mut self, alloc: Global, seen: Seen) -> Result<(), Stop>
         ensures keeps { OnOk result (Keeps self.old seen self.new) }
         ensures unchanged { OnErr result (self.new ≡ self.old) }
     {
-        let hash = seen.hash();
-        if self.has(hash, &seen) {
-            return Ok(());
-        }
-        if self.seen.len() >= self.room {
-            return Err(Stop::Bound);
-        }
-        let Ok(_old) = self.by_hash.insert(hash, self.seen.len()) else {
+        let Seen { state, look } = seen;
+        let Ok(places) = self.parts.places_of(alloc, look) else {
             return Err(Stop::Memory);
         };
-        let Ok(_done) = self.seen.push(seen) else {
+        let kept = Kept { state, places };
+        let hash = kept.hash();
+        if has(&self.by_hash, self.kept.as_slice(), hash, &kept) {
+            return Ok(());
+        }
+        if self.kept.len() >= self.room {
+            return Err(Stop::Bound);
+        }
+        let Ok(_old) = self.by_hash.insert(hash, self.kept.len()) else {
+            return Err(Stop::Memory);
+        };
+        let Ok(_done) = self.kept.push(kept) else {
             return Err(Stop::Memory);
         };
         Ok(())
     }
+}
 
-    /// Whether the state that the table suggests is the same.
-    fn has(&self, hash: u64, seen: &Seen) -> bool
-        ensures { result ≡ true → (other : Sight) × Contains self.now other × AreSameSeen seen.now other }
+impl Kept {
+    /// Whether the clients have made as many lines in both, and the looks have the same parts.
+    fn is_same(&self, other: &Kept) -> bool
+        ensures { result ≡ true → AreSameKept self.now other.now }
     {
-        let Some(place) = self.by_hash.get(&hash) else {
-            return false;
-        };
-        let Some(kept) = self.seen.get(*place) else {
-            return false;
-        };
-        seen.is_same(kept)
+        are_same(self.state.made.as_slice(), other.state.made.as_slice())
+            && self.places.is_same(&other.places)
+    }
+
+    /// A number by which the state may be found again.
+    fn hash(&self) -> u64 {
+        let mut hash = self.places.hash();
+        for made in self.state.made.as_slice() {
+            hash = mix(hash, *made as u64);
+        }
+        hash
     }
 }
 
-/// The states, without what was seen of them.
-fn states_of(alloc: Global, seen: Vec<Seen>) -> Result<Vec<State>, Refusal>
-    ensures states { IfOk result (λ states. states.items ≡ states_of seen.items) }
+/// Whether the state that the table suggests is the same.
+fn has(by_hash: &IndexMap<u64, usize>, all: &[Kept], hash: u64, kept: &Kept) -> bool
+    ensures { result ≡ true → (other : Holding) × Contains all.now other × AreSameKept kept.now other }
+{
+    let Some(place) = by_hash.get(&hash) else {
+        return false;
+    };
+    let Some(other) = all.get(*place) else {
+        return false;
+    };
+    kept.is_same(other)
+}
+
+fn are_same(made: &[usize], others: &[usize]) -> bool
+    ensures { result ≡ true → made.now ≡ others.now }
+{
+    made == others
+}
+
+/// The states, without the places of their looks.
+fn states_of(alloc: Global, kept: Vec<Kept>) -> Result<Vec<State>, Refusal>
+    ensures states { IfOk result (λ states. states.items ≡ states_kept kept.items) }
     ensures memory { IfErr result (λ e. e ≡ Refusal.Memory) }
 {
     let mut states = Vec::new(alloc);
-    for one in seen {
+    for one in kept {
         put_state(&mut states, one)?;
     }
     Ok(states)
 }
 
-fn put_state(states: &mut Vec<State>, seen: Seen) -> Result<(), Refusal>
-    ensures put { OnOk result (states.new.items ≡ states.old.items ++ seen.state ∷ []) }
+fn put_state(states: &mut Vec<State>, kept: Kept) -> Result<(), Refusal>
+    ensures put { OnOk result (states.new.items ≡ states.old.items ++ kept.state ∷ []) }
     ensures memory { IfErr result (λ e. e ≡ Refusal.Memory) }
 {
-    let Seen { state, .. } = seen;
+    let Kept { state, .. } = kept;
     states.push(state).map_err(|_| Refusal::Memory)?;
     Ok(())
 }

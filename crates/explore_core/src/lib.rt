@@ -12,10 +12,12 @@ mod level;
 mod list;
 mod listing;
 mod look;
+mod parts;
 mod plan;
 mod position;
 mod search;
 mod state;
+mod table;
 mod visit;
 
 pub use explorer::{STATES, explore};

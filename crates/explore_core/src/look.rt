@@ -1,10 +1,10 @@
 //! `Look`: what the lines of a plan can see of a desk without watches. Two desks whose looks are the same answer them alike for
 //! ever (`laws.rt`), so a state keeps a look and no desk.
-ghost use Rattle.std.specs.Prelude.{◌≡◌, true, ◌++◌, ◌∷◌, [], length, map, filter, IfOk, IfErr, OnOk, Contains, All};
-ghost use Rattle.explore_core.specs.declared.look.FileLook.{FileLook as SeenFile};
-ghost use Rattle.explore_core.specs.Search.{Shows, AreSameLooks, is_asked, is_name, has_name, is_to_come, seen_points, file_look, buffer_look};
+ghost use Rattle.std.specs.Prelude.{◌≡◌, true, ◌++◌, ◌∷◌, [], map, filter, IfOk, IfErr, OnOk};
+ghost use Rattle.explore_core.specs.Search.{Shows, is_asked, is_name, has_name, is_to_come, seen_points, file_look, buffer_look};
 
 use crate::plan::Plan;
+use crate::table::Part;
 use desk_core::Desk;
 use point_core::{Items, Name, Point, Refusal, TimelineRow, TopRow};
 use std::alloc::Global;
@@ -51,21 +51,35 @@ impl Look {
             buffers: Items::of(buffers),
         })
     }
+}
 
-    /// A number by which the look may be found again: looks that are the same have the same number.
-    pub(crate) fn hash(&self) -> u64 {
-        let hash = hash_of_timelines(self.timelines.as_slice());
-        let hash = hash_of_buffers(hash, self.buffers.as_slice());
-        mix(hash, hash_of_files(self.files.as_slice()))
+impl Part for Items<TimelineRow> {
+    fn hash(&self) -> u64 {
+        hash_of_timelines(self.as_slice())
     }
 
-    /// Whether both show the same, but for the order in which files were made.
-    pub(crate) fn is_same(&self, other: &Look) -> bool
-        ensures { result ≡ true → AreSameLooks self.now other.now }
-    {
-        are_same_rows(&self.timelines, &other.timelines)
-            && are_same_buffers(&self.buffers, &other.buffers)
-            && are_same_files(self.files.as_slice(), other.files.as_slice())
+    fn is_same(&self, other: &Self) -> bool {
+        are_same_rows(self, other)
+    }
+}
+
+impl Part for FileLook {
+    fn hash(&self) -> u64 {
+        hash_of_points(hash_of_name(&self.name), self.points.as_slice())
+    }
+
+    fn is_same(&self, other: &Self) -> bool {
+        is_same_file(self, other)
+    }
+}
+
+impl Part for Items<BufferLook> {
+    fn hash(&self) -> u64 {
+        hash_of_buffers(self.as_slice())
+    }
+
+    fn is_same(&self, other: &Self) -> bool {
+        are_same_buffers(self, other)
     }
 }
 
@@ -75,48 +89,16 @@ fn are_same_rows(rows: &Items<TimelineRow>, others: &Items<TimelineRow>) -> bool
     *rows == *others
 }
 
-fn are_same_buffers(buffers: &Items<BufferLook>, others: &Items<BufferLook>) -> bool
-    ensures { result ≡ true → buffers.now ≡ others.now }
-{
-    *buffers == *others
-}
-
-/// Whether both have the same files, in whatever order.
-fn are_same_files(files: &[FileLook], others: &[FileLook]) -> bool
-    ensures count { result ≡ true → length files.now ≡ length others.now }
-    ensures there { result ≡ true → All (λ (f : SeenFile). Contains others.now f) files.now }
-    ensures here { result ≡ true → All (λ (f : SeenFile). Contains files.now f) others.now }
-{
-    files.len() == others.len() && are_among(files, others) && are_among(others, files)
-}
-
 fn is_same_file(file: &FileLook, other: &FileLook) -> bool
     ensures { result ≡ true → file.now ≡ other.now }
 {
     *file == *other
 }
 
-/// Whether each file is one of the others.
-fn are_among(files: &[FileLook], others: &[FileLook]) -> bool
-    ensures { result ≡ true → All (λ (f : SeenFile). Contains others.now f) files.now }
+fn are_same_buffers(buffers: &Items<BufferLook>, others: &Items<BufferLook>) -> bool
+    ensures { result ≡ true → buffers.now ≡ others.now }
 {
-    for file in files {
-        if !is_among(file, others) {
-            return false;
-        }
-    }
-    true
-}
-
-fn is_among(file: &FileLook, others: &[FileLook]) -> bool
-    ensures { result ≡ true → Contains others.now file.now }
-{
-    for other in others {
-        if is_same_file(other, file) {
-            return true;
-        }
-    }
-    false
+    *buffers == *others
 }
 
 fn file_looks(
@@ -235,13 +217,13 @@ fn buffer_look(alloc: Global, desk: &Desk, name: &Name) -> Result<BufferLook, Re
 fn hash_of_timelines(rows: &[TimelineRow]) -> u64 {
     let mut hash = 0;
     for row in rows {
-        hash = mix(hash, row.value);
+        hash = mix(mix(hash, row.value), u64::from(row.closed));
     }
     hash
 }
 
-fn hash_of_buffers(start: u64, buffers: &[BufferLook]) -> u64 {
-    let mut hash = start;
+fn hash_of_buffers(buffers: &[BufferLook]) -> u64 {
+    let mut hash = 0;
     for buffer in buffers {
         hash = hash_of_tops(hash, buffer.tops.as_slice());
     }
@@ -254,16 +236,6 @@ fn hash_of_tops(start: u64, tops: &[TopRow]) -> u64 {
         hash = mix(mix(hash, u64::from(top.ctx.number())), top.point);
     }
     mix(hash, tops.len() as u64)
-}
-
-/// A sum, which does not depend on the order of the files.
-fn hash_of_files(files: &[FileLook]) -> u64 {
-    let mut sum: u64 = 0;
-    for file in files {
-        let name = hash_of_name(&file.name);
-        sum = sum.wrapping_add(hash_of_points(name, file.points.as_slice()));
-    }
-    sum
 }
 
 fn hash_of_name(name: &Name) -> u64 {

@@ -273,7 +273,7 @@ fn try_client(
             let Ok(_done) = record(&mut found.given, client, place, answer, schedule) else {
                 return Err(Stop::Memory);
             };
-            next.keep(later)?;
+            next.keep(alloc, later)?;
             Ok(Move::Goes)
         }
     }

@@ -43,27 +43,4 @@ impl Seen {
         let state = State { schedule, made };
         Ok(Seen { state, look })
     }
-
-    /// Whether the clients have made as many lines in both, and the desks look the same.
-    pub(crate) fn is_same(&self, other: &Seen) -> bool
-        ensures { result ≡ true → AreSameSeen self.now other.now }
-    {
-        are_same(self.state.made.as_slice(), other.state.made.as_slice())
-            && self.look.is_same(&other.look)
-    }
-
-    /// A number by which the state may be found again.
-    pub(crate) fn hash(&self) -> u64 {
-        let mut hash = self.look.hash();
-        for made in self.state.made.as_slice() {
-            hash = mix(hash, *made as u64);
-        }
-        hash
-    }
-}
-
-fn are_same(made: &[usize], others: &[usize]) -> bool
-    ensures { result ≡ true → made.now ≡ others.now }
-{
-    made == others
 }

@@ -1,0 +1,156 @@
+//! `Parts`: the parts of a level's looks, each part once. `Places`: a look by the places of its parts. A look takes kilobytes, its
+//! places take some hundred bytes, and two looks are compared by their places. `Level` keeps both.
+ghost use Rattle.std.specs.Prelude.{◌≡◌, ◌++◌, ◌∷◌, ℕ, ◌<◌, true, [], Some, slice_get, length, map, All, Contains, IfOk, IfErr, OnOk};
+ghost use Rattle.explore_core.specs.Search.{Begins, IsGrown, Fits, AreSamePlaces, no_parts, look_of, file_at};
+
+use crate::look::{BufferLook, FileLook, Look, mix};
+use crate::table::Table;
+use point_core::{Items, Refusal, TimelineRow};
+use std::alloc::Global;
+
+/// The timelines of looks, their files one by one, and their buffers.
+#[derive(Drop)]
+pub(crate) struct Parts {
+    timelines: Table<Items<TimelineRow>>,
+    files: Table<FileLook>,
+    buffers: Table<Items<BufferLook>>,
+}
+
+/// A look by the places of its parts.
+#[derive(Debug, Drop)]
+pub(crate) struct Places {
+    timelines: usize,
+    files: Vec<usize>,
+    buffers: usize,
+}
+
+impl Parts {
+    pub(crate) fn new(alloc: Global) -> Parts
+        ensures { result ≡ no_parts }
+    {
+        Parts {
+            timelines: Table::new(alloc),
+            files: Table::new(alloc),
+            buffers: Table::new(alloc),
+        }
+    }
+
+    /// The places of the look's parts. A part that has no place yet is put last.
+    ///
+    /// Fails with `Memory` only.
+    pub(crate) fn places_of(&mut self, alloc: Global, look: Look) -> Result<Places, Refusal>
+        ensures look { IfOk result (λ places. look_of self.new places ≡ look) }
+        ensures fits { IfOk result (Fits self.new) }
+        ensures grown { IsGrown self.old self.new }
+        ensures memory { IfErr result (λ e. e ≡ Refusal.Memory) }
+    {
+        let Look {
+            timelines,
+            files,
+            buffers,
+        } = look;
+        let timelines = self.timelines.place_of(timelines)?;
+        let files = file_places(alloc, &mut self.files, files.into_vec())?;
+        let buffers = self.buffers.place_of(buffers)?;
+        Ok(Places {
+            timelines,
+            files,
+            buffers,
+        })
+    }
+}
+
+fn file_places(
+    alloc: Global,
+    table: &mut Table<FileLook>,
+    files: Vec<FileLook>,
+) -> Result<Vec<usize>, Refusal>
+    ensures files { IfOk result (λ places. map (file_at table.new) places.items ≡ files.items) }
+    ensures fit { IfOk result (λ places. All (λ (i : ℕ). i < length table.new) places.items) }
+    ensures begins { Begins table.old table.new }
+    ensures memory { IfErr result (λ e. e ≡ Refusal.Memory) }
+{
+    let mut places = Vec::with_capacity(alloc, files.len())?;
+    for file in files {
+        put_place(table, &mut places, file)?;
+    }
+    Ok(places)
+}
+
+fn put_place(
+    table: &mut Table<FileLook>,
+    places: &mut Vec<usize>,
+    file: FileLook,
+) -> Result<(), Refusal>
+    ensures put { OnOk result ((place : ℕ) × (slice_get table.new place ≡ Some file)
+        × (places.new.items ≡ places.old.items ++ place ∷ [])) }
+    ensures begins { Begins table.old table.new }
+    ensures memory { IfErr result (λ e. e ≡ Refusal.Memory) }
+{
+    let place = table.place_of(file)?;
+    places.push(place).map_err(|_| Refusal::Memory)?;
+    Ok(())
+}
+
+impl Places {
+    /// Whether both looks have the same parts, with the files in whatever order.
+    pub(crate) fn is_same(&self, other: &Places) -> bool
+        ensures { result ≡ true → AreSamePlaces self.now other.now }
+    {
+        if self.timelines != other.timelines {
+            return false;
+        }
+        if self.buffers != other.buffers {
+            return false;
+        }
+        are_same_files(self.files.as_slice(), other.files.as_slice())
+    }
+
+    /// A number by which the look may be found again: looks that are the same have the same number.
+    pub(crate) fn hash(&self) -> u64 {
+        let hash = mix(self.timelines as u64, self.buffers as u64);
+        mix(hash, hash_of_files(self.files.as_slice()))
+    }
+}
+
+/// A sum, which does not depend on the order of the files.
+fn hash_of_files(files: &[usize]) -> u64 {
+    let mut sum: u64 = 0;
+    for file in files {
+        let place = *file as u64;
+        sum = sum.wrapping_add(mix(mix(0, place), place));
+    }
+    sum
+}
+
+/// Whether both have the same files, in whatever order.
+fn are_same_files(files: &[usize], others: &[usize]) -> bool
+    ensures count { result ≡ true → length files.now ≡ length others.now }
+    ensures there { result ≡ true → All (Contains others.now) files.now }
+    ensures here { result ≡ true → All (Contains files.now) others.now }
+{
+    files.len() == others.len() && are_among(files, others) && are_among(others, files)
+}
+
+/// Whether each file is one of the others.
+fn are_among(files: &[usize], others: &[usize]) -> bool
+    ensures { result ≡ true → All (Contains others.now) files.now }
+{
+    for file in files {
+        if !is_among(*file, others) {
+            return false;
+        }
+    }
+    true
+}
+
+fn is_among(file: usize, others: &[usize]) -> bool
+    ensures { result ≡ true → Contains others.now file }
+{
+    for other in others {
+        if *other == file {
+            return true;
+        }
+    }
+    false
+}
