@@ -12,7 +12,7 @@ use Rattle.command_core.specs.declared.answer.Answer.{Answer}
 use Rattle.desk_core.specs.theorem.World.{World, MadeFile, MadeBuffer, MadeWatch, after, file_named, put_set, buffer_put_set}
 use Rattle.desk_core.specs.theorem.Answer.{answer_to, is_refused, listed_points}
 
--- `info` is asked of such files only, and a report of none, since its rows are in the order of making
+-- the command asks `info` only of these files, and asks for no report, whose rows are in the order of making
 abbrev pub AsksOnly : (List ℕ → Bool) → Command → Type 0
 AsksOnly asked (command.Info f) = asked f ≡ true
 AsksOnly asked command.Report = ⊥
@@ -26,7 +26,7 @@ file_count w name = count_by (is_named (λ (f : MadeFile). f.name) name) w.files
 abbrev pub listed : World → List ℕ → Option (List Point)
 listed w name = option_map listed_points (file_named w.files name)
 
--- the same cookie, and the same still to come
+-- the same cookie, and the same points to come
 pub record IsSameWatch (reach : List ℕ) (x y : MadeWatch) : Type 0 where
   pub cookie : x.cookie ≡ y.cookie
   pub put : AgreesAbove reach x.put y.put

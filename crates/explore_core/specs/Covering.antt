@@ -1,4 +1,4 @@
--- Standings that are enough to know what every schedule of a plan comes to.
+-- Standings that are enough to know where every schedule of a plan leads.
 use Rattle.std.specs.Prelude.{◌≡◌, ℕ, Bool, true, List, All, Contains, Some, slice_get}
 use Rattle.command_core.specs.declared.answer.Answer.{Answer}
 use Rattle.desk_core.specs.theorem.History.{world_of}
@@ -6,27 +6,27 @@ use Rattle.explore_core.specs.declared.plan.Step.{Step}
 use Rattle.explore_core.specs.Alike.{AsksOnly, AreAlike}
 use Rattle.explore_core.specs.Schedule.{Lines, Standing, lines_of, beginning, next_line, made_by, can_be_made, answer_now, after_one, IsStuck}
 
--- the lines of clients, and the commands at the end, ask only such files what they list, and for no report
+-- the lines of clients, and the commands at the end, ask what a file lists only of these files, and ask for no report
 pub record MayAsk (asked : List ℕ → Bool) (plan : Lines) : Type 0 where
   pub lines : (client place : ℕ) (step : Step) → slice_get (lines_of plan client) place ≡ Some step → AsksOnly asked step.command
   pub last : All (AsksOnly asked) plan.last
 
--- each client has made as many lines, and the worlds are alike
+-- in both, each client has made equally many lines, and the worlds are alike
 pub record GoOnAlike (asked : List ℕ → Bool) (now other : Standing) : Type 0 where
   pub made : now.made ≡ other.made
   pub worlds : AreAlike asked (world_of now.history) (world_of other.history)
 
--- one of them continues as that standing does
+-- one of the kept standings continues as this standing does
 abbrev pub HasAlike : (List ℕ → Bool) → List Standing → Standing → Type 0
 HasAlike asked kept now = (other : Standing) × Contains kept other × GoOnAlike asked now other
 
--- the beginning is alike to one of them, and so is what one of them comes to by a line of a client
+-- the beginning is alike to a kept standing, and so is each standing that a client's line leads to from a kept one
 pub record AreEnough (asked : List ℕ → Bool) (plan : Lines) (kept : List Standing) : Type 0 where
   pub begins : HasAlike asked kept (beginning plan)
   pub goes_on : (now next : Standing) (client : ℕ) → Contains kept now →
       after_one plan now client ≡ Some next → HasAlike asked kept next
 
--- at one of them the client makes its line of that place, which is answered so
+-- at a kept standing the client makes its line at this place, and gets this answer
 pub record AnswersThere (plan : Lines) (kept : List Standing) (client place : ℕ) (given : Answer) : Type 0 where
   pub now : Standing
   pub there : Contains kept now
@@ -36,6 +36,6 @@ pub record AnswersThere (plan : Lines) (kept : List Standing) (client place : �
   pub made : can_be_made now step ≡ true
   pub answer : given ≡ answer_now now.history step.command
 
--- one of them, where each client has made as many lines, is stuck
+-- a kept standing, at which each client has made equally many lines, is stuck
 abbrev pub IsStuckThere : Lines → List Standing → Standing → Type 0
 IsStuckThere plan kept now = (other : Standing) × Contains kept other × IsStuck plan other × (now.made ≡ other.made)

@@ -21,23 +21,23 @@ pub record CanBeExplored (plan : Lines) : Type 0 where
   pub first : All RegistersNone plan.first
   pub lines : (client place : ℕ) (step : Step) → slice_get (lines_of plan client) place ≡ Some step → RegistersNone step.command
 
--- whatever is shown comes about
+-- whatever is shown happens in the schedule that is shown with it
 pub record IsTrue (plan : Lines) (found : Found) : Type 0 where
   pub given : All (λ (g : Given). IsAnswered plan g.schedule.items g.client g.place g.answer) found.given.items
   pub ended : All (λ (g : Given). IsEndAnswered plan g.schedule.items g.place g.answer) found.ended.items
   pub stuck : IfSome found.stuck (λ shown. (now : Standing) × ComesTo plan shown.items now × IsStuck plan now)
 
--- the schedule that is shown of those that get stuck
+-- the schedule that is shown as one that gets stuck
 abbrev pub stuck_of : Found → Option (List ℕ)
 stuck_of found = option_map (λ (v : Vec ℕ Global). v.items) found.stuck
 
--- this line of a client is listed with that answer
+-- the client's line at this place is listed with this answer
 abbrev pub Lists : List Given → ℕ → ℕ → Answer → Type 0
 Lists given client place answer =
     (g : Given) × Contains given g × (g.client ≡ client) × (g.place ≡ place) × (g.answer ≡ answer)
 
--- Nothing else comes about in any schedule: each answer of each line is listed. Where a schedule gets stuck one is shown, and none
--- gets stuck sooner.
+-- Nothing else happens in any schedule: each answer of each line is listed. If a schedule gets stuck, one is shown, and none gets
+-- stuck sooner.
 pub record IsAll (plan : Lines) (found : Found) : Type 0 where
   pub given : (schedule : Schedule) (client place : ℕ) (answer : Answer)
       → IsAnswered plan schedule client place answer → Lists found.given.items client place answer

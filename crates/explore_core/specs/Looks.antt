@@ -10,7 +10,7 @@ use Rattle.fence_core.specs.Watch.{Watch}
 use Rattle.desk_core.specs.theorem.Desk.{DeskState}
 use Rattle.desk_core.specs.Keeping.{points_at}
 
--- the same cookie, and the same still to come
+-- the same cookie, and the same points to come
 pub record WaitsAlike (reach : List ℕ) (x y : Watch) : Type 0 where
   pub cookie : x.cookie ≡ y.cookie
   pub points : AgreesAbove reach (as_entries x.points) (as_entries y.points)

@@ -40,7 +40,7 @@ lines_of plan client = unwrap_or (slice_get plan.clients client) []
 abbrev pub made_by : Standing → ℕ → ℕ
 made_by now client = get_or now.made client 0
 
--- the line that a client comes to, unless it is done
+-- the client's next line, unless it is done
 abbrev pub next_line : Lines → Standing → ℕ → Option Step
 next_line plan now client = slice_get (lines_of plan client) (made_by now client)
 
@@ -66,21 +66,21 @@ after_one plan now client = made_line now client (next_line plan now client)
 abbrev pub Schedule : Type 0
 Schedule = List ℕ
 
--- the plan can be scheduled so from here on, and comes there
+-- from one standing on, the clients can go in the order of the schedule, which leads to the other standing
 abbrev pub Leads : Lines → Standing → Schedule → Standing → Type 0
 Leads plan from [] to = from ≡ to
 Leads plan from (client ∷ clients) to = (next : Standing) × (after_one plan from client ≡ Some next) × Leads plan next clients to
 
--- so scheduled from its beginning, the plan comes there
+-- from the beginning of the plan, the schedule leads to that standing
 abbrev pub ComesTo : Lines → Schedule → Standing → Type 0
 ComesTo plan schedule to = Leads plan (beginning plan) schedule to
 
--- nobody can go on, though somebody is not done
+-- no client can make its next line, though one of them is not done
 pub record IsStuck (plan : Lines) (now : Standing) : Type 0 where
   pub nobody : (client : ℕ) → after_one plan now client ≡ None
   pub waiting : (client : ℕ) × IsSome (next_line plan now client)
 
--- after that schedule the client makes its line of that place, which is answered so
+-- after the schedule the client makes its line at this place, and gets this answer
 pub record IsAnswered (plan : Lines) (schedule : Schedule) (client place : ℕ) (given : Answer) : Type 0 where
   pub now : Standing
   pub comes : ComesTo plan schedule now
@@ -90,7 +90,7 @@ pub record IsAnswered (plan : Lines) (schedule : Schedule) (client place : ℕ) 
   pub made : can_be_made now step ≡ true
   pub answer : given ≡ answer_now now.history step.command
 
--- after that schedule every client is done, and the command of that place at the end is answered so
+-- after the schedule every client is done, and the command at this place among the commands at the end gets this answer
 pub record IsEndAnswered (plan : Lines) (schedule : Schedule) (place : ℕ) (given : Answer) : Type 0 where
   pub now : Standing
   pub comes : ComesTo plan schedule now

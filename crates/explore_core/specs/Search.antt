@@ -1,4 +1,4 @@
--- A search by levels: the states of a level are those that schedules of one length come to.
+-- A search by levels: the states of a level are the states after schedules of one length.
 use Rattle.std.specs.Prelude.{◌≡◌, ◌⊎◌, ℕ, ◌+◌, ◌<◌, ◌≤◌, Bool, true, false, not, ◌||◌, if◌then◌else◌, filter, List, [], ◌∷◌, ◌++◌, length, map, take, All, Contains, Option, None, Some, IsSome, slice_get, get_or, unwrap_or}
 use Rattle.std.specs.List.{list_any}
 use Rattle.point_core.specs.declared.entry.Point.{Point}
@@ -46,7 +46,7 @@ abbrev pub standing_along : Lines → Standing → Schedule → Standing
 standing_along plan from [] = from
 standing_along plan from (client ∷ clients) = standing_along plan (standing_after plan from client) clients
 
--- where the plan comes by that schedule
+-- the standing after the schedule
 abbrev pub standing_of : Lines → Schedule → Standing
 standing_of plan schedule = standing_along plan (beginning plan) schedule
 
@@ -56,7 +56,7 @@ IsMade old command given new =
     (history : List Command) → HasHistory old history
     → (given ≡ answer_now history command) × HasHistory new (history_with history command)
 
--- the desk has the standing's history, and each client has made as many lines
+-- the desk has the standing's history, and each client has made as many lines as at the standing
 pub record IsAt (position : Position) (now : Standing) : Type 0 where
   pub desk : HasHistory position.desk now.history
   pub made : position.made.items ≡ now.made
@@ -80,7 +80,7 @@ keeps_world _ = false
 abbrev pub stays : Command → Answer → Bool
 stays command given = keeps_world command || is_refused given
 
--- at that standing the client makes its line of that place, which is answered so
+-- at the standing the client makes its line at this place, and gets this answer
 pub record Answers (plan : Lines) (now : Standing) (client place : ℕ) (given : Answer) : Type 0 where
   pub at : made_by now client ≡ place
   pub step : Step
@@ -88,7 +88,7 @@ pub record Answers (plan : Lines) (now : Standing) (client place : ℕ) (given :
   pub made : can_be_made now step ≡ true
   pub answer : given ≡ answer_now now.history step.command
 
--- at that standing every client is done, and the command of that place at the end is answered so
+-- at the standing every client is done, and the command at this place among the commands at the end gets this answer
 pub record Ends (plan : Lines) (now : Standing) (place : ℕ) (given : Answer) : Type 0 where
   pub done : (client : ℕ) → next_line plan now client ≡ None
   pub command : Command
@@ -101,7 +101,7 @@ IsTurn plan now client Done = next_line plan now client ≡ None
 IsTurn plan now client Waits = (step : Step) × (next_line plan now client ≡ Some step) × (can_be_made now step ≡ false)
 IsTurn plan now client (Made place given) = Answers plan now client place given
 
--- the file that the command asks what it lists
+-- the file for which the command asks what it lists
 abbrev pub asked_file : Command → Option (List ℕ)
 asked_file (command.Info f) = Some f
 asked_file _ = None
@@ -111,7 +111,7 @@ abbrev pub asks_for : List ℕ → Command → Bool
 asks_for name (command.Info f) = same_name f name
 asks_for name _ = false
 
--- a line of the client does
+-- a line of the client asks what the file of that name lists
 abbrev pub client_asks : List ℕ → List Step → Bool
 client_asks name lines = list_any (λ (step : Step). asks_for name step.command) lines
 
@@ -134,7 +134,7 @@ Adds others old new = (name : List ℕ) → has_name new name ≡ (has_name old 
 abbrev pub is_to_come : List Timeline → Point → Bool
 is_to_come ts p = not (is_signalled (status_at (clocks_of ts) p))
 
--- what is seen of the points of the file of that name: all, if it may be asked for them, or those to come
+-- what is seen of the points of the file of that name: all of them if the file may be asked for them, or else the points to come
 abbrev pub seen_points : (List ℕ → Bool) → DeskState → List ℕ → List Point
 seen_points asked d name = if asked name then points_at d.files name else filter (is_to_come d.timelines) (points_at d.files name)
 
@@ -160,11 +160,11 @@ pub record AreSameLooks (a b : Look) : Type 0 where
   pub here : All (λ (f : FileLook). Contains a.files f) b.files
   pub count : length a.files ≡ length b.files
 
--- where the state's schedule comes to
+-- the standing after the state's schedule
 abbrev pub standing_at : Lines → State → Standing
 standing_at plan state = standing_of plan state.schedule.items
 
--- the state is what its schedule, of that length, comes to
+-- the state is the state after its schedule, which has that length
 pub record IsState (plan : Lines) (depth : ℕ) (state : State) : Type 0 where
   pub deep : length state.schedule.items ≡ depth
   pub comes : ComesTo plan state.schedule.items (standing_at plan state)
@@ -180,12 +180,12 @@ pub record IsSeen (plan : Lines) (depth : ℕ) (seen : Seen) : Type 0 where
 abbrev pub states_of : List Seen → List State
 states_of seen = map (λ (s : Seen). s.state) seen
 
--- one of the states continues as that standing does
+-- one of the states continues as the standing does
 abbrev pub HasLike : Lines → List State → Standing → Type 0
 HasLike plan states now =
     (state : State) × Contains states state × GoOnAlike (is_asked plan) now (standing_at plan state)
 
--- in both, each client has made as many lines, and the desks look the same
+-- in both, each client has made equally many lines, and the desks look the same
 pub record AreSameSeen (a b : Seen) : Type 0 where
   pub made : a.state.made.items ≡ b.state.made.items
   pub look : AreSameLooks a.look b.look
@@ -229,7 +229,7 @@ pub record IsGrown (old new : Parts) : Type 0 where
   pub files : Begins old.files new.files
   pub buffers : Begins old.buffers new.buffers
 
--- the same places, those of files in whatever order
+-- the same places, with the files in whatever order
 pub record AreSamePlaces (a b : Places) : Type 0 where
   pub timelines : a.timelines ≡ b.timelines
   pub buffers : a.buffers ≡ b.buffers
@@ -237,19 +237,19 @@ pub record AreSamePlaces (a b : Places) : Type 0 where
   pub here : All (Contains a.files.items) b.files.items
   pub count : length a.files.items ≡ length b.files.items
 
--- in both, each client has made as many lines, and the looks have the same parts
+-- in both, each client has made equally many lines, and the looks have the same parts
 pub record AreSameKept (a b : Kept) : Type 0 where
   pub made : a.state.made.items ≡ b.state.made.items
   pub places : AreSamePlaces a.places b.places
 
--- the state, with the look that has its parts there
+-- the state, with the look that has its parts at the kept places
 abbrev pub seen_of : Parts → Kept → Seen
 seen_of parts kept = record { state = kept.state; look = look_of parts kept.places }
 
 abbrev pub states_kept : List Kept → List State
 states_kept kept = map (λ (k : Kept). k.state) kept
 
--- whatever was found is found still, and what is found anew comes about by schedules of that length
+-- whatever was found before is found still, and what is found anew happens in schedules of that length
 pub record Grows (plan : Lines) (depth : ℕ) (old new : Found) : Type 0 where
   pub shown : IsTrue plan old → IsTrue plan new
   pub given : (client place : ℕ) (answer : Answer) →
@@ -272,12 +272,12 @@ abbrev pub Records : List Given → List Given → ℕ → ℕ → Answer → Sc
 Records old new client place answer schedule =
     (new ≡ old) ⊎ ((g : Given) × (new ≡ old ++ g ∷ []) × IsGiven client place answer schedule g)
 
--- the looks are seen still, and a state goes on as whatever standing one of them did
+-- each look is one that is seen if each was before, and a standing that continued as a state did still continues as one does
 pub record Extends (plan : Lines) (depth : ℕ) (old new : List Seen) : Type 0 where
   pub seen : All (IsSeen plan depth) old → All (IsSeen plan depth) new
   pub alike : (now : Standing) → HasLike plan (states_of old) now → HasLike plan (states_of new) now
 
--- all that comes about at that standing is listed
+-- everything that happens at the standing is listed
 pub record IsListed (plan : Lines) (found : Found) (now : Standing) : Type 0 where
   pub given : (client place : ℕ) (answer : Answer)
       → Answers plan now client place answer → Lists found.given.items client place answer
@@ -285,16 +285,16 @@ pub record IsListed (plan : Lines) (found : Found) (now : Standing) : Type 0 whe
       → Ends plan now place answer → Lists found.ended.items (length plan.clients) place answer
   pub stuck : IsStuck plan now → (shown : List ℕ) × (stuck_of found ≡ Some shown)
 
--- wherever a client comes by its next line, one of the states continues alike
+-- one of the states continues as each standing does that a client's next line leads to
 abbrev pub IsExpanded : Lines → List State → Standing → Type 0
 IsExpanded plan next now = (client : ℕ) (later : Standing) → after_one plan now client ≡ Some later → HasLike plan next later
 
--- all that comes about at the state is listed, and what it leads to is kept
+-- everything that happens at the state is listed, and the states that it leads to are kept
 pub record IsVisited (plan : Lines) (found : Found) (next : List State) (state : State) : Type 0 where
   pub listed : IsListed plan found (standing_at plan state)
   pub expanded : IsExpanded plan next (standing_at plan state)
 
--- after that schedule the client is done, waits, or makes a line that leads to that state
+-- after the schedule the client is done, waits, or makes a line that leads to this state
 abbrev pub IsReached : Lines → Schedule → ℕ → Reached → Type 0
 IsReached plan schedule client reached.Done = next_line plan (standing_of plan schedule) client ≡ None
 IsReached plan schedule client reached.Waits =
@@ -310,7 +310,7 @@ IsMove plan now client move.Done = next_line plan now client ≡ None
 IsMove plan now client move.Waits = (after_one plan now client ≡ None) × IsSome (next_line plan now client)
 IsMove plan now client move.Goes = (later : Standing) × (after_one plan now client ≡ Some later)
 
--- the client's answer at the state is listed, and what it leads to is kept
+-- the client's answer at the state is listed, and the state that it leads to is kept
 pub record IsFollowed (plan : Lines) (found : Found) (next : List State) (now : Standing) (client : ℕ) : Type 0 where
   pub listed : (place : ℕ) (answer : Answer) → Answers plan now client place answer → Lists found.given.items client place answer
   pub kept : (later : Standing) → after_one plan now client ≡ Some later → HasLike plan next later
@@ -330,7 +330,7 @@ pub record AreTried (plan : Lines) (found : Found) (next : List State) (state : 
   pub followed : (client : ℕ) → client < clients → IsFollowed plan found next (standing_at plan state) client
   pub are : AreMoves plan (standing_at plan state) clients moves
 
--- what some clients do and what one more does
+-- what some clients do, and one more client
 abbrev pub together : Move → Move → Move
 together move.Goes one = move.Goes
 together move.Waits move.Goes = move.Goes
@@ -344,7 +344,7 @@ AreEndsListed plan history ended count =
     (place : ℕ) (command : Command) → place < count → slice_get plan.last place ≡ Some command
     → Lists ended (length plan.clients) place (answer_now (history_along history (take place plan.last)) command)
 
--- the answer is of the command of that place at the end, with that schedule
+-- the answer is the answer to the command at this place among the commands at the end, with that schedule
 pub record IsEnd (plan : Lines) (history : List Command) (schedule : Schedule) (g : Given) : Type 0 where
   pub schedule_is : g.schedule.items ≡ schedule
   pub command : Command
@@ -368,7 +368,8 @@ pub record IsEmptyFound (found : Found) : Type 0 where
   pub ended : found.ended.items ≡ []
   pub stuck : found.stuck ≡ None
 
--- All schedules of that length come to standings that continue as a state does; whatever comes about by a shorter one is listed.
+-- Each schedule of that length leads to a standing that continues as one of the states does. Whatever happens in a shorter schedule
+-- is listed.
 pub record IsCovered (plan : Lines) (found : Found) (depth : ℕ) (states : List State) : Type 0 where
   pub are : All (IsState plan depth) states
   pub reached : (schedule : Schedule) (now : Standing) →

@@ -13,7 +13,7 @@ pub const STATES: usize = 1_000_000;
 
 /// Decides a plan over every schedule, unless it has more than `bound` states.
 ///
-/// Fails with `Memory` only: also for a plan of more clients than a `u16` counts.
+/// Fails with `Memory` only, also for a plan of more than `SCHEDULED_CLIENTS` clients.
 pub fn explore(alloc: Global, plan: &Plan, bound: usize) -> Result<Found, Refusal>
     requires explorable { CanBeExplored plan.now }
     ensures shown { IfOk result (λ found. IsTrue plan.now found) }
@@ -32,7 +32,7 @@ pub fn explore(alloc: Global, plan: &Plan, bound: usize) -> Result<Found, Refusa
     Ok(found)
 }
 
-/// Whether a search that ended so has covered every schedule.
+/// Whether a search that ended in this way has covered every schedule.
 ///
 /// Fails with `Memory` if the search did.
 fn is_covered(ended: Result<(), Stop>) -> Result<bool, Refusal>

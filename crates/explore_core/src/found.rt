@@ -1,12 +1,12 @@
-//! `Found`: what an exploration of a plan finds. Whoever reports on a plan reads it.
+//! `Found`: what an exploration of a plan finds. `explore_report` reads it.
 use command_core::Answer;
 
 /// An answer that a line gives in some schedule.
 #[derive(Debug, Drop)]
 pub struct Given {
-    /// The client whose line it is; of a command at the end, the number of clients.
+    /// The client whose line it is, or the number of clients for a command at the end.
     pub client: usize,
-    /// The index of the line among the client's, or of the command among those at the end.
+    /// The index of the line among the client's lines, or of the command among the commands at the end.
     pub place: usize,
     pub answer: Answer,
     /// The clients that go before the line is made, one after another.

@@ -1,5 +1,5 @@
-//! What holds of all worlds, of desks that look alike, and of standings that are enough: each law is the contract of a function
-//! with an empty body.
+//! Laws of alike worlds, of desks that look alike, and of standings that are enough. Each law is the contract of a function with an
+//! empty body.
 ghost use Rattle.std.specs.Prelude.{◌≡◌, ℕ, Bool, List, All};
 ghost use Rattle.command_core.specs.declared.command.Command.{Command};
 ghost use Rattle.desk_core.specs.theorem.World.{World};
@@ -14,7 +14,7 @@ ghost use Rattle.explore_core.specs.Schedule.{Lines, Standing, Schedule, ComesTo
 ghost use Rattle.explore_core.specs.Covering.{MayAsk, AreEnough, HasAlike, AnswersThere, IsStuckThere};
 ghost use Rattle.explore_core.specs.Alike.{AsksOnly, AreAlike, after_answer, answers_along};
 
-/// No command tells worlds apart that are alike, and after it they are alike again: so they answer alike for ever.
+/// No command distinguishes alike worlds, and after it they are alike again: so they answer alike forever.
 pub fn alike_worlds_answer_alike()
     ensures now { (asked : List ℕ → Bool) (w v : World) (c : Command) →
         IsSound w → AreAlike asked w v → AsksOnly asked c → answer_to w c ≡ answer_to v c }
@@ -25,7 +25,7 @@ pub fn alike_worlds_answer_alike()
         IsSound w → AreAlike asked w v → All (AsksOnly asked) cs → answers_along w cs ≡ answers_along v cs }
 {}
 
-/// Desks that look alike answer alike for ever, whatever histories they stand for: one may take the other's place.
+/// Desks that look alike answer alike forever, whatever their histories are: one may take the other's place.
 pub fn desks_that_look_alike_answer_alike()
     ensures alike { (asked : List ℕ → Bool) (d e : DeskState) (history other : List Command) →
         HasHistory d history → HasHistory e other → LooksAlike asked d e →
@@ -35,8 +35,8 @@ pub fn desks_that_look_alike_answer_alike()
         answers_along (world_of history) cs ≡ answers_along (world_of other) cs }
 {}
 
-/// Whoever looks at standings that are enough has seen every schedule: where it leads, what its lines are answered, and
-/// whether it gets stuck.
+/// A search that has visited enough standings (`AreEnough`) has seen every schedule: where it leads, how its lines are answered,
+/// and whether it gets stuck.
 pub fn enough_standings_cover_every_schedule()
     ensures led { (asked : List ℕ → Bool) (plan : Lines) (kept : List Standing) →
         MayAsk asked plan → AreEnough asked plan kept →

@@ -1,5 +1,5 @@
-//! `Level`: the states that schedules of one length come to, while they are found; of states that are the same only the first.
-//! Once all are found only the states are kept, and not what was seen of their desks.
+//! `Level`: the states after schedules of one length, equal states once. Once a level is complete, the search keeps its states and
+//! drops their looks.
 ghost use Rattle.std.specs.Prelude.{◌≡◌, ◌++◌, ◌∷◌, true, [], IfOk, IfErr, OnOk, OnErr, Contains};
 ghost use Rattle.explore_core.specs.declared.level.Kept.{Kept as Holding};
 ghost use Rattle.explore_core.specs.Search.{Keeps, AreSameKept, states_of, states_kept};
@@ -13,8 +13,8 @@ use point_core::Refusal;
 use std::alloc::Global;
 use std::marker::Model;
 
-/// The states with the places of their looks, the parts of these, and a table by hashes. The table is a hint: a state that it
-/// suggests is compared as a whole, and a state that it misses is kept twice. Each place is one of the parts.
+/// The states, with the places of their looks among the parts, and a table by hashes. The table is a hint: a state that it suggests
+/// is compared as a whole, and a state that it misses is kept twice.
 #[derive(Drop)]
 pub(crate) struct Level {
     kept: Vec<Kept>,
@@ -65,9 +65,9 @@ impl Level {
         states_of(alloc, kept)
     }
 
-    /// Keeps what was seen of a state, unless a state that is the same is kept.
+    /// Keeps the state, unless an equal one is kept already.
     ///
-    /// Fails if there is no room or no memory for it, and then keeps what it kept.
+    /// Fails if there is no room or no memory for the state, and then keeps the states that it kept.
     pub(crate) fn keep(&mut self, alloc: Global, seen: Seen) -> Result<(), Stop>
         ensures keeps { OnOk result (Keeps self.old seen self.new) }
         ensures unchanged { OnErr result (self.new ≡ self.old) }
@@ -95,7 +95,7 @@ impl Level {
 }
 
 impl Kept {
-    /// Whether the clients have made as many lines in both, and the looks have the same parts.
+    /// Whether each client has made equally many lines in both states, and the looks have the same parts.
     fn is_same(&self, other: &Kept) -> bool
         ensures { result ≡ true → AreSameKept self.now other.now }
     {
@@ -113,7 +113,7 @@ impl Kept {
     }
 }
 
-/// Whether the state that the table suggests is the same.
+/// Whether the state that the table suggests equals this one.
 fn has(by_hash: &IndexMap<u64, usize>, all: &[Kept], hash: u64, kept: &Kept) -> bool
     ensures { result ≡ true → (other : Holding) × Contains all.now other × AreSameKept kept.now other }
 {

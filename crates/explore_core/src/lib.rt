@@ -1,4 +1,4 @@
-//! Every schedule of a plan: what its lines may be answered, and whether it may get stuck.
+//! Every schedule of a plan: which answers its lines can get, and whether it can get stuck.
 //!
 //! A plan is a list of lines for each client. A schedule says which client goes, one after another; each line is one
 //! command of a desk. `specs/Schedule.antt` defines the schedules, and `specs/Alike.antt` the worlds that need not be told
@@ -22,4 +22,5 @@ mod visit;
 
 pub use explorer::{STATES, explore};
 pub use found::{Found, Given};
+pub use list::SCHEDULED_CLIENTS;
 pub use plan::{Plan, Step};

@@ -1,4 +1,4 @@
-//! What was found so far: answers, each with a schedule that gives it.
+//! The answers found so far, each with a schedule that gives it.
 ghost use Rattle.std.specs.Prelude.{◌≡◌, true, IfErr, OnOk, OnErr};
 ghost use Rattle.explore_core.specs.Found.{Lists};
 ghost use Rattle.explore_core.specs.Search.{Records};
@@ -8,7 +8,7 @@ use crate::list::shown;
 use command_core::Answer;
 use point_core::Refusal;
 
-/// Lists the answer of that line with the schedule, unless it is listed.
+/// Lists the answer of the line with the schedule, unless the answer is listed already.
 pub(crate) fn record(
     list: &mut Vec<Given>,
     client: usize,

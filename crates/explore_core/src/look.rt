@@ -1,5 +1,5 @@
-//! `Look`: what the lines of a plan can see of a desk without watches. Two desks whose looks are the same answer them alike for
-//! ever (`laws.rt`), so a state keeps a look and no desk.
+//! `Look`: what the lines of a plan can see of a desk without watches. Two desks whose looks are the same answer the lines alike
+//! forever (`laws.rt`), so the search compares looks and keeps no desk.
 ghost use Rattle.std.specs.Prelude.{◌≡◌, true, ◌++◌, ◌∷◌, [], map, filter, IfOk, IfErr, OnOk};
 ghost use Rattle.explore_core.specs.Search.{Shows, is_asked, is_name, has_name, is_to_come, seen_points, file_look, buffer_look};
 
@@ -9,7 +9,7 @@ use desk_core::Desk;
 use point_core::{Items, Name, Point, Refusal, TimelineRow, TopRow};
 use std::alloc::Global;
 
-/// A file, with its points: all, if the plan asks what it lists, and else those to come.
+/// A file, with its points: all of them if the plan asks what the file lists, or else the points to come.
 #[derive(Debug, Drop, PartialEq, Eq)]
 pub(crate) struct FileLook {
     pub(crate) name: Name,
@@ -149,7 +149,7 @@ fn seen_points(
     Ok(points)
 }
 
-/// Whether one of the names is the file's.
+/// Whether one of the names is the file's name.
 fn has_name(names: &[Name], file: &Name) -> bool
     ensures { result ≡ has_name names.now file.now }
 {
@@ -254,7 +254,7 @@ fn hash_of_points(start: u64, points: &[Point]) -> u64 {
     hash
 }
 
-/// One number of two.
+/// Mixes two numbers into one hash.
 pub(crate) fn mix(hash: u64, number: u64) -> u64 {
     let mixed = (hash ^ number).wrapping_mul(HASH_FACTOR);
     mixed ^ (mixed >> 29)

@@ -1,4 +1,4 @@
-//! `Plan`: the lines of each client, and the commands before and after them. Whoever reads plans makes it, and `explore`
+//! `Plan`: the lines of each client, and the commands before and after them. `explore_report` makes it from a script, and `explore`
 //! decides it.
 ghost use Rattle.std.specs.Prelude.{◌≡◌, ℕ, List, Vec, IfOk, IfErr, OnOk};
 ghost use Rattle.std.specs.Global.{Global};
@@ -44,7 +44,7 @@ impl Model for Plan {
 }
 
 impl Plan {
-    /// The names of the files that a line of a client, or a command at the end, asks what they list.
+    /// The names of the files for which a line of a client, or a command at the end, asks what they list.
     pub(crate) fn asked_files(&self, alloc: Global) -> Result<Vec<Name>, Refusal>
         ensures asked { IfOk result (λ asked. (name : List ℕ) → has_name asked.items name ≡ is_asked self.now name) }
         ensures memory { IfErr result (λ e. e ≡ Refusal.Memory) }
@@ -87,7 +87,7 @@ fn add_of_commands(asked: &mut Vec<Name>, commands: &[Command]) -> Result<(), Re
     Ok(())
 }
 
-/// Adds the name of the file that the command asks what it lists, if it asks one.
+/// If the command asks what a file lists, adds the name of the file.
 fn add_of(asked: &mut Vec<Name>, command: &Command) -> Result<(), Refusal>
     ensures adds { OnOk result (Adds (λ name. asks_for name command.now) asked.old.items asked.new.items) }
     ensures memory { IfErr result (λ e. e ≡ Refusal.Memory) }

@@ -23,9 +23,9 @@ pub(crate) struct Position {
 pub(crate) enum Turn {
     /// It has made all its lines.
     Done,
-    /// Its next line would be refused, and waits.
+    /// It waits: its next line would be refused.
     Waits,
-    /// It makes the line of that place, with this answer.
+    /// It makes the line at this place, with this answer.
     Made(usize, Answer),
 }
 
@@ -91,7 +91,7 @@ impl Position {
         Ok(Turn::Made(place, answer))
     }
 
-    /// Counts the client's line of that place as made.
+    /// Counts the client's line at this place as made.
     fn count(&mut self, client: usize, place: usize) -> Result<(), Refusal>
         ensures desk { self.new.desk ≡ self.old.desk }
         ensures made { OnOk result (self.new.made.items ≡ set self.old.made.items client (place + 1)) }
@@ -105,7 +105,7 @@ impl Position {
         Ok(())
     }
 
-    /// Takes back the client's line of that place, which has left the desk as it was.
+    /// Takes back the client's line at this place, which has left the desk as it was.
     pub(crate) fn take_back(&mut self, client: usize, place: usize)
         ensures desk { self.new.desk ≡ self.old.desk }
         ensures made { self.new.made.items ≡ set self.old.made.items client place }
@@ -114,7 +114,7 @@ impl Position {
     }
 }
 
-/// Whether the client has made all its lines, if clients have made so many.
+/// Whether the client has made all its lines, by how many lines each client has made.
 pub(crate) fn is_done(plan: &Plan, made: &[usize], client: usize) -> bool
     ensures { result ≡ true → slice_get (lines_of plan.now client) (get_or made.now client 0) ≡ None }
 {
@@ -149,7 +149,7 @@ fn set(made: &mut [usize], client: usize, place: usize)
     }
 }
 
-/// The client's line of that place.
+/// The client's line at this place.
 pub(crate) fn line_at(plan: &Plan, client: usize, place: usize) -> Option<Step>
     ensures { result ≡ slice_get (lines_of plan.now client) place }
 {
@@ -157,7 +157,7 @@ pub(crate) fn line_at(plan: &Plan, client: usize, place: usize) -> Option<Step>
     lines.get(place).copied()
 }
 
-/// Whether the client's line of that place only asks, or drops what no answer shows.
+/// Whether the client's line at this place only asks, or drops what no answer shows.
 fn only_asks(plan: &Plan, client: usize, place: usize) -> bool
     ensures { result ≡ true →
         IfSome (slice_get (lines_of plan.now client) place) (λ step. keeps_world step.command ≡ true) }
@@ -217,7 +217,7 @@ fn is_memory(answer: &Answer) -> bool
     }
 }
 
-/// Whether a client waits with a line of this answer.
+/// Whether a client waits with a line that would get this answer.
 fn is_held(step: &Step, answer: &Answer) -> bool
     ensures { result ≡ (step.now.waits && is_refused answer.now) }
 {

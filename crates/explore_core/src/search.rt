@@ -33,7 +33,7 @@ pub(crate) enum Stop {
 enum Reached {
     Done,
     Waits,
-    /// It makes the line of that place, with this answer, and this is seen then.
+    /// It makes the line at this place, with this answer, and this is seen afterwards.
     Made(usize, Answer, Seen),
 }
 
@@ -42,7 +42,7 @@ enum Reached {
 enum Move {
     /// All are done.
     Done,
-    /// None can go on, and one of them waits.
+    /// No client can make its next line, and one of them waits.
     Waits,
     /// One of them makes its line.
     Goes,
@@ -97,7 +97,7 @@ fn first_state(alloc: Global, plan: &Plan) -> Result<State, Refusal>
     })
 }
 
-/// Visits the states of a level, and gives those that they lead to.
+/// Visits the states of a level, and gives the states that they lead to.
 fn next_level(
     alloc: Global,
     plan: &Plan,
@@ -149,7 +149,7 @@ fn visit_all(
     Ok(())
 }
 
-/// Lists what comes about at the state, and keeps the states that it leads to.
+/// Lists what each client's next line gives at the state, and keeps the states after it.
 fn visit(
     alloc: Global,
     plan: &Plan,
@@ -242,7 +242,7 @@ fn together(some: Move, one: Move) -> Move
     }
 }
 
-/// The client makes its next line at the state, if it can: its answer is listed, and the state that it leads to kept.
+/// The client makes its next line at the state, if it can. The answer is listed, and the state after the line is kept.
 fn try_client(
     alloc: Global,
     plan: &Plan,
@@ -302,7 +302,7 @@ fn reach(
     reach_from(alloc, plan, schedule, client, visit)
 }
 
-/// What the client does after the schedule, by a visit that is there.
+/// What the client does after the schedule, on a visit whose desk is there.
 fn reach_from(
     alloc: Global,
     plan: &Plan,
@@ -328,7 +328,7 @@ fn reach_from(
     }
 }
 
-/// Shows the schedule, which gets stuck, unless one was shown before.
+/// Shows the schedule, which gets stuck, unless a schedule is shown already.
 fn show_stuck(
     alloc: Global,
     plan: &Plan,

@@ -1,6 +1,6 @@
-//! `State`: where the plan comes by a schedule. `Seen`: a state with a look at its desk, by which it is found again.
-ghost use Rattle.std.specs.Prelude.{◌≡◌, true, length, IfOk, IfErr};
-ghost use Rattle.explore_core.specs.Search.{AreSameSeen, IsAt, IsSeen, standing_of};
+//! `State`: the state of a plan after a schedule. `Seen`: a state with a look at its desk, by which the state is found again.
+ghost use Rattle.std.specs.Prelude.{◌≡◌, length, IfOk, IfErr};
+ghost use Rattle.explore_core.specs.Search.{IsAt, IsSeen, standing_of};
 ghost use Rattle.explore_core.specs.Schedule.{ComesTo};
 
 use crate::look::{Look, mix};
@@ -9,7 +9,7 @@ use crate::position::Position;
 use point_core::Refusal;
 use std::alloc::Global;
 
-/// The first schedule that comes to a state, and how many lines each client has made there.
+/// The first schedule that leads to the state, and how many lines each client has made there.
 #[derive(Debug, Drop)]
 pub(crate) struct State {
     pub(crate) schedule: Vec<u16>,
@@ -24,7 +24,7 @@ pub(crate) struct Seen {
 }
 
 impl Seen {
-    /// What is seen at a position that the schedule comes to.
+    /// What is seen at the position after the schedule.
     pub(crate) fn of(
         alloc: Global,
         plan: &Plan,

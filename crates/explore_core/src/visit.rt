@@ -19,7 +19,7 @@ pub(crate) struct Visit {
 }
 
 impl Visit {
-    /// A visit of the state that the schedule comes to.
+    /// A visit of the state after the schedule.
     pub(crate) fn at(alloc: Global, plan: &Plan, schedule: &[u16]) -> Result<Visit, Refusal>
         requires comes { ComesTo plan.now schedule.now (standing_of plan.now schedule.now) }
         ensures at { IfOk result (λ visit. IsVisitOf visit (standing_of plan.now schedule.now)) }
@@ -65,7 +65,7 @@ impl Visit {
     }
 }
 
-/// Whether the client's line of that place, so answered, has left every desk as it was.
+/// Whether the client's line at this place, with this answer, has left every desk as it was.
 fn changes_nothing(plan: &Plan, client: usize, place: usize, answer: &Answer) -> bool
     ensures { result ≡ true →
         IfSome (slice_get (lines_of plan.now client) place) (λ step. stays step.command answer.now ≡ true) }
