@@ -110,7 +110,7 @@ fn file_looks(
     ensures looks { IfOk result (λ looks. looks.items ≡ map (file_look (has_name asked.now) desk.now) names.now) }
     ensures memory { IfErr result (λ e. e ≡ Refusal.Memory) }
 {
-    let mut looks = Vec::new(alloc);
+    let mut looks = Vec::with_capacity(alloc, names.len())?;
     for name in names {
         let look = file_look(alloc, asked, desk, name)?;
         looks.push(look).map_err(|_| Refusal::Memory)?;
@@ -190,7 +190,7 @@ fn buffer_looks(alloc: Global, desk: &Desk, names: &[Name]) -> Result<Vec<Buffer
     ensures looks { IfOk result (λ looks. looks.items ≡ map (buffer_look desk.now) names.now) }
     ensures memory { IfErr result (λ e. e ≡ Refusal.Memory) }
 {
-    let mut looks = Vec::new(alloc);
+    let mut looks = Vec::with_capacity(alloc, names.len())?;
     for name in names {
         let look = buffer_look(alloc, desk, name)?;
         looks.push(look).map_err(|_| Refusal::Memory)?;

@@ -1,5 +1,5 @@
 //! `Position`: a desk along a schedule, and how many lines each client has made on it.
-ghost use Rattle.std.specs.Prelude.{◌≡◌, ◌+◌, ◌&&◌, true, List, None, Some, IsTrue, IfOk, IfErr, IfSome, OnOk, replicate, get_or, set, slice_get};
+ghost use Rattle.std.specs.Prelude.{◌≡◌, ◌+◌, ◌&&◌, true, List, None, Some, IsTrue, IfOk, IfErr, IfSome, OnOk, [], length, replicate, get_or, set, slice_get};
 ghost use Rattle.command_core.specs.declared.command.Command.{Command};
 ghost use Rattle.desk_core.specs.theorem.Answer.{is_refused};
 ghost use Rattle.desk_core.specs.theorem.Desk.{HasHistory};
@@ -37,11 +37,40 @@ impl Position {
         ensures memory { IfErr result (λ e. e ≡ Refusal.Memory) }
     {
         let made = none_made(alloc, plan.clients.len())?;
-        let mut desk = Desk::new(alloc).unwrap();
-        make_all(&mut desk, plan.first.as_slice())?;
+        let desk = Desk::new(alloc).unwrap();
         let mut position = Position { desk, made };
-        position.go_along(plan, schedule)?;
+        position.run(plan, schedule)?;
         Ok(position)
+    }
+
+    /// Moves to the position after this schedule, on a fresh desk. A desk takes kilobytes, so it is made in its place.
+    pub(crate) fn restart(
+        &mut self,
+        alloc: Global,
+        plan: &Plan,
+        schedule: &[u16],
+    ) -> Result<(), Refusal>
+        requires comes { ComesTo plan.now schedule.now (standing_of plan.now schedule.now) }
+        ensures at { OnOk result (IsAt self.new (standing_of plan.now schedule.now)) }
+        ensures memory { IfErr result (λ e. e ≡ Refusal.Memory) }
+    {
+        self.made = none_made(alloc, plan.clients.len())?;
+        self.desk = Desk::new(alloc).unwrap();
+        self.run(plan, schedule)?;
+        Ok(())
+    }
+
+    /// On a fresh desk, makes the first commands of the plan and then the lines of the schedule.
+    fn run(&mut self, plan: &Plan, schedule: &[u16]) -> Result<(), Refusal>
+        requires comes { ComesTo plan.now schedule.now (standing_of plan.now schedule.now) }
+        requires fresh { HasHistory self.old.desk [] }
+        requires none { self.old.made.items ≡ replicate (length plan.now.clients) 0 }
+        ensures at { OnOk result (IsAt self.new (standing_of plan.now schedule.now)) }
+        ensures memory { IfErr result (λ e. e ≡ Refusal.Memory) }
+    {
+        make_all(&mut self.desk, plan.first.as_slice())?;
+        self.go_along(plan, schedule)?;
+        Ok(())
     }
 
     /// The clients make their lines in the order of the schedule, if the schedule leads on from here.
@@ -128,7 +157,7 @@ pub(crate) fn none_made(alloc: Global, clients: usize) -> Result<Vec<usize>, Ref
     ensures none { IfOk result (λ made. made.items ≡ replicate clients 0) }
     ensures memory { IfErr result (λ e. e ≡ Refusal.Memory) }
 {
-    let mut made = Vec::new(alloc);
+    let mut made = Vec::with_capacity(alloc, clients)?;
     for _ in 0..clients {
         made.push(0).map_err(|_| Refusal::Memory)?;
     }

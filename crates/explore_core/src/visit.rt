@@ -47,7 +47,7 @@ impl Visit {
         if !self.has_left {
             return Ok(());
         }
-        self.position = Position::at(alloc, plan, schedule)?;
+        self.position.restart(alloc, plan, schedule)?;
         self.has_left = false;
         Ok(())
     }

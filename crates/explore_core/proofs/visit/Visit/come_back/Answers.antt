@@ -4,4 +4,4 @@ pub returns-then-not-self-clause-at : goal.returns-then-not-self-clause-at
 returns-then-not-self-clause-at c = λ of. of c.if-not-self.true
 
 pub returns-clause-at : goal.returns-clause-at
-returns-clause-at c = λ of. c.in_ok-self.ensures.at
+returns-clause-at c = λ of. c.in_ok-restart.ensures.at
