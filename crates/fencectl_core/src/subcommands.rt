@@ -27,7 +27,7 @@ pub(crate) enum ArgumentForm {
     Paths,
     /// An option without a value.
     Flag,
-    /// An option with a value; the string is its metavariable.
+    /// An option with a value, which may be left out; the string is its metavariable.
     Option(&'static str),
     /// A number from 1 to this one, without which the command line is wrong.
     Number(u16),

@@ -15,7 +15,8 @@ use strsim::osa_distance;
 /// A command that differs from a word in one letter is suggested for words of at least this length.
 const LETTERS: usize = 3;
 
-/// Writes to `notes` why a line is no command, by the refusal that it was answered with.
+/// Writes to `notes` why a line is no command, by the refusal that it was answered with: LongLine, the limit of scripts, or else
+/// Syntax, for which any other is taken. Every line gets a note.
 ///
 /// Fails with `Write` or `Memory`.
 pub fn explain_bad_line<N: Write>(
@@ -213,7 +214,7 @@ fn missing(operand: Option<&Operand>) -> &'static str {
     }
 }
 
-/// The sentence for a word that does not match the operand at its place, or that follows the last operand.
+/// The sentence for a word that does not match the operand at its place, or that follows the last operand. None if it matches.
 fn wrong_for(word: &[u8], operand: Option<&Operand>) -> Option<&'static str> {
     match operand {
         Some(operand) if operand.matches(word) => None,
