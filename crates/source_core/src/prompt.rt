@@ -1,5 +1,5 @@
 //! `Prompted`: a reader that writes a prompt before each line, for `fencectl` at a terminal.
-ghost use Rattle.std.specs.Prelude.{◌≡◌};
+ghost use Rattle.std.specs.Prelude.{◌≡◌, true};
 
 use std::io;
 use std::io::{Read, Write};
@@ -20,6 +20,8 @@ impl<R: Read + Drop, W: Write + Drop> Prompted<R, W> {
     /// Wraps a reader from which nothing was read yet.
     pub fn new(reader: R, prompts: W) -> Prompted<R, W>
         ensures reader { result.reader ≡ reader }
+        ensures prompts { result.prompts ≡ prompts }
+        ensures begins { result.begins ≡ true }
     {
         Prompted {
             reader,
