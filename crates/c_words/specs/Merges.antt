@@ -10,6 +10,11 @@ pub record HasLoadedFor (old new : MemberModel) : Type 0 where
   pub looked : HasLooked old new
   pub loaded : HasLoadedAll old.seat new.seat (reach_seen new.seat)
 
+-- by these loads both files are consistent with the words
+pub record FindsNoneForeign (old new : MemberModel) (a b : File) : Type 0 where
+  pub loads : HasLoadedFor old new
+  pub borne_out : IsBorneOut new.seat a × IsBorneOut new.seat b
+
 -- by these loads one of the files is not consistent with the words
 pub record FindsOneForeign (old new : MemberModel) (a b : File) : Type 0 where
   pub loads : HasLoadedFor old new

@@ -4,7 +4,7 @@ ghost use Rattle.point_core.specs.declared.refusal.Refusal.TheVariants as refusa
 ghost use Rattle.c_words.specs.Answers.{done, refused};
 ghost use Rattle.c_words.specs.FileCalls.{HasMerged};
 ghost use Rattle.c_words.specs.Files.{IsOpen, IsClosed};
-ghost use Rattle.c_words.specs.Merges.{FindsOneForeign, HasLoadedFor};
+ghost use Rattle.c_words.specs.Merges.{FindsNoneForeign, FindsOneForeign};
 ghost use Rattle.c_words.specs.Seats.{IsOpen as IsOpenSeat, IsClosed as IsClosedSeat};
 
 use crate::file_handle::FileHandle;
@@ -20,7 +20,7 @@ use syncfile_core::SyncFile;
 /// Merges two files, as `SyncFile::merge_with` by the seat. The handles must be distinct.
 ///
 /// Fails with `NoEntry` if the handle of either file or of the seat is closed, with `Exists` if the new file's is open,
-/// with `Foreign` if a file is not consistent with the words, and with `Memory`.
+/// with `Foreign` if a file is not consistent with the words, and then with `Memory`.
 #[unsafe(no_mangle)]
 pub extern "C" fn bim_file_merge(
     alloc: Global,
@@ -39,7 +39,7 @@ pub extern "C" fn bim_file_merge(
         IsOpen file.new × HasMerged seat.old.held seat.new.held a.old.held b.old.held file.new.held }
     ensures refused { IsOpen a.old → IsOpen b.old → IsOpenSeat seat.old → IsClosed file.old → (result ≡ done)
         ⊎ ((result ≡ refused refusal.Foreign) × FindsOneForeign seat.old.held seat.new.held a.old.held b.old.held)
-        ⊎ ((result ≡ refused refusal.Memory) × HasLoadedFor seat.old.held seat.new.held) }
+        ⊎ ((result ≡ refused refusal.Memory) × FindsNoneForeign seat.old.held seat.new.held a.old.held b.old.held) }
     ensures a_same { a.new ≡ a.old }
     ensures b_same { b.new ≡ b.old }
     ensures unchanged { (result ≡ done) ⊎ (file.new ≡ file.old) }
@@ -74,7 +74,7 @@ fn merged(
 ) -> Result<Box<SharedFile>, Refusal>
     ensures merged { IfOk result (λ file. HasMerged member.old member.new a.now b.now file.value) }
     ensures refused { IfErr result (λ e. ((e ≡ refusal.Foreign) × FindsOneForeign member.old member.new a.now b.now)
-        ⊎ ((e ≡ refusal.Memory) × HasLoadedFor member.old member.new)) }
+        ⊎ ((e ≡ refusal.Memory) × FindsNoneForeign member.old member.new a.now b.now)) }
 {
     let file = member.merge(alloc, a, b)?;
     boxed(alloc, SharedFile::of(alloc, file)?)
