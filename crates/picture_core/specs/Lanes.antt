@@ -1,6 +1,6 @@
--- The marks and links of commands: a mark on the lane of the buffer that a command works on, and a link from each lane
--- from which it takes fences to the lane that it makes or changes.
-use Rattle.std.specs.Prelude.{ℕ, ◌-◌, ◌==◌, nat_le, if◌then◌else◌, List, [], ◌∷◌, ◌++◌, length, Option, None, Some, option_map}
+-- The lanes of buffers, and the marks and links of commands: a mark on the lane of the buffer that a command works on, and a link
+-- from each lane from which it takes fences to the lane that it makes or changes.
+use Rattle.std.specs.Prelude.{◌≡◌, ℕ, ◌-◌, ◌==◌, nat_le, if◌then◌else◌, List, [], ◌∷◌, ◌++◌, length, Option, None, Some, option_map}
 use Rattle.std.specs.List.{position_from}
 use Rattle.point_core.specs.Named.{same_name}
 use Rattle.command_core.specs.declared.command.Command.{Command}
@@ -15,8 +15,24 @@ use Rattle.picture_core.specs.declared.history.Lane.TheVariants as lane
 use Rattle.picture_core.specs.declared.history.Lanes.{Lanes}
 use Rattle.picture_core.specs.declared.history.Link.{Link}
 use Rattle.picture_core.specs.declared.history.TimelineLane.{TimelineLane}
-use Rattle.picture_core.specs.declared.history.WatchLane.{WatchLane}
 use Rattle.picture_core.specs.Bars.{is_open_of}
+
+-- no lane, mark or link
+pub record AreNone (l : Lanes) : Type 0 where
+  pub timelines : l.timelines.items ≡ []
+  pub buffers : l.buffers.items ≡ []
+  pub marks : l.marks.items ≡ []
+  pub watches : l.watches.items ≡ []
+  pub links : l.links.items ≡ []
+
+-- the lane of a buffer that was made in that column
+abbrev pub buffer_of : List ℕ → ℕ → BufferLane
+buffer_of name column = record { name = name; made = column }
+
+-- the lanes of buffers after an accepted command in that column: another one if it makes a buffer
+abbrev pub buffers_after : ℕ → Command → List BufferLane → List BufferLane
+buffers_after column (command.Buffer b) bs = bs ++ buffer_of b column ∷ []
+buffers_after column _ bs = bs
 
 -- the lanes of the timeline and of the buffer of a name
 

@@ -4,5 +4,6 @@ pub mod Legend
 pub mod Picture
 pub mod Shapes
 pub mod Sheet
+pub mod Timelines
 pub mod Waits
 pub mod Watches

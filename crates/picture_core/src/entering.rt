@@ -2,7 +2,8 @@
 ghost use Rattle.std.specs.Prelude.{◌≡◌, ◌∷◌, ◌++◌, [], suc, map, if◌then◌else◌, ◌==◌, OnOk};
 ghost use Rattle.picture_core.specs.Bars.{bar_of, bars_after, closed_if, with_closed};
 ghost use Rattle.picture_core.specs.Watches.{AreWatchesAfter, IsRegistered, ended_if, fired_all, fired_by, with_ended};
-ghost use Rattle.picture_core.specs.Lanes.{bar_lane, buffer_lane, buffer_place, joined, joined_all, last_watch, links_after, marked, marks_after, sources, target, timeline_lane};
+ghost use Rattle.picture_core.specs.Timelines.{made_in, models_of, raised_by, shut_if, stepped_if, timelines_after};
+ghost use Rattle.picture_core.specs.Lanes.{bar_lane, buffer_lane, buffer_of, buffer_place, buffers_after, joined, joined_all, last_watch, links_after, marked, marks_after, sources, target, timeline_lane};
 
 use crate::bar::{Bar, open_place};
 use crate::history::{
@@ -29,6 +30,11 @@ impl History {
         ensures columns { self.new.columns ≡ self.old.columns }
         ensures bars { OnOk result (self.new.bars.items ≡ bars_after column command.now self.old.bars.items) }
         ensures waits { self.new.waits ≡ self.old.waits }
+        ensures refused { self.new.refused ≡ self.old.refused }
+        ensures timelines { OnOk result (models_of self.new.lanes.timelines.items
+            ≡ timelines_after column command.now answer.now (models_of self.old.lanes.timelines.items)) }
+        ensures buffers { OnOk result (self.new.lanes.buffers.items
+            ≡ buffers_after column command.now self.old.lanes.buffers.items) }
         ensures marks { OnOk result (self.new.lanes.marks.items
             ≡ marks_after column self.new.lanes.buffers.items command.now self.old.lanes.marks.items) }
         ensures links { OnOk result (self.new.lanes.links.items
@@ -95,6 +101,9 @@ impl Lanes {
         answer: &Answer,
         points: &[Point],
     ) -> Result<(), AllocError>
+        ensures timelines { OnOk result (models_of self.new.timelines.items
+            ≡ timelines_after column command.now answer.now (models_of self.old.timelines.items)) }
+        ensures buffers { OnOk result (self.new.buffers.items ≡ buffers_after column command.now self.old.buffers.items) }
         ensures marks { OnOk result (self.new.marks.items
             ≡ marks_after column self.new.buffers.items command.now self.old.marks.items) }
         ensures links { self.new.links ≡ self.old.links }
@@ -128,7 +137,10 @@ impl Lanes {
 
     /// The new value of a timeline, and the watches that fired.
     fn raise(&mut self, column: usize, name: &Name, answer: &Answer) -> Result<(), AllocError>
+        ensures timelines { OnOk result (models_of self.new.timelines.items
+            ≡ raised_by column name.now answer.now (models_of self.old.timelines.items)) }
         ensures watches { self.new.watches.items ≡ fired_by column answer.now self.old.watches.items }
+        ensures buffers { self.new.buffers ≡ self.old.buffers }
         ensures marks { self.new.marks ≡ self.old.marks }
         ensures links { self.new.links ≡ self.old.links }
     {
@@ -140,11 +152,14 @@ impl Lanes {
             column,
             value: *value,
         };
-        push_step(self.timelines.as_mut_slice(), name, step)
+        push_step(self.timelines.as_mut_slice(), name, &step)
     }
 
     fn shut(&mut self, column: usize, name: &Name, answer: &Answer) -> Result<(), AllocError>
+        ensures timelines { OnOk result (models_of self.new.timelines.items
+            ≡ map (shut_if column name.now) (raised_by column name.now answer.now (models_of self.old.timelines.items))) }
         ensures watches { self.new.watches.items ≡ fired_by column answer.now self.old.watches.items }
+        ensures buffers { self.new.buffers ≡ self.old.buffers }
         ensures marks { self.new.marks ≡ self.old.marks }
         ensures links { self.new.links ≡ self.old.links }
     {
@@ -156,6 +171,7 @@ impl Lanes {
     fn access(&mut self, column: usize, name: &Name, access: Access) -> Result<(), AllocError>
         ensures marks { OnOk result (self.new.marks.items ≡ if column == 0 then self.old.marks.items
             else marked column (buffer_place self.old.buffers.items name.now) access self.old.marks.items) }
+        ensures timelines { self.new.timelines ≡ self.old.timelines }
         ensures buffers { self.new.buffers ≡ self.old.buffers }
         ensures links { self.new.links ≡ self.old.links }
         ensures watches { self.new.watches ≡ self.old.watches }
@@ -271,7 +287,9 @@ fn push_timeline(
     alloc: Global,
     column: usize,
     name: &Name,
-) -> Result<(), AllocError> {
+) -> Result<(), AllocError>
+    ensures { OnOk result (models_of timelines.new.items ≡ models_of timelines.old.items ++ made_in column name.now ∷ []) }
+{
     let mut steps = Vec::new(alloc);
     push(&mut steps, ValueStep { column, value: 0 })?;
     push(
@@ -284,39 +302,26 @@ fn push_timeline(
     )
 }
 
-fn push_step(lanes: &mut [TimelineLane], name: &Name, step: ValueStep) -> Result<(), AllocError> {
+fn push_step(lanes: &mut [TimelineLane], name: &Name, step: &ValueStep) -> Result<(), AllocError>
+    ensures { OnOk result (models_of lanes.new ≡ map (stepped_if name.now step.now) (models_of lanes.old)) }
+{
     for lane in lanes.iter_mut() {
-        if lane.name == *name {
-            return set_step(&mut lane.steps, step);
-        }
+        lane.step_if(name, step)?;
     }
     Ok(())
 }
 
-/// Adds a step. Two steps in one column become one.
-fn set_step(steps: &mut Vec<ValueStep>, step: ValueStep) -> Result<(), AllocError> {
-    if let Some(last) = steps.last_mut() {
-        if last.column == step.column {
-            *last = step;
-            return Ok(());
-        }
-    }
-    push(steps, step)
-}
-
-fn close_timeline(lanes: &mut [TimelineLane], column: usize, name: &Name) {
+fn close_timeline(lanes: &mut [TimelineLane], column: usize, name: &Name)
+    ensures { models_of lanes.new ≡ map (shut_if column name.now) (models_of lanes.old) }
+{
     for lane in lanes.iter_mut() {
-        if lane.name == *name {
-            lane.closed = Some(column);
-        }
+        lane.close_if(column, name);
     }
 }
 
-fn push_buffer(
-    buffers: &mut Vec<BufferLane>,
-    column: usize,
-    name: &Name,
-) -> Result<(), AllocError> {
+fn push_buffer(buffers: &mut Vec<BufferLane>, column: usize, name: &Name) -> Result<(), AllocError>
+    ensures { OnOk result (buffers.new.items ≡ buffers.old.items ++ buffer_of name.now column ∷ []) }
+{
     push(
         buffers,
         BufferLane {

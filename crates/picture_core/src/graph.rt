@@ -1,5 +1,6 @@
 //! `Graph`: the waiters at the end of a run, and the points for which they wait. Each point on an edge is a node.
-ghost use Rattle.std.specs.Prelude.{◌≡◌, ◌∷◌, ◌++◌, [], OnOk};
+ghost use Rattle.std.specs.Prelude.{◌≡◌, ◌⊎◌, ◌∷◌, ◌++◌, [], OnOk};
+ghost use Rattle.picture_core.specs.declared.graph.Node.TheVariants as kind;
 ghost use Rattle.picture_core.specs.Waits.{edge_to};
 
 use crate::list::push;
@@ -58,6 +59,7 @@ pub struct Graph {
 impl Graph {
     /// An empty graph.
     pub fn new(alloc: Global) -> Graph
+        ensures nodes { result.nodes.items ≡ [] }
         ensures edges { result.edges.items ≡ [] }
     {
         Graph {
@@ -71,6 +73,7 @@ impl Graph {
     ///
     /// Fails only with `Memory`.
     pub fn add_node(&mut self, node: Node) -> Result<(), Refusal>
+        ensures nodes { OnOk result (self.new.nodes.items ≡ self.old.nodes.items ++ node ∷ []) }
         ensures edges { self.new.edges ≡ self.old.edges }
     {
         Ok(push(&mut self.nodes, node)?)
@@ -80,6 +83,8 @@ impl Graph {
     ///
     /// Fails only with `Memory`.
     pub fn add_wait(&mut self, waiter: &Waiter, waiting: &Waiting) -> Result<(), Refusal>
+        ensures nodes { OnOk result ((self.new.nodes ≡ self.old.nodes)
+            ⊎ (self.new.nodes.items ≡ self.old.nodes.items ++ kind.Point waiting.now ∷ [])) }
         ensures edges { OnOk result (self.new.edges.items
             ≡ self.old.edges.items ++ edge_to waiter.now waiting.now.timeline waiting.now.point ∷ []) }
     {

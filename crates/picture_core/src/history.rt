@@ -1,12 +1,14 @@
 //! `History`: the columns and lanes of a run, as `draw_core` records them. The picture shows exactly this.
-ghost use Rattle.std.specs.Prelude.{◌≡◌, ◌∷◌, ◌++◌, [], OnOk};
+ghost use Rattle.std.specs.Prelude.{◌≡◌, ◌∷◌, ◌++◌, [], false, OnOk};
+ghost use Rattle.picture_core.specs.Lanes.{AreNone};
+ghost use Rattle.picture_core.specs.Timelines.{model_of, shut_if, stepped_if, steps_with};
 ghost use Rattle.picture_core.specs.Watches.{ended_if, is_pending};
 
 use crate::bar::Bar;
 use crate::list::push;
 use crate::waiting::Waiting;
 use point_core::{Name, Point, Refusal, Usage};
-use std::alloc::Global;
+use std::alloc::{AllocError, Global};
 
 /// A line of the script that has an answer. Columns are numbered from 1; 0 is before the first.
 #[derive(Drop)]
@@ -34,6 +36,37 @@ pub struct TimelineLane {
     pub steps: Vec<ValueStep>,
     /// The column of the command that closed it.
     pub closed: Option<usize>,
+}
+
+impl TimelineLane {
+    /// Adds a step, if it has that name.
+    pub(crate) fn step_if(&mut self, name: &Name, step: &ValueStep) -> Result<(), AllocError>
+        ensures { OnOk result (model_of self.new ≡ stepped_if name.now step.now (model_of self.old)) }
+    {
+        if self.name == *name {
+            return add_step(&mut self.steps, step);
+        }
+        Ok(())
+    }
+
+    /// Closes it in that column, if it has that name.
+    pub(crate) fn close_if(&mut self, column: usize, name: &Name)
+        ensures { model_of self.new ≡ shut_if column name.now (model_of self.old) }
+    {
+        if self.name == *name {
+            self.closed = Some(column);
+        }
+    }
+}
+
+/// Adds a step. Before the first column only the last value counts.
+fn add_step(steps: &mut Vec<ValueStep>, step: &ValueStep) -> Result<(), AllocError>
+    ensures { OnOk result (steps.new.items ≡ steps_with step.now steps.old.items) }
+{
+    if step.column == 0 {
+        steps.clear();
+    }
+    push(steps, *step)
 }
 
 /// A buffer.
@@ -142,7 +175,9 @@ pub struct Lanes {
 }
 
 impl Lanes {
-    fn new(alloc: Global) -> Lanes {
+    fn new(alloc: Global) -> Lanes
+        ensures { AreNone result }
+    {
         Lanes {
             timelines: Vec::new(alloc),
             buffers: Vec::new(alloc),
@@ -171,7 +206,9 @@ impl History {
     pub fn new(alloc: Global) -> History
         ensures columns { result.columns.items ≡ [] }
         ensures bars { result.bars.items ≡ [] }
+        ensures lanes { AreNone result.lanes }
         ensures waits { result.waits.items ≡ [] }
+        ensures refused { result.refused ≡ false }
     {
         History {
             columns: Vec::new(alloc),
@@ -188,7 +225,9 @@ impl History {
     pub fn add_column(&mut self, column: Column) -> Result<(), Refusal>
         ensures columns { OnOk result (self.new.columns.items ≡ self.old.columns.items ++ column ∷ []) }
         ensures bars { self.new.bars ≡ self.old.bars }
+        ensures lanes { self.new.lanes ≡ self.old.lanes }
         ensures waits { self.new.waits ≡ self.old.waits }
+        ensures refused { self.new.refused ≡ self.old.refused }
     {
         Ok(push(&mut self.columns, column)?)
     }
@@ -199,6 +238,8 @@ impl History {
     pub fn add_wait(&mut self, wait: BarWait) -> Result<(), Refusal>
         ensures columns { self.new.columns ≡ self.old.columns }
         ensures bars { self.new.bars ≡ self.old.bars }
+        ensures lanes { self.new.lanes ≡ self.old.lanes }
+        ensures refused { self.new.refused ≡ self.old.refused }
         ensures waits { OnOk result (self.new.waits.items ≡ self.old.waits.items ++ wait ∷ []) }
     {
         Ok(push(&mut self.waits, wait)?)
