@@ -18,7 +18,8 @@ use Rattle.desk_core.specs.theorem.Answer.{name_of}
 use Rattle.picture_core.specs.Waits.{edge_to}
 use Rattle.picture_core.specs.declared.graph.Waiter.{Waiter}
 use Rattle.draw_core.specs.Found.{edges_of, is_waited_for}
-use Rattle.draw_core.specs.Waiting.{active_edges, is_active_point, is_to_come}
+use Rattle.draw_core.specs.Beside.{is_active_point}
+use Rattle.draw_core.specs.Waiting.{active_edges, is_to_come}
 
 unsignalled : (reached past : Bool) → not (is_signalled (status_of reached past)) ≡ true → reached ≡ false
 unsignalled true true is = absurd (cc)
@@ -72,7 +73,7 @@ module _ (ts : List Timeline) (kept : AreTimelines ts) (within : All (λ (t : Ti
   chain true false c then' = refl
   chain false b c then' = refl
 
-  waited-active : (p : Point) → is_waited_for ts p ≡ is_active_point ts p
+  pub waited-active : (p : Point) → is_waited_for ts p ≡ is_active_point ts p
   waited-active p =
       chain (is_some (name_at ts p.ctx)) (not (is_signalled (status_at (clocks_of ts) p))) (is_to_come ts (name_of ts p.ctx) p.value)
       (λ has active.

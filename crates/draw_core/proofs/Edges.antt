@@ -23,9 +23,10 @@ use Rattle.picture_core.specs.declared.graph.Waiter.TheVariants as waiter
 use Rattle.picture_core.specs.declared.history.WatchLane.{WatchLane}
 use Rattle.picture_core.specs.declared.waiting.Waiting.{Waiting}
 use Rattle.draw_core.proofs.Active.{edges-active}
+use Rattle.draw_core.specs.Beside.{points_named}
 use Rattle.draw_core.specs.Drawn.{IsToGo, IsWaitingFor}
 use Rattle.draw_core.specs.Found.{IsReportOf, edges_by, edges_of, file_edges}
-use Rattle.draw_core.specs.Waiting.{active_edges, buffer_edges, edges_in, made_edges, points_named, put_edges, watches_edges}
+use Rattle.draw_core.specs.Waiting.{active_edges, buffer_edges, edges_in, made_edges, put_edges, watches_edges}
 
 -- the elements that a test keeps, one by one
 

@@ -25,6 +25,7 @@ use Rattle.picture_core.specs.Bars.{bars_after}
 use Rattle.draw_core.specs.declared.window.Window.{Window}
 use Rattle.draw_core.specs.Columns.{is_in_window, drawn_lines, lines_drawn}
 use Rattle.draw_core.specs.Drawn.{AreAsked}
+use Rattle.draw_core.specs.Beside.{all_waits}
 use Rattle.draw_core.specs.Shown.{IsShown, IsWaitIn, ShowFiles, ShowsRun, history_before, last_world, line_after, lines_run, names_there, world_shown}
 use Rattle.draw_core.specs.Progress.{AreAskedFirst, AreBarsOf, HasDrawn, bars_after_line}
 use Rattle.draw_core.proofs.Lines.{IsBelow, below-run, below-drawn, drawn_lines-early, drawn_lines-in, drawn_lines-out, history_before-all, history_before-earlier, length-drawn, line_after-earlier, line_after-low, line_after-new, lines_run-past, lines_run-push}
@@ -320,5 +321,7 @@ module _ (window : Window) (done : List Line) (desk later : DeskState) (old new 
   }
 
 -- all that is drawn of the run
-pub ShowsRun-shown : (window : Window) (lines : List Line) (desk : DeskState) (columns : List Column) (bars : List Bar) (waits : List BarWait) → (h : HasShown window lines desk columns bars) → All (IsWaitIn (last_world window lines h.given) bars) waits → ShowsRun window lines columns bars waits
-ShowsRun-shown window lines desk columns bars waits h all = record { given = h.given; answers = h.answers; files = h.shown; waited = all }
+pub ShowsRun-shown : (window : Window) (lines : List Line) (desk : DeskState) (columns : List Column) (bars : List Bar) (waits : List BarWait) → (h : HasShown window lines desk columns bars) → All (IsWaitIn (last_world window lines h.given) bars) waits
+    → waits ≡ all_waits (last_world window lines h.given) bars → ShowsRun window lines columns bars waits
+ShowsRun-shown window lines desk columns bars waits h all told =
+    record { given = h.given; answers = h.answers; files = h.shown; waited = all; told = told }

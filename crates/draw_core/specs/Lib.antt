@@ -1,3 +1,4 @@
+pub mod Beside
 pub mod Columns
 pub mod Drawn
 pub mod Found

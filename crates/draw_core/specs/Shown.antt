@@ -20,6 +20,7 @@ use Rattle.picture_core.specs.declared.bar.Bar.{Bar}
 use Rattle.picture_core.specs.declared.history.BarWait.{BarWait}
 use Rattle.picture_core.specs.declared.history.Column.{Column}
 use Rattle.picture_core.specs.declared.waiting.Waiting.{Waiting}
+use Rattle.draw_core.specs.Beside.{all_waits}
 use Rattle.draw_core.specs.Columns.{lines_drawn}
 
 -- line numbers rise, and the first is at least this one
@@ -93,10 +94,11 @@ pub record IsWaitIn (w : World) (bars : List Bar) (wait : BarWait) : Type 0 wher
   pub waits : IsPending w.timelines point wait.waiting
 
 -- A picture shows the run of the lines: they have answers so that each column shows the files of the history up to its
--- line, and each text at the end gives a distance after the last line that was run.
+-- line, and the texts at the end give the distance of each point for which a file waits after the last line that was run.
 pub record ShowsRun (window : Window) (lines : List Line) (columns : List Column) (bars : List Bar)
     (waits : List BarWait) : Type 0 where
   pub given : List Answer
   pub answers : AreLineAnswers [] (lines_run window lines) given
   pub files : (column : ℕ) → column ≤ length columns → ShowFiles (world_shown window lines given columns column) column bars
   pub waited : All (IsWaitIn (last_world window lines given) bars) waits
+  pub told : waits ≡ all_waits (last_world window lines given) bars

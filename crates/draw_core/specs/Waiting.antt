@@ -1,16 +1,14 @@
 -- The graph of waiters after the lines that were run.
-use Rattle.std.specs.Prelude.{ℕ, Bool, ◌&&◌, not, nat_lt, List, [], ◌++◌, map, filter, flat_map, option_map, unwrap_or, is_some}
-use Rattle.point_core.specs.Clocks.{status_at}
-use Rattle.point_core.specs.Status.{is_signalled}
+use Rattle.std.specs.Prelude.{ℕ, Bool, ◌&&◌, nat_lt, List, [], ◌++◌, map, filter, flat_map}
 use Rattle.point_core.specs.declared.entry.Point.{Point}
 use Rattle.command_core.specs.declared.answer.Answer.{Answer}
 use Rattle.command_core.specs.declared.answer.BufferRows.{BufferRows}
 use Rattle.command_core.specs.declared.answer.ShowRow.{ShowRow}
 use Rattle.line_core.specs.declared.line.Line.{Line}
-use Rattle.timeline_core.specs.Timeline.{Timeline, clocks_of, has_timeline, name_at, value_of}
-use Rattle.desk_core.specs.theorem.Answer.{buffer_rows, listed_points, name_of}
+use Rattle.timeline_core.specs.Timeline.{Timeline, has_timeline, value_of}
+use Rattle.desk_core.specs.theorem.Answer.{buffer_rows, name_of}
 use Rattle.desk_core.specs.theorem.Desk.{DeskState, HasHistory}
-use Rattle.desk_core.specs.theorem.World.{MadeBuffer, MadeFile, World, file_named}
+use Rattle.desk_core.specs.theorem.World.{MadeBuffer, MadeFile, World}
 use Rattle.script_core.specs.Answering.{history_along}
 use Rattle.script_core.specs.Output.{AreLineAnswers}
 use Rattle.picture_core.specs.Waits.{edge_to}
@@ -21,21 +19,14 @@ use Rattle.picture_core.specs.declared.history.WatchEnd.{WatchEnd}
 use Rattle.picture_core.specs.declared.history.WatchEnd.TheVariants as end
 use Rattle.picture_core.specs.declared.history.WatchLane.{WatchLane}
 use Rattle.draw_core.specs.declared.window.Window.{Window}
+use Rattle.draw_core.specs.Beside.{is_active_point, points_named}
 use Rattle.draw_core.specs.Shown.{lines_run}
 
 -- files: each waits for the active points that it lists
 
--- a point of a timeline that exists is active
-abbrev pub is_active_point : List Timeline → Point → Bool
-is_active_point ts p = is_some (name_at ts p.ctx) && not (is_signalled (status_at (clocks_of ts) p))
-
 -- an edge to each active point
 abbrev pub active_edges : List Timeline → Waiter → List Point → List Edge
 active_edges ts w ps = map (λ (p : Point). edge_to w (name_of ts p.ctx) p.value) (filter (is_active_point ts) ps)
-
--- the points that the file of a name lists
-abbrev pub points_named : World → List ℕ → List Point
-points_named w name = unwrap_or (option_map listed_points (file_named w.files name)) []
 
 abbrev pub made_edges : World → MadeFile → List Edge
 made_edges w f = active_edges w.timelines (waiter.File f.name) (points_named w f.name)

@@ -1,7 +1,7 @@
 //! Records a script's run for its picture: its history column by column, and the graph of waiters at its end.
 //!
 //! A drawing depends only on the desk and its answers. The explanations of refused lines are the caller's (`Explain`), so that
-//! this crate needs none of `reason_core`.
+//! this crate does not depend on `reason_core`.
 #![tactic(auto)]
 
 mod asking;

@@ -11,7 +11,7 @@ ghost use Rattle.draw_core.specs.Columns.{drawn_lines, is_in_window, lines_drawn
 ghost use Rattle.draw_core.specs.Progress.{AddsWaits, AreAskedFirst, HasDrawn, IsWaitBy, bars_after_line};
 ghost use Rattle.draw_core.specs.Drawn.{AreAsked};
 ghost use Rattle.draw_core.specs.Shown.{AreRising, ShowsRun};
-ghost use Rattle.draw_core.specs.Found.{IsReportOf, edges_by};
+ghost use Rattle.draw_core.specs.Found.{IsReportOf, edges_by, waits_by, waits_for, waits_to};
 ghost use Rattle.draw_core.specs.Waiting.{StandsAfter, edges_in};
 
 use crate::asking::ask_all;
@@ -319,6 +319,8 @@ impl Run {
         ensures asked { OnOk result (AreAskedFirst self.old.history.columns.items self.old.desk
             self.old.history.bars.items self.new.history.bars.items) }
         ensures waits { OnOk result (All (IsWaitBy self.old.desk self.new.history.bars.items) self.new.history.waits.items) }
+        ensures told { OnOk result (self.new.history.waits.items
+            ≡ waits_to self.old.desk self.new.history.bars.items (length self.new.history.bars.items)) }
         ensures columns { self.new.history.columns ≡ self.old.history.columns }
         ensures desk { self.new.desk ≡ self.old.desk }
     {
@@ -329,6 +331,8 @@ impl Run {
     fn wait_for_all(&mut self) -> Result<(), Refusal>
         ensures waits { OnOk result (All (IsWaitBy self.old.desk self.old.history.bars.items) self.old.history.waits.items →
             All (IsWaitBy self.old.desk self.old.history.bars.items) self.new.history.waits.items) }
+        ensures told { OnOk result (self.new.history.waits.items ≡ self.old.history.waits.items
+            ++ waits_to self.old.desk self.old.history.bars.items (length self.old.history.bars.items)) }
         ensures columns { self.new.history.columns ≡ self.old.history.columns }
         ensures bars { self.new.history.bars ≡ self.old.history.bars }
         ensures desk { self.new.desk ≡ self.old.desk }
@@ -342,6 +346,8 @@ impl Run {
     fn wait_for(&mut self, place: usize) -> Result<(), Refusal>
         ensures waits { OnOk result (All (IsWaitBy self.old.desk self.old.history.bars.items) self.old.history.waits.items →
             All (IsWaitBy self.old.desk self.old.history.bars.items) self.new.history.waits.items) }
+        ensures told { OnOk result (self.new.history.waits.items
+            ≡ self.old.history.waits.items ++ waits_by self.old.desk self.old.history.bars.items place) }
         ensures columns { self.new.history.columns ≡ self.old.history.columns }
         ensures bars { self.new.history.bars ≡ self.old.history.bars }
         ensures desk { self.new.desk ≡ self.old.desk }
@@ -397,6 +403,8 @@ fn push_waits(
     history: &mut History,
 ) -> Result<(), Refusal>
     ensures waits { OnOk result (AddsWaits desk.now bar points.now history.old.waits.items history.new.waits.items) }
+    ensures told { OnOk result (history.new.waits.items
+        ≡ history.old.waits.items ++ waits_for desk.now.timelines bar points.now) }
     ensures columns { history.new.columns ≡ history.old.columns }
     ensures bars { history.new.bars ≡ history.old.bars }
 {

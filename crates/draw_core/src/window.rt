@@ -1,6 +1,6 @@
 //! `Window`: the range of lines that are drawn.
-ghost use Rattle.std.specs.Prelude.{◌≡◌, ◌≤◌, IfSome};
-ghost use Rattle.draw_core.specs.Columns.{is_in_window};
+ghost use Rattle.std.specs.Prelude.{◌≡◌, ◌≤◌, ◌+◌, ◌-◌, ◌^◌, min, IfSome};
+ghost use Rattle.draw_core.specs.Columns.{Spells, is_in_window};
 
 /// The lines from `first` to `last`, both included.
 #[derive(Clone, Copy)]
@@ -11,7 +11,10 @@ pub struct Window {
 
 impl Window {
     /// Every line.
-    pub fn whole() -> Window {
+    pub fn whole() -> Window
+        ensures first { result.first ≡ 1 }
+        ensures last { result.last ≡ 2 ^ 32 - 1 }
+    {
         Window {
             first: 1,
             last: u32::MAX,
@@ -20,7 +23,8 @@ impl Window {
 
     /// No line after this one.
     pub fn after(line: u32) -> Window
-        ensures { result.last ≡ line }
+        ensures first { result.first ≡ min (line + 1) (2 ^ 32 - 1) }
+        ensures last { result.last ≡ line }
     {
         Window {
             first: line.saturating_add(1),
@@ -30,7 +34,8 @@ impl Window {
 
     /// Reads `A..B`, two line numbers, the first not above the second.
     pub fn read(text: &str) -> Option<Window>
-        ensures { IfSome result (λ window. (1 ≤ window.first) × (window.first ≤ window.last)) }
+        ensures lines { IfSome result (λ window. (1 ≤ window.first) × (window.first ≤ window.last)) }
+        ensures spelled { IfSome result (Spells text.now) }
     {
         let (first, last) = text.split_once("..")?;
         let first: u32 = first.parse().ok()?;

@@ -11,7 +11,7 @@ returns-clause-shown g c =
     rw c.finish.ensures.columns
     (ShowsRun-finished c.args.window.now (script_of c.args.script.now) c.take_all.new.self.desk c.take_all.new.self.history.columns.items c.take_all.new.self.history.bars.items c.finish.new.self.history.bars.items c.finish.new.self.history.waits.items
     (rw (c.in_ok-run.ensures.window, c.as_slice.ensures.value, c.in_ok-lines.ensures.ok) at c.in_ok-take_all.ensures.drawn)
-    c.in_ok-finish.ensures.asked c.in_ok-finish.ensures.waits)
+    c.in_ok-finish.ensures.asked c.in_ok-finish.ensures.waits c.in_ok-finish.ensures.told)
 
 pub returns-clause-stands : goal.returns-clause-stands
 returns-clause-stands g c =
