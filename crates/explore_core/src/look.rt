@@ -34,6 +34,9 @@ pub(crate) struct Look {
 // An odd number whose bits look random: 2^64 divided by the golden ratio.
 const HASH_FACTOR: u64 = 0x9E37_79B9_7F4A_7C15;
 
+/// The number with which a hash begins. Without one a list that begins with zeros would have the hash of an empty list.
+pub(crate) const SEED: u64 = 0x5851_F42D_4C95_7F2D;
+
 impl Look {
     pub(crate) fn of(alloc: Global, plan: &Plan, desk: &Desk) -> Result<Look, Refusal>
         ensures shows { IfOk result (λ look. Shows (is_asked plan.now) look desk.now) }
@@ -215,7 +218,7 @@ fn buffer_look(alloc: Global, desk: &Desk, name: &Name) -> Result<BufferLook, Re
 }
 
 fn hash_of_timelines(rows: &[TimelineRow]) -> u64 {
-    let mut hash = 0;
+    let mut hash = SEED;
     for row in rows {
         hash = mix(mix(hash, row.value), u64::from(row.closed));
     }
@@ -223,7 +226,7 @@ fn hash_of_timelines(rows: &[TimelineRow]) -> u64 {
 }
 
 fn hash_of_buffers(buffers: &[BufferLook]) -> u64 {
-    let mut hash = 0;
+    let mut hash = SEED;
     for buffer in buffers {
         hash = hash_of_tops(hash, buffer.tops.as_slice());
     }

@@ -3,7 +3,7 @@
 ghost use Rattle.std.specs.Prelude.{◌≡◌, ◌++◌, ◌∷◌, ℕ, ◌<◌, true, [], Some, slice_get, length, map, All, Contains, IfOk, IfErr, OnOk};
 ghost use Rattle.explore_core.specs.Search.{Begins, IsGrown, Fits, AreSamePlaces, no_parts, look_of, file_at};
 
-use crate::look::{BufferLook, FileLook, Look, mix};
+use crate::look::{BufferLook, FileLook, Look, SEED, mix};
 use crate::table::Table;
 use point_core::{Items, Refusal, TimelineRow};
 use std::alloc::Global;
@@ -108,7 +108,7 @@ impl Places {
 
     /// A number by which the look may be found again: looks that are the same have the same number.
     pub(crate) fn hash(&self) -> u64 {
-        let hash = mix(self.timelines as u64, self.buffers as u64);
+        let hash = mix(mix(SEED, self.timelines as u64), self.buffers as u64);
         mix(hash, hash_of_files(self.files.as_slice()))
     }
 }
@@ -118,7 +118,7 @@ fn hash_of_files(files: &[usize]) -> u64 {
     let mut sum: u64 = 0;
     for file in files {
         let place = *file as u64;
-        sum = sum.wrapping_add(mix(mix(0, place), place));
+        sum = sum.wrapping_add(mix(mix(SEED, place), place));
     }
     sum
 }
