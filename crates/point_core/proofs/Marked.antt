@@ -1,16 +1,17 @@
 -- The marks of the lanes, one bit for each allowed byte, decide whether bytes are a name.
-use Rattle.std.proofs.Common.{◌≡◌, ℕ, zero, suc, ◌+◌, ◌-◌, ◌%◌, ◌^◌, ◌<◌, ◌≤◌, Bool, true, false, ◌&&◌, cond, eqb, leb, List, [], ◌∷◌, length, get_or, map, replicate, inl, inr, refl, sym, ap, subst, ◌∙◌, arith, w8, w64, Fits}
+use Rattle.std.proofs.Common.{◌≡◌, ℕ, zero, suc, ◌+◌, ◌-◌, ◌%◌, ◌^◌, ◌<◌, ◌≤◌, Bool, true, false, ◌&&◌, cond, eqb, leb, List, [], ◌∷◌, length, get_or, map, take, drop, replicate, inl, inr, refl, sym, ap, subst, ◌∙◌, take-append-drop, arith, w8, w64, Fits}
 use Rattle.std.specs.Int.{bit_at, trailing_ones}
 use Rattle.std.specs.List.{list_all, range_with_len}
 use Rattle.std.specs.Simd.Lanes.{zip2, Each1, mask_l, top}
 use Rattle.std.proofs.lemmas.Bool.{cases_lt, and_parts}
-use Rattle.std.proofs.lemmas.List.{length-map, get_or-map, get_or_append_left, map-id}
+use Rattle.std.proofs.lemmas.List.{length-map, get_or-map, get_or_append_left, map-id, take_rest}
+use Rattle.std.proofs.lemmas.List.Folds.{list_all-append}
 use Rattle.std.proofs.lemmas.List.FromFn.{get_or-map-range_with_len}
 use Rattle.std.proofs.lemmas.Nat.Bits.{bit_at-trailing_ones}
 use Rattle.std.proofs.lemmas.Simd.{bit_mask_l, mask_l-lt, mask_l-mod, zip2_of_maps, splat_is_map, map-map}
 use lib.Bits.{bit_or}
-use Rattle.point_core.specs.Name.{is_name_byte, padded}
-use Rattle.point_core.proofs.Padded.{length-padded}
+use Rattle.point_core.specs.Name.{is_name_byte}
+use Rattle.point_core.proofs.Padded.{half_padded, length-half_padded}
 
 -- the result of a comparison in one lane
 abbrev at_most : ℕ → ℕ → ℕ
@@ -43,20 +44,20 @@ tops [] fit = refl
 tops (x ∷ xs) fit = λ i. name_lane-is x fit.0.fits i ∷ tops xs fit.1 i
 
 abbrev lanes_between : ℕ → ℕ → List ℕ → List ℕ
-lanes_between low more xs = zip2 at_most (zip2 minus xs (replicate 32 low)) (replicate 32 more)
+lanes_between low more xs = zip2 at_most (zip2 minus xs (replicate 16 low)) (replicate 16 more)
 
 abbrev compared : List ℕ → List ℕ
 compared v =
     zip2 bit_or
-    (zip2 bit_or (zip2 bit_or (lanes_between 97 25 (zip2 bit_or v (replicate 32 32))) (lanes_between 48 9 v)) (lanes_between 45 1 v))
-    (zip2 equal v (replicate 32 95))
+    (zip2 bit_or (zip2 bit_or (lanes_between 97 25 (zip2 bit_or v (replicate 16 32))) (lanes_between 48 9 v)) (lanes_between 45 1 v))
+    (zip2 equal v (replicate 16 95))
 
-module _ (v : List ℕ) (long : length v ≡ 32) where
+module _ (v : List ℕ) (long : length v ≡ 16) where
   itself : v ≡ map (λ b. b) v
   itself = sym (map-id v)
 
-  splat : (y : ℕ) → replicate 32 y ≡ map (λ _. y) v
-  splat y = splat_is_map v 32 y long
+  splat : (y : ℕ) → replicate 16 y ≡ map (λ _. y) v
+  splat y = splat_is_map v 16 y long
 
   between_lanes : (f : ℕ → ℕ) (low more : ℕ) (xs : List ℕ) → xs ≡ map f v → lanes_between low more xs ≡ map (λ b. is_between low more (f b)) v
   between_lanes f low more xs is = zip2_of_maps at_most (λ b. minus (f b) low) (λ _. more) v (zip2_of_maps minus f (λ _. low) v is (splat low)) (splat more)
@@ -88,21 +89,21 @@ set_bit true e = refl
 set_bit false e = absurd (omega arith)
 
 abbrev marks_of : List ℕ → ℕ
-marks_of bytes = mask_l (map is_name_byte (padded bytes))
+marks_of bytes = mask_l (map is_name_byte (half_padded bytes))
 
-module _ (bytes : List ℕ) (few : length bytes ≤ 31) where
-  long : length (padded bytes) ≡ 32
-  long = length-padded bytes (omega arith)
+module _ (bytes : List ℕ) (few : length bytes ≤ 16) where
+  long : length (half_padded bytes) ≡ 16
+  long = length-half_padded bytes few
 
-  marks_below : marks_of bytes < 2 ^ 32
+  marks_below : marks_of bytes < 2 ^ 16
   marks_below =
-      let lanes = map is_name_byte (padded bytes) in
-      subst (λ n. mask_l lanes < 2 ^ n) (length-map (padded bytes) is_name_byte ∙ long) (mask_l-lt lanes)
+      let lanes = map is_name_byte (half_padded bytes) in
+      subst (λ n. mask_l lanes < 2 ^ n) (length-map (half_padded bytes) is_name_byte ∙ long) (mask_l-lt lanes)
 
   bit_of : (k : ℕ) → k < length bytes → bit_at (marks_of bytes) k ≡ cond (is_name_byte (get_or bytes k 0)) 1 0
   bit_of k h =
-      bit_mask_l (map is_name_byte (padded bytes)) k ∙ ap (λ b. cond b 1 0) (get_or-map is_name_byte (padded bytes) k 0 false (omega (arith, long)))
-      ∙ ap (λ b. cond (is_name_byte b) 1 0) (get_or_append_left bytes (replicate (32 - length bytes) 0) 0 k h)
+      bit_mask_l (map is_name_byte (half_padded bytes)) k ∙ ap (λ b. cond b 1 0) (get_or-map is_name_byte (half_padded bytes) k 0 false (omega (arith, long)))
+      ∙ ap (λ b. cond (is_name_byte b) 1 0) (get_or_append_left bytes (replicate (16 - length bytes) 0) 0 k h)
 
   lowest_unset : (trailing_ones w64 (marks_of bytes) < 64) × (bit_at (marks_of bytes) (trailing_ones w64 (marks_of bytes)) ≡ 0) × ((k : ℕ) → k < trailing_ones w64 (marks_of bytes) → bit_at (marks_of bytes) k ≡ 1)
   lowest_unset = bit_at-trailing_ones w64 (marks_of bytes) (omega (arith, marks_below))
@@ -119,3 +120,19 @@ module _ (bytes : List ℕ) (few : length bytes ≤ 31) where
             absurd (omega (arith, one, lowest_unset.1))
         | inr whole ↦ whole
       ]
+
+-- a list of bytes, and its slices before and from the 16th
+pub all-halves : (bytes : List ℕ) → list_all is_name_byte bytes ≡ (list_all is_name_byte (take 16 bytes) && list_all is_name_byte (take (length bytes - 16) (drop 16 bytes)))
+all-halves bytes =
+    ap (list_all is_name_byte) (sym (take-append-drop 16 bytes))
+    ∙ list_all-append is_name_byte (take 16 bytes) (drop 16 bytes)
+    ∙ ap (λ rest. list_all is_name_byte (take 16 bytes) && list_all is_name_byte rest) (sym (take_rest bytes 16))
+
+pub front-allowed : (bytes : List ℕ) → list_all is_name_byte bytes ≡ true → list_all is_name_byte (take 16 bytes) ≡ true
+front-allowed bytes all = (and_parts (list_all is_name_byte (take 16 bytes)) (list_all is_name_byte (take (length bytes - 16) (drop 16 bytes))) (sym (all-halves bytes) ∙ all)).0
+
+pub back-allowed : (bytes : List ℕ) → list_all is_name_byte bytes ≡ true → list_all is_name_byte (take (length bytes - 16) (drop 16 bytes)) ≡ true
+back-allowed bytes all = (and_parts (list_all is_name_byte (take 16 bytes)) (list_all is_name_byte (take (length bytes - 16) (drop 16 bytes))) (sym (all-halves bytes) ∙ all)).1
+
+pub both-allowed : (bytes : List ℕ) → list_all is_name_byte (take 16 bytes) ≡ true → list_all is_name_byte (take (length bytes - 16) (drop 16 bytes)) ≡ true → list_all is_name_byte bytes ≡ true
+both-allowed bytes front back = all-halves bytes ∙ (λ i. front i && back i)

@@ -1,12 +1,11 @@
 -- Bytes with zeros after them, as the digits of a number.
-use Rattle.std.proofs.Common.{◌≡◌, ℕ, zero, suc, ◌+◌, ◌-◌, ◌*◌, ◌/◌, ◌%◌, ◌^◌, ◌<◌, ◌≤◌, List, [], ◌∷◌, ◌++◌, length, get_or, take, drop, replicate, refl, sym, ap, subst, ◌∙◌, arith, w8, Fits, mul_assoc, length-drop, take_all, drop-drop}
-use Rattle.std.proofs.lemmas.List.{length-append, length-replicate, get_or-drop, drop-replicate}
+use Rattle.std.proofs.Common.{◌≡◌, ℕ, zero, suc, ◌+◌, ◌-◌, ◌*◌, ◌/◌, ◌%◌, ◌^◌, ◌<◌, ◌≤◌, List, [], ◌∷◌, ◌++◌, length, get_or, take, drop, replicate, refl, sym, ap, subst, ◌∙◌, arith, w8, Fits, mul_assoc, length-take, length-drop, take_all, drop-drop}
+use Rattle.std.proofs.lemmas.List.{length-append, length-replicate, get_or-drop, take_rest}
 use Rattle.std.proofs.lemmas.Nat.{shr-shr, shr_le, or_shifted}
 use Rattle.std.specs.Simd.Lanes.{Each1, chunk, number_l, digits_l}
 use lib.Bits.{bit_or}
 use lib.Pow.{pow-add}
 use native.Mathlib.Nat.{mod-eq_of_lt}
-use Rattle.point_core.specs.declared.lanes.TheConstants.{LANES}
 use Rattle.point_core.specs.Name.{padded}
 
 abbrev pub AreBytes : List ℕ → Type 0
@@ -93,11 +92,35 @@ length-padded xs few =
     let zeros : List ℕ = replicate (32 - length xs) 0 in
     omega (arith, length-append xs zeros, length-replicate {A = ℕ} (32 - length xs) 0)
 
-pub padded-zeros : (xs : List ℕ) → xs ++ drop (length xs) (replicate LANES 0) ≡ padded xs
-padded-zeros xs = ap (λ zeros. xs ++ zeros) (drop-replicate (length xs) LANES 0)
+-- the bytes, and zeros after them, in half of the lanes
+abbrev pub half_padded : List ℕ → List ℕ
+half_padded xs = xs ++ replicate (16 - length xs) 0
+
+pub length-half_padded : (xs : List ℕ) → length xs ≤ 16 → length (half_padded xs) ≡ 16
+length-half_padded xs few =
+    let zeros : List ℕ = replicate (16 - length xs) 0 in
+    omega (arith, length-append xs zeros, length-replicate {A = ℕ} (16 - length xs) 0)
+
+pub digits-half_padded : (xs : List ℕ) (n : ℕ) → n ≡ number_l 256 xs → AreBytes xs → length xs ≤ 16 → digits_l 256 16 n ≡ half_padded xs
+digits-half_padded xs n is bytes few = ap (digits_l 256 16) is ∙ digits-number 16 xs few bytes
 
 pub digits-padded : (xs : List ℕ) (n : ℕ) → n ≡ number_l 256 xs → AreBytes xs → length xs ≤ 32 → digits_l 256 32 n ≡ padded xs
 digits-padded xs n is bytes few = ap (digits_l 256 32) is ∙ digits-number 32 xs few bytes
+
+-- the slices of at most 31 bytes before and from the 16th
+pub front-few : (xs : List ℕ) → length (take 16 xs) ≤ 16
+front-few xs = omega (arith, length-take 16 xs)
+
+pub back-few : (xs : List ℕ) → length xs ≤ 31 → length (take (length xs - 16) (drop 16 xs)) ≤ 16
+back-few xs most = omega (arith, ap length (take_rest xs 16), length-drop 16 xs, most)
+
+-- the bytes as four numbers, of which two are the first 16 bytes
+pub number-halves : (xs : List ℕ) (a b c d : ℕ) → a + 2 ^ 64 * b ≡ number_l 256 (take 16 xs) → c + 2 ^ 64 * d ≡ number_l 256 (take (length xs - 16) (drop 16 xs))
+    → a + 2 ^ 64 * (b + 2 ^ 64 * (c + 2 ^ 64 * d)) ≡ number_l 256 xs
+number-halves xs a b c d front back =
+    let rest : c + 2 ^ 64 * d ≡ number_l 256 (drop 16 xs) = back ∙ ap (number_l 256) (take_rest xs 16) in
+    let whole : number_l 256 (take 16 xs) + 2 ^ 128 * number_l 256 (drop 16 xs) ≡ number_l 256 xs = number-split 16 xs in
+    omega (arith, front, rest, whole)
 
 -- the digits of a number, as many as it has bytes, are the bytes
 pub digits-same : (xs : List ℕ) → AreBytes xs → digits_l 256 (length xs) (number_l 256 xs) ≡ xs

@@ -1,8 +1,7 @@
-//! Loads bytes into the lanes of a vector, with zeros after them. `Name` keeps its bytes in this form, and `line_core`
+//! Loads bytes as numbers, and shows numbers as the lanes of a vector. `Name` keeps its bytes in lanes, and `line_core`
 //! compares words as numbers.
 ghost use Rattle.std.specs.Prelude.{◌≡◌, ◌+◌, ◌*◌, ◌^◌, ◌<◌, ◌≤◌, length, get_or};
 ghost use Rattle.std.specs.Simd.Lanes.{chunk, digits_l, number_l};
-ghost use Rattle.point_core.specs.Name.{padded};
 
 use crate::name::NAME_BYTES;
 use std::simd::prelude::*;
@@ -17,38 +16,38 @@ const _: () = prove!(NUMBER_BYTES == 8);
 
 const HALF_BYTES: usize = 4;
 
-/// The bytes, and zeros after them.
+/// The most bytes that fit two numbers.
+pub(crate) const FEW_BYTES: usize = 2 * NUMBER_BYTES;
+
+/// The bytes as two numbers, least significant byte first.
 #[inline(always)]
-pub(crate) fn padded(bytes: &[u8]) -> u8x32
-    requires { length bytes.now ≤ LANES }
-    ensures { result ≡ padded bytes.now }
+pub(crate) fn two_numbers(bytes: &[u8]) -> (u64, u64)
+    requires { length bytes.now ≤ FEW_BYTES }
+    ensures { result.0 + 2 ^ 64 * result.1 ≡ number_l 256 bytes.now }
 {
     let length = bytes.len();
     if length <= NUMBER_BYTES {
-        two_words(number_of_few(bytes), 0)
-    } else if length <= 2 * NUMBER_BYTES {
-        let rest = word(bytes, length - NUMBER_BYTES) >> (8 * (2 * NUMBER_BYTES - length));
-        two_words(word(bytes, 0), rest)
+        (number_of_few(bytes), 0)
     } else {
-        padded_many(bytes)
+        let rest = word(bytes, length - NUMBER_BYTES) >> (8 * (FEW_BYTES - length));
+        (word(bytes, 0), rest)
     }
 }
 
-fn padded_many(bytes: &[u8]) -> u8x32
-    requires { length bytes.now ≤ LANES }
-    ensures { result ≡ padded bytes.now }
+/// The bytes of two numbers.
+#[inline(always)]
+pub(crate) fn two_words(first: u64, second: u64) -> u8x16
+    ensures { result ≡ digits_l 256 FEW_BYTES (first + 2 ^ 64 * second) }
 {
-    let mut lanes = [0; LANES];
-    lanes[..bytes.len()].copy_from_slice(bytes);
-    u8x32::from_array(lanes)
+    u64x2::from_array([first, second]).to_le_bytes()
 }
 
-/// The bytes of two numbers, and zeros after them.
+/// The bytes of four numbers.
 #[inline(always)]
-fn two_words(first: u64, second: u64) -> u8x32
-    ensures { result ≡ digits_l 256 LANES (first + 2 ^ 64 * second) }
+pub(crate) fn four_words(first: u64, second: u64, third: u64, fourth: u64) -> u8x32
+    ensures { result ≡ digits_l 256 LANES (first + 2 ^ 64 * (second + 2 ^ 64 * (third + 2 ^ 64 * fourth))) }
 {
-    u64x4::from_array([first, second, 0, 0]).to_le_bytes()
+    u64x4::from_array([first, second, third, fourth]).to_le_bytes()
 }
 
 /// The bytes as one number, least significant byte first.

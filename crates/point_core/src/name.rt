@@ -1,11 +1,11 @@
 //! `Name`: a valid name of a timeline, a file or a buffer, in one vector of 32 bytes, so that it is compared and hashed
 //! as a whole.
-ghost use Rattle.std.specs.Prelude.{◌≡◌, ◌≤◌, ◌-◌, ◌++◌, ◌↔◌, IsSome, IfSome, length, map, replicate, slice_set};
+ghost use Rattle.std.specs.Prelude.{◌≡◌, ◌≤◌, ◌+◌, ◌-◌, ◌*◌, ◌^◌, ◌++◌, ◌↔◌, true, IsSome, IfSome, length, map, replicate, slice_set};
 ghost use Rattle.std.specs.List.{list_all};
-ghost use Rattle.std.specs.Simd.Lanes.{mask_l};
+ghost use Rattle.std.specs.Simd.Lanes.{mask_l, number_l};
 ghost use Rattle.point_core.specs.Name.{IsName, is_name_byte, padded};
 
-use crate::lanes::padded;
+use crate::lanes::{FEW_BYTES, four_words, two_numbers, two_words};
 use std::hash::{Hash, Hasher};
 use std::marker::Model;
 use std::simd::prelude::*;
@@ -51,13 +51,47 @@ impl Name {
         if bytes.is_empty() || bytes.len() > NAME_BYTES {
             return None;
         }
-        let lanes = padded(bytes);
-        if !are_name_bytes(bytes, lanes) {
-            return None;
+        if bytes.len() <= FEW_BYTES {
+            Name::read_few(bytes)
+        } else {
+            Name::read_many(bytes)
         }
-        Some(Name {
+    }
+
+    /// As `read`: half of the lanes hold the bytes.
+    #[inline(always)]
+    fn read_few(bytes: &[u8]) -> Option<Name>
+        requires some { 1 ≤ length bytes.now }
+        requires most { length bytes.now ≤ FEW_BYTES }
+        ensures valid { IsSome result ↔ IsName bytes.now }
+        ensures value { IfSome result (λ name. name ≡ bytes.now) }
+    {
+        let (first, second) = allowed_numbers(bytes)?;
+        Some(Name::in_lanes(bytes, four_words(first, second, 0, 0)))
+    }
+
+    /// As `read`: one half of the lanes is full, and the other holds the rest of the bytes.
+    fn read_many(bytes: &[u8]) -> Option<Name>
+        requires least { FEW_BYTES ≤ length bytes.now }
+        requires most { length bytes.now ≤ NAME_BYTES }
+        ensures valid { IsSome result ↔ IsName bytes.now }
+        ensures value { IfSome result (λ name. name ≡ bytes.now) }
+    {
+        let (first, second) = allowed_numbers(&bytes[..FEW_BYTES])?;
+        let (third, fourth) = allowed_numbers(&bytes[FEW_BYTES..])?;
+        Some(Name::in_lanes(bytes, four_words(first, second, third, fourth)))
+    }
+
+    /// The name with these bytes, which the lanes hold.
+    #[inline(always)]
+    fn in_lanes(bytes: &[u8], lanes: u8x32) -> Name
+        requires name { IsName bytes.now }
+        requires lanes { lanes ≡ padded bytes.now }
+        ensures value { result ≡ bytes.now }
+    {
+        Name {
             lanes: with_length(lanes, bytes.len()),
-        })
+        }
     }
 
     /// Its bytes, padded with spaces for a column of a report.
@@ -101,26 +135,41 @@ fn with_length(lanes: u8x32, length: usize) -> u8x32
     u8x32::from_array(lanes)
 }
 
-/// Whether each of the bytes, which the lanes hold, is allowed.
+/// The bytes as two numbers, if each of the bytes is allowed. They are tested in 16 lanes: a test of 32 takes twice the
+/// instructions where a vector has 16 bytes, also if the upper lanes are known to be zero.
 #[inline(always)]
-fn are_name_bytes(bytes: &[u8], lanes: u8x32) -> bool
-    requires most { length bytes.now ≤ NAME_BYTES }
-    requires lanes { lanes ≡ padded bytes.now }
+fn allowed_numbers(bytes: &[u8]) -> Option<(u64, u64)>
+    requires { length bytes.now ≤ FEW_BYTES }
+    ensures allowed { IsSome result ↔ (list_all is_name_byte bytes.now ≡ true) }
+    ensures numbers { IfSome result (λ numbers. numbers.0 + 2 ^ 64 * numbers.1 ≡ number_l 256 bytes.now) }
+{
+    let (first, second) = two_numbers(bytes);
+    if !are_name_bytes(bytes, first, second) {
+        return None;
+    }
+    Some((first, second))
+}
+
+/// Whether each of the bytes, which are the two numbers, is allowed.
+#[inline(always)]
+fn are_name_bytes(bytes: &[u8], first: u64, second: u64) -> bool
+    requires most { length bytes.now ≤ FEW_BYTES }
+    requires numbers { first + 2 ^ 64 * second ≡ number_l 256 bytes.now }
     ensures { result ≡ list_all is_name_byte bytes.now }
 {
-    name_marks(lanes).trailing_ones() as usize >= bytes.len()
+    name_marks(two_words(first, second)).trailing_ones() as usize >= bytes.len()
 }
 
 /// One bit for each lane, set if the lane is an allowed byte.
 #[inline(always)]
-fn name_marks(lanes: u8x32) -> u64
+fn name_marks(lanes: u8x16) -> u64
     ensures { result ≡ mask_l (map is_name_byte lanes) }
 {
-    let lower_case = lanes | u8x32::splat(b'a' - b'A');
-    let is_letter = (lower_case - u8x32::splat(b'a')).simd_le(u8x32::splat(b'z' - b'a'));
-    let is_digit = (lanes - u8x32::splat(b'0')).simd_le(u8x32::splat(b'9' - b'0'));
-    let is_dash_or_dot = (lanes - u8x32::splat(b'-')).simd_le(u8x32::splat(b'.' - b'-'));
-    let is_underscore = lanes.simd_eq(u8x32::splat(b'_'));
+    let lower_case = lanes | u8x16::splat(b'a' - b'A');
+    let is_letter = (lower_case - u8x16::splat(b'a')).simd_le(u8x16::splat(b'z' - b'a'));
+    let is_digit = (lanes - u8x16::splat(b'0')).simd_le(u8x16::splat(b'9' - b'0'));
+    let is_dash_or_dot = (lanes - u8x16::splat(b'-')).simd_le(u8x16::splat(b'.' - b'-'));
+    let is_underscore = lanes.simd_eq(u8x16::splat(b'_'));
     (is_letter | is_digit | is_dash_or_dot | is_underscore).to_bitmask()
 }
 
