@@ -26,15 +26,7 @@ pub fn replace_file<R: Files + AllocGlobal>(rt: &R, name: &str, bytes: &[u8]) ->
     ensures written { OnOk result (WasGiven R.File.contents bytes.now) }
 {
     let path = fs::canonicalize(rt, name)?;
-    let mut beside = String::from_str(rt.alloc(), path.as_str())?;
-    beside.push_str(".new")?;
-    let file = File::create_new(rt, beside.as_str())?;
-    let replaced = replace(rt, path.as_str(), beside.as_str(), file, bytes);
-    if replaced.is_err() {
-        // The first error is reported, whether or not this succeeds.
-        let _ = fs::remove_file(rt, beside.as_str());
-    }
-    replaced
+    write_beside(rt, path.as_str(), Some(path.as_str()), bytes)
 }
 
 /// Replaces the contents of a file as `replace_file` does, or makes the file if the name is new.
@@ -43,51 +35,54 @@ pub fn put_file<R: Files + AllocGlobal>(rt: &R, name: &str, bytes: &[u8]) -> io:
 {
     match fs::metadata(rt, name) {
         Ok(_) => replace_file(rt, name, bytes),
-        Err(error) if error.kind() == io::ErrorKind::NotFound => make_file(rt, name, bytes),
+        Err(error) if error.kind() == io::ErrorKind::NotFound => {
+            write_beside(rt, name, None, bytes)
+        }
         Err(error) => Err(error),
     }
 }
 
-fn make_file<R: Files + AllocGlobal>(rt: &R, name: &str, bytes: &[u8]) -> io::Result<()>
+/// Writes a file beside that name, with the permissions of the old file if there is one, and renames it.
+fn write_beside<R: Files + AllocGlobal>(
+    rt: &R,
+    name: &str,
+    old: Option<&str>,
+    bytes: &[u8],
+) -> io::Result<()>
     ensures written { OnOk result (WasGiven R.File.contents bytes.now) }
 {
     let mut beside = String::from_str(rt.alloc(), name)?;
     beside.push_str(".new")?;
     let file = File::create_new(rt, beside.as_str())?;
-    let made = make(rt, name, beside.as_str(), file, bytes);
-    if made.is_err() {
+    let written = complete(rt, name, beside.as_str(), file, old, bytes);
+    if written.is_err() {
         // The first error is reported, whether or not this succeeds.
         let _ = fs::remove_file(rt, beside.as_str());
     }
-    made
+    written
 }
 
-fn make<R: Files>(
+/// Writes the whole file to the disk, and gives it its name.
+fn complete<R: Files>(
     rt: &R,
     name: &str,
     beside: &str,
     mut file: R::File,
+    old: Option<&str>,
     bytes: &[u8],
 ) -> io::Result<()>
     ensures written { OnOk result (WasGiven R.File.contents bytes.now) }
 {
+    keep_permissions(rt, old, &mut file)?;
     file.write_all(bytes)?;
     file.sync_all()?;
     fs::rename(rt, beside, name)
 }
 
-fn replace<R: Files>(
-    rt: &R,
-    path: &str,
-    beside: &str,
-    mut file: R::File,
-    bytes: &[u8],
-) -> io::Result<()>
-    ensures written { OnOk result (WasGiven R.File.contents bytes.now) }
-{
-    let permissions = fs::metadata(rt, path)?.permissions();
-    file.set_permissions(permissions)?;
-    file.write_all(bytes)?;
-    file.sync_all()?;
-    fs::rename(rt, beside, path)
+fn keep_permissions<R: Files>(rt: &R, old: Option<&str>, file: &mut R::File) -> io::Result<()> {
+    let Some(old) = old else {
+        return Ok(());
+    };
+    let permissions = fs::metadata(rt, old)?.permissions();
+    file.set_permissions(permissions)
 }
