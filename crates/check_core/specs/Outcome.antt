@@ -13,7 +13,7 @@ use Rattle.check_core.specs.declared.outcome.CheckOutcome.{CheckOutcome}
 use Rattle.check_core.specs.declared.outcome.CheckOutcome.TheVariants as outcome
 use Rattle.check_core.specs.declared.outcome.Verdict.{Verdict}
 use Rattle.check_core.specs.declared.outcome.Verdict.TheVariants.{Passed, Differs, Failed}
-use Rattle.check_core.specs.declared.scripts.Plan.{Plan}
+use Rattle.check_core.specs.declared.scripts.CheckOptions.{CheckOptions}
 use Rattle.check_core.specs.declared.tally.Tally.{Tally}
 
 abbrev pub is_failed : CheckOutcome → Bool
@@ -83,10 +83,10 @@ CameOfEach {N} opens names outcomes =
     → CameOf (opens name) o
 
 -- Each of the scripts has its outcome, and this is what came of all of them. A report with counts ends in their counts.
-pub record ComesOf {N : Type 0} (opens : N → Opens) (names : List N) (plan : Plan) (verdict : Verdict)
+pub record ComesOf {N : Type 0} (opens : N → Opens) (names : List N) (options : CheckOptions) (verdict : Verdict)
     (reported : Option (List ℕ)) : Type 0 where
   pub outcomes : List CheckOutcome
   pub count : length outcomes ≡ length names
   pub each : CameOfEach opens names outcomes
-  pub is : verdict ≡ verdict_of outcomes plan.allows_empty
-  pub counts : IsTrue (has_counts plan.form) → EndsInCounts (length names) (totals_of outcomes) reported
+  pub is : verdict ≡ verdict_of outcomes options.allows_empty
+  pub counts : IsTrue (has_counts options.form) → EndsInCounts (length names) (totals_of outcomes) reported

@@ -11,7 +11,7 @@ ghost use Rattle.check_core.specs.Tally.{HasRoom, IsBelow, CountsOne};
 
 use crate::expected::expected_text;
 use crate::finding::{Difference, Finding};
-use crate::form::Place;
+use crate::form::CheckPlace;
 use crate::reporting::report_difference;
 use crate::stage::Stage;
 use crate::tally::Tally;
@@ -27,7 +27,7 @@ use std::io::Write;
 #[derive(Drop)]
 pub(crate) struct Checker<'a> {
     alloc: Global,
-    place: Place<'a>,
+    place: CheckPlace<'a>,
     desk: Desk,
     pub(crate) tally: Tally,
     // the number of the last line that has an answer, and its bytes; 0 is before the first
@@ -42,7 +42,7 @@ pub(crate) struct Checker<'a> {
 impl<'a> Checker<'a> {
     ghost use Rattle.check_core.specs.Check.{IsFresh, differences_of, IsQuiet, Expects, IsAnswered, IsTaken, IsOpened, IsJudgedAt, IsEnded};
 
-    pub(crate) fn new(alloc: Global, place: &Place<'a>) -> Checker<'a>
+    pub(crate) fn new(alloc: Global, place: &CheckPlace<'a>) -> Checker<'a>
         ensures fresh { IsFresh result }
     {
         Checker {

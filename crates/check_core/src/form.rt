@@ -1,4 +1,4 @@
-//! `CheckForm`, the output format of a check, and `Place`, the script that is checked. `check` gets a place
+//! `CheckForm`, the output format of a check, and `CheckPlace`, the script that is checked. `check` gets a place
 //! from its caller.
 
 /// The output format of a check.
@@ -15,7 +15,7 @@ pub enum CheckForm {
 
 /// A script that is checked, and the form of its report.
 #[derive(Clone, Copy)]
-pub struct Place<'a> {
+pub struct CheckPlace<'a> {
     pub name: &'a str,
     pub form: CheckForm,
 }

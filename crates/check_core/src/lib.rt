@@ -24,10 +24,10 @@ mod tap;
 mod update;
 mod updates;
 
-pub use form::{CheckForm, Place};
+pub use form::{CheckForm, CheckPlace};
 pub use outcome::{CheckOutcome, Verdict};
 pub use reading::check;
-pub use scripts::{Plan, check_scripts};
+pub use scripts::{CheckOptions, check_scripts};
 pub use tally::Tally;
 pub use update::updated;
 pub use updates::update_scripts;

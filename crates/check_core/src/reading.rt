@@ -9,7 +9,7 @@ ghost use Rattle.line_core.specs.Reading.{ConsumesAtMost, IsInput, WasRead};
 ghost use Rattle.check_core.specs.Check.{ChecksScript, IsTooLong};
 
 use crate::checker::Checker;
-use crate::form::Place;
+use crate::form::CheckPlace;
 use crate::tally::Tally;
 use line_core::{Ending, SCRIPT_BYTES, for_each_line};
 use point_core::{LimitKind, Refusal};
@@ -26,7 +26,7 @@ use std::io::{Read, Write};
 /// failed, and with Memory if a growth was refused. Then the differences found so far are written.
 pub fn check<R: Read, W: Write>(
     alloc: Global,
-    place: &Place<'_>,
+    place: &CheckPlace<'_>,
     reader: &mut R,
     writer: &mut W,
 ) -> Result<Tally, Refusal>

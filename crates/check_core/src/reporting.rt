@@ -3,7 +3,7 @@ ghost use Rattle.std.specs.Prelude.{◌≡◌, ◌⊎◌, IfErr};
 ghost use Rattle.point_core.specs.declared.refusal.Refusal.TheVariants.{Write as WriteFault, Memory};
 
 use crate::finding::Difference;
-use crate::form::{CheckForm, Place};
+use crate::form::{CheckForm, CheckPlace};
 use crate::parts::{ReportPart, write_parts};
 use line_core::first_line;
 use point_core::Refusal;
@@ -13,7 +13,7 @@ use std::io::Write;
 /// Writes the first line of an answer that differs, by one write.
 pub(crate) fn report_difference<'a, W: Write>(
     alloc: Global,
-    place: &Place<'a>,
+    place: &CheckPlace<'a>,
     difference: &Difference<'a>,
     writer: &mut W,
 ) -> Result<(), Refusal>

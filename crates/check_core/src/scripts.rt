@@ -6,7 +6,7 @@ ghost use Rattle.source_core.specs.Source.{HasUnread};
 ghost use Rattle.check_core.specs.Outcome.{CameOf, CameOfEach, ComesOf, IsOutcome, is_passed};
 ghost use Rattle.check_core.specs.Tap.{TellsTest};
 
-use crate::form::{CheckForm, Place};
+use crate::form::{CheckForm, CheckPlace};
 use crate::list::push;
 use crate::outcome::{CheckOutcome, Verdict, verdict_of};
 use crate::reading::check;
@@ -21,33 +21,33 @@ use std::rt::Files;
 
 /// The options of a check.
 #[derive(Clone, Copy)]
-pub struct Plan {
+pub struct CheckOptions {
     pub form: CheckForm,
     /// Whether a script may expect nothing.
     pub allows_empty: bool,
 }
 
 /// Checks the scripts of these names, one after another; `-` is standard input. Results are written in the form of the
-/// plan: tests to `output`, all else to `errors`. The cause of a failed open or read is reported on standard error.
+/// options: tests to `output`, all else to `errors`. The cause of a failed open or read is reported on standard error.
 ///
 /// Fails with `Write` if a write failed, and with `Memory`.
 pub fn check_scripts<R: Files + Eprint + AllocGlobal, S: Read + Copy + Drop, O: Write, W: Write>(
     rt: &R,
-    plan: &Plan,
+    options: &CheckOptions,
     names: &[String],
     standard_input: S,
     output: &mut O,
     errors: &mut W,
 ) -> Result<Verdict, Refusal>
     ensures verdict { IfOk result (λ verdict. ComesOf (λ name. HasUnread R.File.remaining S.remaining
-        (file_named (Some (string_bytes name))) standard_input) names.now plan.now verdict (W.contents errors.new)) }
+        (file_named (Some (string_bytes name))) standard_input) names.now options.now verdict (W.contents errors.new)) }
     ensures refusals { IfErr result (λ refusal. (refusal ≡ WriteFault) ⊎ (refusal ≡ Memory)) }
 {
-    write_plan(rt.alloc(), plan.form, names.len(), output)?;
+    write_plan(rt.alloc(), options.form, names.len(), output)?;
     let mut outcomes = Vec::new(rt.alloc());
     check_each(
         rt,
-        plan,
+        options,
         names,
         standard_input,
         &mut outcomes,
@@ -55,14 +55,14 @@ pub fn check_scripts<R: Files + Eprint + AllocGlobal, S: Read + Copy + Drop, O: 
         errors,
     )?;
     let outcomes = outcomes.as_slice();
-    report_summary(rt.alloc(), plan, names, outcomes, errors)?;
-    Ok(verdict_of(outcomes, plan.allows_empty))
+    report_summary(rt.alloc(), options, names, outcomes, errors)?;
+    Ok(verdict_of(outcomes, options.allows_empty))
 }
 
 /// Checks each script, and appends its outcome.
 fn check_each<R: Files + Eprint + AllocGlobal, S: Read + Copy + Drop, O: Write, W: Write>(
     rt: &R,
-    plan: &Plan,
+    options: &CheckOptions,
     names: &[String],
     standard_input: S,
     outcomes: &mut Vec<CheckOutcome>,
@@ -78,7 +78,7 @@ fn check_each<R: Files + Eprint + AllocGlobal, S: Read + Copy + Drop, O: Write, 
     for (index, name) in names.iter().enumerate() {
         let outcome = check_script(
             rt,
-            plan,
+            options,
             index,
             name.as_str(),
             standard_input,
@@ -93,7 +93,7 @@ fn check_each<R: Files + Eprint + AllocGlobal, S: Read + Copy + Drop, O: Write, 
 /// Checks a script, which `before` others precede, and reports the result.
 fn check_script<R: Files + Eprint + AllocGlobal, S: Read + Drop, O: Write, W: Write>(
     rt: &R,
-    plan: &Plan,
+    options: &CheckOptions,
     before: usize,
     name: &str,
     standard_input: S,
@@ -104,8 +104,8 @@ fn check_script<R: Files + Eprint + AllocGlobal, S: Read + Drop, O: Write, W: Wr
         (file_named (Some name.now)) standard_input)) }
     ensures refusals { IfErr result (λ refusal. (refusal ≡ WriteFault) ⊎ (refusal ≡ Memory)) }
 {
-    let form = plan.form;
-    let place = Place { name, form };
+    let form = options.form;
+    let place = CheckPlace { name, form };
     match form {
         CheckForm::Tap(_) => {
             let mut differences = Vec::new(rt.alloc());
@@ -113,7 +113,7 @@ fn check_script<R: Files + Eprint + AllocGlobal, S: Read + Drop, O: Write, W: Wr
             let outcome = outcome_of(rt, &place, standard_input, &mut sink);
             report_test(
                 rt.alloc(),
-                plan,
+                options,
                 before,
                 name,
                 outcome,
@@ -130,7 +130,7 @@ fn check_script<R: Files + Eprint + AllocGlobal, S: Read + Drop, O: Write, W: Wr
 /// Reports the test of a script. Its differences were kept in memory, so a write of one failed only for want of it.
 fn report_test<'a, O: Write>(
     alloc: Global,
-    plan: &Plan,
+    options: &CheckOptions,
     before: usize,
     name: &'a str,
     outcome: Result<CheckOutcome, Refusal>,
@@ -138,7 +138,7 @@ fn report_test<'a, O: Write>(
     output: &mut O,
 ) -> Result<CheckOutcome, Refusal>
     ensures outcome { IfOk result (λ reported. outcome ≡ Ok reported) }
-    ensures told { IfOk result (λ reported. TellsTest (is_passed plan.now.allows_empty reported)
+    ensures told { IfOk result (λ reported. TellsTest (is_passed options.now.allows_empty reported)
         (O.contents output.old) (O.contents output.new)) }
     ensures refusals { IfErr result (λ refusal. (refusal ≡ WriteFault) ⊎ (refusal ≡ Memory)) }
 {
@@ -151,7 +151,7 @@ fn report_test<'a, O: Write>(
         outcome,
         differences,
     };
-    test.write(alloc, outcome.passes(plan.allows_empty), output)?;
+    test.write(alloc, outcome.passes(options.allows_empty), output)?;
     Ok(outcome)
 }
 
@@ -160,7 +160,7 @@ fn report_test<'a, O: Write>(
 /// Fails with `Write` and with `Memory`.
 fn outcome_of<R: Files + Eprint + AllocGlobal, S: Read + Drop, W: Write>(
     rt: &R,
-    place: &Place<'_>,
+    place: &CheckPlace<'_>,
     standard_input: S,
     sink: &mut Sink<'_, W>,
 ) -> Result<CheckOutcome, Refusal>
@@ -179,7 +179,7 @@ fn outcome_of<R: Files + Eprint + AllocGlobal, S: Read + Drop, W: Write>(
 /// Fails with `Write` and with `Memory`.
 fn outcome_of_reader<R: Read, W: Write>(
     alloc: Global,
-    place: &Place<'_>,
+    place: &CheckPlace<'_>,
     reader: &mut R,
     sink: &mut Sink<'_, W>,
 ) -> Result<CheckOutcome, Refusal>

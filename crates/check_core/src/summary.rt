@@ -8,7 +8,7 @@ ghost use Rattle.check_core.specs.Tally.{count_text, totals_text};
 use crate::form::CheckForm;
 use crate::outcome::CheckOutcome;
 use crate::parts::{ReportPart, write_parts};
-use crate::scripts::Plan;
+use crate::scripts::CheckOptions;
 use crate::tally::Tally;
 use itoa::Buffer;
 use point_core::Refusal;
@@ -19,20 +19,20 @@ use std::io::Write;
 /// Writes the end of a report in its form, and flushes: a line for each script that does not pass, the counts, or nothing.
 pub(crate) fn report_summary<W: Write>(
     alloc: Global,
-    plan: &Plan,
+    options: &CheckOptions,
     names: &[String],
     outcomes: &[CheckOutcome],
     writer: &mut W,
 ) -> Result<(), Refusal>
 
     // The counts come last, and are the sums of the counts of all scripts.
-    ensures counts { OnOk result (IsTrue (has_counts plan.now.form) → EndsInCounts
+    ensures counts { OnOk result (IsTrue (has_counts options.now.form) → EndsInCounts
         (length outcomes.now) (totals_of outcomes.now) (W.contents writer.new)) }
     ensures refusals { IfErr result (λ refusal. (refusal ≡ WriteFault) ⊎ (refusal ≡ Memory)) }
 {
-    match plan.form {
+    match options.form {
         CheckForm::Lines { .. } => {
-            report_scripts(alloc, names, outcomes, plan.allows_empty, writer)?;
+            report_scripts(alloc, names, outcomes, options.allows_empty, writer)?;
             report_totals(outcomes.len(), &totals_of(outcomes), writer)
         }
         CheckForm::Counts => report_totals(outcomes.len(), &totals_of(outcomes), writer),

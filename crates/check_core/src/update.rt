@@ -5,7 +5,7 @@ ghost use Rattle.check_core.specs.Kept.{kept};
 ghost use Rattle.check_core.specs.Update.{Passes};
 
 use crate::expected::expected_text;
-use crate::form::{CheckForm, Place};
+use crate::form::{CheckForm, CheckPlace};
 use crate::kept::compare_kept;
 use crate::reading::check;
 use crate::rewriter::Rewriter;
@@ -89,7 +89,7 @@ fn expects(script: &[u8]) -> bool {
 fn differences(alloc: Global, script: &[u8]) -> Result<u64, Refusal>
     ensures passes { IfOk result (λ differences. differences ≡ 0 → Passes script.now) }
 {
-    let place = Place {
+    let place = CheckPlace {
         name: "",
         form: CheckForm::Counts,
     };

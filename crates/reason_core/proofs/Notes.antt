@@ -9,7 +9,7 @@ use Rattle.report_core.specs.Bytes.{AppendsFront}
 use Rattle.script_core.specs.Answering.{AnswersState, HasAnswered}
 use Rattle.script_core.specs.Output.{Grows, WritesAnswers}
 use Rattle.script_core.proofs.Progress.{AppendsFront-all, AppendsFront-none, Progress-flushed}
-use Rattle.reason_core.specs.declared.look.Look.{Look}
+use Rattle.reason_core.specs.declared.look.NoteLook.{NoteLook}
 use Rattle.reason_core.specs.Notes.{IsNote, Notes, WritesNote, mark_of}
 
 pub AppendsFront-more : (old new : Option (List ℕ)) (bytes more : List ℕ) → AppendsFront old new bytes → AppendsFront old new (bytes ++ more)
@@ -43,12 +43,12 @@ Notes-none (Ok done) number contents = record { text = []; is = inl refl; writte
 Notes-none (Err e) number contents = record { text = []; is = inl refl; written = AppendsFront-none contents [] }
 
 -- the mark was written, and more
-pub Notes-marked : (ended : Result (Unit {0}) Refusal) (number : ℕ) (look : Look) (more : List ℕ) (old new : Option (List ℕ)) → Appends old new (mark_of look number ++ more) → Notes ended number old new
+pub Notes-marked : (ended : Result (Unit {0}) Refusal) (number : ℕ) (look : NoteLook) (more : List ℕ) (old new : Option (List ℕ)) → Appends old new (mark_of look number ++ more) → Notes ended number old new
 Notes-marked (Ok done) number look more old new written = record { text = mark_of look number ++ more; is = inr (look, more, refl); written = written }
 Notes-marked (Err e) number look more old new written = record { text = mark_of look number ++ more; is = inr (look, more, refl); written = AppendsFront-all old new (mark_of look number ++ more) written }
 
 -- a prefix of the mark was written
-pub Notes-cut : (e : Refusal) (number : ℕ) (look : Look) (old new : Option (List ℕ)) → AppendsFront old new (mark_of look number) → Notes (Err e) number old new
+pub Notes-cut : (e : Refusal) (number : ℕ) (look : NoteLook) (old new : Option (List ℕ)) → AppendsFront old new (mark_of look number) → Notes (Err e) number old new
 Notes-cut e number look old new written = record { text = mark_of look number; is = inr (look, [], sym (append-nil (mark_of look number))); written = written }
 
 -- one note on the line after another

@@ -3,25 +3,25 @@ use Rattle.std.specs.Prelude.{◌≡◌, ◌⊎◌, ℕ, List, [], ◌∷◌, �
 use Rattle.std.specs.Io.KnownBytes.{Appends}
 use Rattle.point_core.specs.declared.refusal.Refusal.{Refusal}
 use Rattle.report_core.specs.Bytes.{AppendsFront}
-use Rattle.reason_core.specs.declared.look.Look.{Look}
-use Rattle.reason_core.specs.declared.look.Look.TheVariants.{Plain, Bold}
+use Rattle.reason_core.specs.declared.look.NoteLook.{NoteLook}
+use Rattle.reason_core.specs.declared.look.NoteLook.TheVariants.{Plain, Bold}
 
 -- the bytes before the line's number, and after it
-abbrev pub before_number : Look → List ℕ
+abbrev pub before_number : NoteLook → List ℕ
 before_number Plain = codes "line "
 before_number Bold = 27 ∷ codes "[1mline "
 
-abbrev pub after_number : Look → List ℕ
+abbrev pub after_number : NoteLook → List ℕ
 after_number Plain = codes ": "
 after_number Bold = codes ":" ++ 27 ∷ codes "[0m "
 
 -- `line N: `, with which a note on line N begins
-abbrev pub mark_of : Look → ℕ → List ℕ
+abbrev pub mark_of : NoteLook → ℕ → List ℕ
 mark_of look number = before_number look ++ (decimal number ++ after_number look)
 
 -- nothing, or a text that begins with the line's mark
 abbrev pub IsNote : ℕ → List ℕ → Type 0
-IsNote number text = (text ≡ []) ⊎ ((look : Look) × (more : List ℕ) × (text ≡ mark_of look number ++ more))
+IsNote number text = (text ≡ []) ⊎ ((look : NoteLook) × (more : List ℕ) × (text ≡ mark_of look number ++ more))
 
 -- a note on the line was written, or a prefix of one
 pub record WritesNote (number : ℕ) (old new : Option (List ℕ)) : Type 0 where

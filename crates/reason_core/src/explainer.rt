@@ -10,7 +10,7 @@ ghost use Rattle.line_core.specs.Script.{answered};
 ghost use Rattle.line_core.specs.declared.line.Line.{Line};
 
 use crate::book::Book;
-use crate::look::{Look, Place};
+use crate::look::{NoteLook, NotePlace};
 use crate::refused::explain_command;
 use crate::syntax::explain_bad_line;
 use line_core::{Body, Ending, RawLine, body_of, last_body};
@@ -24,13 +24,13 @@ use std::io::Write;
 #[derive(Drop)]
 pub(crate) struct Explainer {
     alloc: Global,
-    look: Look,
+    look: NoteLook,
     book: Book,
 }
 
 impl Explainer {
     /// No line was explained yet.
-    pub(crate) fn new(alloc: Global, look: Look) -> Explainer {
+    pub(crate) fn new(alloc: Global, look: NoteLook) -> Explainer {
         Explainer {
             alloc,
             look,
@@ -96,7 +96,7 @@ impl Explainer {
         ensures noted { Notes result line.now.number (N.contents notes.old) (N.contents notes.new) }
         ensures refusals { IfErr result (λ refusal. (refusal ≡ WriteFault) ⊎ (refusal ≡ Memory)) }
     {
-        let place = Place {
+        let place = NotePlace {
             line: line.number,
             look: self.look,
         };

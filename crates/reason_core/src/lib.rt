@@ -15,7 +15,7 @@ mod refused;
 mod syntax;
 
 pub use book::Book;
-pub use look::{Look, Place};
+pub use look::{NoteLook, NotePlace};
 pub use reading::explain;
 pub use refused::explain_command;
 pub use syntax::explain_bad_line;

@@ -1,5 +1,5 @@
-//! `Look` and `Place`, the style and the line of an explanation, and `NotePart`, a part of it. `refused.rt` and `syntax.rt`
-//! write an explanation as a list of parts, by `note`.
+//! `NoteLook` and `NotePlace`, the style and the line of an explanation, and `NotePart`, a part of it. `refused.rt` and
+//! `syntax.rt` write an explanation as a list of parts, by `note`.
 ghost use Rattle.std.specs.Prelude.{◌≡◌, IfErr, OnErr, OnOk};
 ghost use Rattle.std.specs.Io.KnownBytes.{Appends};
 ghost use Rattle.point_core.specs.declared.refusal.Refusal.TheVariants.{Write as WriteFault};
@@ -15,7 +15,7 @@ use std::io::Write;
 
 /// The style of the line's number.
 #[derive(Clone, Copy)]
-pub enum Look {
+pub enum NoteLook {
     Plain,
     /// In bold, by the codes of a terminal.
     Bold,
@@ -23,9 +23,9 @@ pub enum Look {
 
 /// The line that is explained.
 #[derive(Clone, Copy)]
-pub struct Place {
+pub struct NotePlace {
     pub line: u32,
-    pub look: Look,
+    pub look: NoteLook,
 }
 
 /// A part of an explanation.
@@ -41,7 +41,7 @@ pub(crate) enum NotePart<'a> {
 
 /// Writes `line N: ` and the parts, and ends the line.
 pub(crate) fn note<N: Write>(
-    place: &Place,
+    place: &NotePlace,
     parts: &[NotePart<'_>],
     notes: &mut N,
 ) -> Result<(), Refusal>
@@ -54,7 +54,7 @@ pub(crate) fn note<N: Write>(
 }
 
 /// Writes `line N: `.
-fn begin<N: Write>(place: &Place, notes: &mut N) -> Result<(), Refusal>
+fn begin<N: Write>(place: &NotePlace, notes: &mut N) -> Result<(), Refusal>
     ensures ok { OnOk result
         (Appends (N.contents notes.old) (N.contents notes.new) (mark_of place.now.look place.now.line)) }
     ensures err { OnErr result
@@ -68,21 +68,21 @@ fn begin<N: Write>(place: &Place, notes: &mut N) -> Result<(), Refusal>
     Ok(())
 }
 
-fn before_number(look: Look) -> &'static [u8]
+fn before_number(look: NoteLook) -> &'static [u8]
     ensures bytes { result.now ≡ before_number look }
 {
     match look {
-        Look::Plain => b"line ",
-        Look::Bold => b"\x1b[1mline ",
+        NoteLook::Plain => b"line ",
+        NoteLook::Bold => b"\x1b[1mline ",
     }
 }
 
-fn after_number(look: Look) -> &'static [u8]
+fn after_number(look: NoteLook) -> &'static [u8]
     ensures bytes { result.now ≡ after_number look }
 {
     match look {
-        Look::Plain => b": ",
-        Look::Bold => b":\x1b[0m ",
+        NoteLook::Plain => b": ",
+        NoteLook::Bold => b":\x1b[0m ",
     }
 }
 

@@ -5,7 +5,7 @@ ghost use Rattle.script_core.specs.Run.{RunsScript};
 ghost use Rattle.reason_core.specs.Notes.{NotedIn};
 
 use crate::explainer::Explainer;
-use crate::look::Look;
+use crate::look::NoteLook;
 use point_core::Refusal;
 use script_core::{Totals, answer_script};
 use std::alloc::Global;
@@ -23,7 +23,7 @@ use std::io::{Read, Write};
 /// a prefix of the answers is written.
 pub fn explain<R: Read, W: Write, N: Write>(
     alloc: Global,
-    look: Look,
+    look: NoteLook,
     reader: &mut R,
     writer: &mut W,
     notes: &mut N,

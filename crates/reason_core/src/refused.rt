@@ -5,7 +5,7 @@ ghost use Rattle.point_core.specs.declared.refusal.Refusal.TheVariants.{Write as
 ghost use Rattle.reason_core.specs.Notes.{Notes};
 
 use crate::book::Book;
-use crate::look::{NotePart, Place, note};
+use crate::look::{NotePart, NotePlace, note};
 use crate::names::{is_there, word_of};
 use command_core::{Command, Space};
 use desk_core::Desk;
@@ -41,7 +41,7 @@ enum Reason {
 pub fn explain_command<N: Write>(
     desk: &Desk,
     book: &Book,
-    place: &Place,
+    place: &NotePlace,
     command: &Command,
     refusal: Refusal,
     notes: &mut N,
@@ -117,7 +117,11 @@ fn overflow(desk: &Desk, command: &Command) -> Reason {
     }
 }
 
-fn explain_reason<N: Write>(place: &Place, reason: &Reason, notes: &mut N) -> Result<(), Refusal>
+fn explain_reason<N: Write>(
+    place: &NotePlace,
+    reason: &Reason,
+    notes: &mut N,
+) -> Result<(), Refusal>
     ensures noted { Notes result place.now.line (N.contents notes.old) (N.contents notes.new) }
     ensures refusals { IfErr result (λ refusal. refusal ≡ WriteFault) }
 {
@@ -213,7 +217,7 @@ fn most_of(kind: LimitKind) -> u64 {
 /// Reports each point of the file that is not reached.
 fn explain_pending<N: Write>(
     desk: &Desk,
-    place: &Place,
+    place: &NotePlace,
     command: &Command,
     notes: &mut N,
 ) -> Result<(), Refusal>
@@ -231,7 +235,7 @@ fn explain_pending<N: Write>(
 
 fn explain_points<N: Write>(
     desk: &Desk,
-    place: &Place,
+    place: &NotePlace,
     file: &Name,
     points: &[Point],
     notes: &mut N,
@@ -248,7 +252,7 @@ fn explain_points<N: Write>(
 /// Reports how far a point is from being reached, and nothing of one that is, or is cancelled.
 fn explain_point<N: Write>(
     desk: &Desk,
-    place: &Place,
+    place: &NotePlace,
     file: &Name,
     point: &Point,
     notes: &mut N,
@@ -267,7 +271,7 @@ fn explain_point<N: Write>(
 }
 
 fn explain_wait<'a, N: Write>(
-    place: &Place,
+    place: &NotePlace,
     file: &'a Name,
     timeline: &'a Name,
     point: u64,

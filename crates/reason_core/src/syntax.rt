@@ -4,7 +4,7 @@ ghost use Rattle.std.specs.Prelude.{◌≡◌, ◌⊎◌, IfErr};
 ghost use Rattle.point_core.specs.declared.refusal.Refusal.TheVariants.{Write as WriteFault, Memory};
 ghost use Rattle.reason_core.specs.Notes.{Notes};
 
-use crate::look::{NotePart, Place, note};
+use crate::look::{NotePart, NotePlace, note};
 use crate::operands::{absence, mismatch};
 use line_core::{LINE_BYTES, Operand, RawLine, SCRIPT_BYTES, command_form, commands};
 use point_core::{LimitKind, Refusal};
@@ -21,7 +21,7 @@ const LETTERS: usize = 3;
 /// Fails with `Write` or `Memory`.
 pub fn explain_bad_line<N: Write>(
     alloc: Global,
-    place: &Place,
+    place: &NotePlace,
     line: &RawLine<'_>,
     fault: Refusal,
     notes: &mut N,
@@ -36,7 +36,11 @@ pub fn explain_bad_line<N: Write>(
     }
 }
 
-fn explain_long_line<N: Write>(place: &Place, length: usize, notes: &mut N) -> Result<(), Refusal>
+fn explain_long_line<N: Write>(
+    place: &NotePlace,
+    length: usize,
+    notes: &mut N,
+) -> Result<(), Refusal>
     ensures noted { Notes result place.now.line (N.contents notes.old) (N.contents notes.new) }
     ensures refusals { IfErr result (λ refusal. refusal ≡ WriteFault) }
 {
@@ -49,7 +53,7 @@ fn explain_long_line<N: Write>(place: &Place, length: usize, notes: &mut N) -> R
     note(place, &parts, notes)
 }
 
-fn explain_long_script<N: Write>(place: &Place, notes: &mut N) -> Result<(), Refusal>
+fn explain_long_script<N: Write>(place: &NotePlace, notes: &mut N) -> Result<(), Refusal>
     ensures noted { Notes result place.now.line (N.contents notes.old) (N.contents notes.new) }
     ensures refusals { IfErr result (λ refusal. refusal ≡ WriteFault) }
 {
@@ -65,7 +69,7 @@ fn explain_long_script<N: Write>(place: &Place, notes: &mut N) -> Result<(), Ref
 /// first word, if it is no command; else the first that does not match its operand, or that the number of words is wrong.
 fn explain_syntax<N: Write>(
     alloc: Global,
-    place: &Place,
+    place: &NotePlace,
     line: &[u8],
     notes: &mut N,
 ) -> Result<(), Refusal>
@@ -87,7 +91,7 @@ fn explain_syntax<N: Write>(
 
 /// Writes the word and the sentence on it.
 fn explain_word<N: Write>(
-    place: &Place,
+    place: &NotePlace,
     word: &[u8],
     reason: &'static str,
     notes: &mut N,
@@ -144,7 +148,7 @@ fn first_word(line: &[u8]) -> (&[u8], &[u8]) {
 
 fn explain_no_command<N: Write>(
     alloc: Global,
-    place: &Place,
+    place: &NotePlace,
     word: &[u8],
     notes: &mut N,
 ) -> Result<(), Refusal>

@@ -1,6 +1,6 @@
 //! Tests of `check` with scripts in pieces.
 use crate::pipes::{PIECES, sink_of, source_of};
-use check_core::{CheckForm, Place, check};
+use check_core::{CheckForm, CheckPlace, check};
 
 const SCRIPT: &[u8] = b"value b
 timeline a
@@ -16,7 +16,7 @@ const DIFFERENCES: &[u8] = b"s:2: timeline a: expected \"ok 2\", came \"ok 1\"
 s:7: info f: expected nothing more, came \"fence a sw_sync 5 0\"
 ";
 
-const PLACE: Place<'static> = Place {
+const PLACE: CheckPlace<'static> = CheckPlace {
     name: "s",
     form: CheckForm::Lines { bold: false },
 };

@@ -4,7 +4,7 @@ use crate::pipes::{sink_of, source_of};
 use command_core::Command;
 use desk_core::Desk;
 use point_core::Refusal;
-use reason_core::{Book, Look, Place, explain, explain_command};
+use reason_core::{Book, NoteLook, NotePlace, explain, explain_command};
 use std::alloc::Global;
 use std::process::Abort;
 
@@ -24,7 +24,7 @@ const NOTES_IN_BOLD: &[u8] = b"\x1b[1mline 1:\x1b[0m there is no timeline named 
 ";
 
 // All answers and notes are written, and the answers are flushed once.
-fn assert_explained(rt: &impl Abort, alloc: Global, look: Look, wanted: &[u8]) {
+fn assert_explained(rt: &impl Abort, alloc: Global, look: NoteLook, wanted: &[u8]) {
     let mut answers = sink_of(ANSWERS, 7, usize::MAX);
     let mut notes = sink_of(wanted, 7, usize::MAX);
     let mut reader = source_of(REFUSED, 7);
@@ -37,16 +37,16 @@ fn assert_explained(rt: &impl Abort, alloc: Global, look: Look, wanted: &[u8]) {
 
 #[test]
 fn numbers_in_bold(rt: HostRuntime) {
-    assert_explained(&rt, rt.alloc(), Look::Plain, NOTES);
-    assert_explained(&rt, rt.alloc(), Look::Bold, NOTES_IN_BOLD);
+    assert_explained(&rt, rt.alloc(), NoteLook::Plain, NOTES);
+    assert_explained(&rt, rt.alloc(), NoteLook::Bold, NOTES_IN_BOLD);
 }
 
 // The text for a command with this refusal.
 fn assert_reason(rt: &impl Abort, alloc: Global, desk: &Desk, refusal: Refusal, wanted: &[u8]) {
     let book = Book::new(alloc);
-    let place = Place {
+    let place = NotePlace {
         line: 3,
-        look: Look::Plain,
+        look: NoteLook::Plain,
     };
     let mut notes = sink_of(wanted, 7, usize::MAX);
     let command = Command::Report;
@@ -72,7 +72,7 @@ fn flushed_at_the_end(rt: HostRuntime) {
     let mut notes = sink_of(b"", 4096, 0);
     let result = explain(
         rt.alloc(),
-        Look::Plain,
+        NoteLook::Plain,
         &mut reader,
         &mut answers,
         &mut notes,
