@@ -29,6 +29,8 @@ enum Reason {
     Closed(Name, u32),
     /// The timeline's name, its value, and the increment that would overflow it.
     Overflow(Name, u64, u64),
+    /// The file waits for the timeline's point, and the timeline is at that value.
+    Waiting(Name, Name, u64, u64),
     /// The limit of that kind is reached.
     Limit(LimitKind),
     /// A fixed sentence.
@@ -137,6 +139,11 @@ fn explain_reason<N: Write>(
         Reason::Overflow(timeline, value, count) => {
             note(place, &parts_of_overflow(timeline, *value, *count), notes)
         }
+        Reason::Waiting(file, timeline, point, value) => note(
+            place,
+            &parts_of_waiting(file, timeline, *point, *value),
+            notes,
+        ),
         Reason::Limit(kind) => note(place, &parts_of_limit(*kind), notes),
         Reason::Text(text) => note(place, &[NotePart::Text(*text)], notes),
     }
@@ -193,6 +200,27 @@ fn parts_of_overflow(timeline: &Name, value: u64, count: u64) -> [NotePart<'_>; 
     ]
 }
 
+fn parts_of_waiting<'a>(
+    file: &'a Name,
+    timeline: &'a Name,
+    point: u64,
+    value: u64,
+) -> [NotePart<'a>; 11] {
+    [
+        NotePart::Text("file "),
+        NotePart::Bytes(file.as_bytes()),
+        NotePart::Text(" waits for point "),
+        NotePart::Number(point),
+        NotePart::Text(" of "),
+        NotePart::Bytes(timeline.as_bytes()),
+        NotePart::Text(", which is at "),
+        NotePart::Number(value),
+        NotePart::Text(": "),
+        NotePart::Number(point.saturating_sub(value)),
+        NotePart::Text(" to go"),
+    ]
+}
+
 fn parts_of_limit(kind: LimitKind) -> [NotePart<'static>; 4] {
     [
         NotePart::Text("limit reached: "),
@@ -244,55 +272,32 @@ fn explain_points<N: Write>(
     ensures refusals { IfErr result (λ refusal. refusal ≡ WriteFault) }
 {
     for point in points {
-        explain_point(desk, place, file, point, notes)?;
+        let waiting = waiting_for(desk, file, point);
+        explain_if(place, &waiting, notes)?;
     }
     Ok(())
 }
 
-/// Reports how far a point is from being reached, and nothing of one that is, or is cancelled.
-fn explain_point<N: Write>(
-    desk: &Desk,
-    place: &NotePlace,
-    file: &Name,
-    point: &Point,
-    notes: &mut N,
-) -> Result<(), Refusal>
-    ensures noted { Notes result place.now.line (N.contents notes.old) (N.contents notes.new) }
-    ensures refusals { IfErr result (λ refusal. refusal ≡ WriteFault) }
-{
-    let Some(timeline) = desk.timeline_name(point.ctx) else {
-        return Ok(());
-    };
+/// How far a point is from being reached, or nothing of one that is, or is cancelled.
+fn waiting_for(desk: &Desk, file: &Name, point: &Point) -> Option<Reason> {
+    let timeline = desk.timeline_name(point.ctx)?;
     if desk.point_status(*point).is_signalled() {
-        return Ok(());
+        return None;
     }
     let value = desk.timeline_value(&timeline).unwrap_or(0);
-    explain_wait(place, file, &timeline, point.value, value, notes)
+    Some(Reason::Waiting(*file, timeline, point.value, value))
 }
 
-fn explain_wait<'a, N: Write>(
+fn explain_if<N: Write>(
     place: &NotePlace,
-    file: &'a Name,
-    timeline: &'a Name,
-    point: u64,
-    value: u64,
+    reason: &Option<Reason>,
     notes: &mut N,
 ) -> Result<(), Refusal>
     ensures noted { Notes result place.now.line (N.contents notes.old) (N.contents notes.new) }
     ensures refusals { IfErr result (λ refusal. refusal ≡ WriteFault) }
 {
-    let parts = [
-        NotePart::Text("file "),
-        NotePart::Bytes(file.as_bytes()),
-        NotePart::Text(" waits for point "),
-        NotePart::Number(point),
-        NotePart::Text(" of "),
-        NotePart::Bytes(timeline.as_bytes()),
-        NotePart::Text(", which is at "),
-        NotePart::Number(value),
-        NotePart::Text(": "),
-        NotePart::Number(point.saturating_sub(value)),
-        NotePart::Text(" to go"),
-    ];
-    note(place, &parts, notes)
+    match reason {
+        Some(reason) => explain_reason(place, reason, notes),
+        None => Ok(()),
+    }
 }

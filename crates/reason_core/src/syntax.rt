@@ -23,88 +23,123 @@ pub fn explain_bad_line<N: Write>(
     alloc: Global,
     place: &NotePlace,
     line: &RawLine<'_>,
-    fault: Refusal,
+    refusal: Refusal,
     notes: &mut N,
 ) -> Result<(), Refusal>
     ensures noted { Notes result place.now.line (N.contents notes.old) (N.contents notes.new) }
     ensures refusals { IfErr result (λ refusal. (refusal ≡ WriteFault) ⊎ (refusal ≡ Memory)) }
 {
-    match fault {
-        Refusal::LongLine => explain_long_line(place, line.length, notes),
-        Refusal::Limit(LimitKind::Script) => explain_long_script(place, notes),
-        _ => explain_syntax(alloc, place, line.bytes, notes),
+    let fault = fault_of(alloc, line, refusal)?;
+    explain_fault(place, &fault, notes)
+}
+
+/// What is wrong with a line that is no command.
+#[derive(Clone, Copy)]
+enum Fault<'a> {
+    /// Its number of bytes.
+    LongLine(usize),
+    LongScript,
+    /// A word, and the sentence on it.
+    Word(&'a [u8], &'static str),
+    /// A first word that is no command, nor nearly one.
+    Unknown(&'a [u8]),
+    /// A first word that is no command, and the command that it may stand for.
+    Misspelled(&'a [u8], &'static str),
+}
+
+/// What is wrong, by the refusal that the line was answered with.
+fn fault_of<'a>(alloc: Global, line: &RawLine<'a>, refusal: Refusal) -> Result<Fault<'a>, Refusal>
+    ensures refusals { IfErr result (λ refusal. refusal ≡ Memory) }
+{
+    match refusal {
+        Refusal::LongLine => Ok(Fault::LongLine(line.length)),
+        Refusal::Limit(LimitKind::Script) => Ok(Fault::LongScript),
+        _ => word_fault(alloc, line.bytes),
     }
 }
 
-fn explain_long_line<N: Write>(
-    place: &NotePlace,
-    length: usize,
-    notes: &mut N,
-) -> Result<(), Refusal>
-    ensures noted { Notes result place.now.line (N.contents notes.old) (N.contents notes.new) }
-    ensures refusals { IfErr result (λ refusal. refusal ≡ WriteFault) }
-{
-    let parts = [
-        NotePart::Text("the line is "),
-        NotePart::Number(length as u64),
-        NotePart::Text(" bytes long; the limit is "),
-        NotePart::Number(LINE_BYTES as u64),
-    ];
-    note(place, &parts, notes)
-}
-
-fn explain_long_script<N: Write>(place: &NotePlace, notes: &mut N) -> Result<(), Refusal>
-    ensures noted { Notes result place.now.line (N.contents notes.old) (N.contents notes.new) }
-    ensures refusals { IfErr result (λ refusal. refusal ≡ WriteFault) }
-{
-    let parts = [
-        NotePart::Text("the script is longer than the limit of "),
-        NotePart::Number(SCRIPT_BYTES as u64),
-        NotePart::Text(" bytes"),
-    ];
-    note(place, &parts, notes)
-}
-
-/// Reports which word of a line that is no command is at fault: the first that has a byte no word of a command has; else the
-/// first word, if it is no command; else the first that does not match its operand, or that the number of words is wrong.
-fn explain_syntax<N: Write>(
-    alloc: Global,
-    place: &NotePlace,
-    line: &[u8],
-    notes: &mut N,
-) -> Result<(), Refusal>
-    ensures noted { Notes result place.now.line (N.contents notes.old) (N.contents notes.new) }
-    ensures refusals { IfErr result (λ refusal. (refusal ≡ WriteFault) ⊎ (refusal ≡ Memory)) }
+/// The word of a line that is at fault: the first that has a byte no word of a command has; else the first word, if it is no
+/// command; else the first that does not match its operand, or that the number of words is wrong.
+fn word_fault<'a>(alloc: Global, line: &'a [u8]) -> Result<Fault<'a>, Refusal>
+    ensures refusals { IfErr result (λ refusal. refusal ≡ Memory) }
 {
     if let Some((word, reason)) = strange_word(line) {
-        return explain_word(place, word, reason, notes);
+        return Ok(Fault::Word(word, reason));
     }
     let (word, rest) = first_word(line);
     match command_form(word) {
         Some(form) => {
             let (word, reason) = wrong_word(word, form.operands, rest);
-            explain_word(place, word, reason, notes)
+            Ok(Fault::Word(word, reason))
         }
-        None => explain_no_command(alloc, place, word, notes),
+        None => command_fault(alloc, word),
     }
 }
 
-/// Writes the word and the sentence on it.
-fn explain_word<N: Write>(
+fn command_fault<'a>(alloc: Global, word: &'a [u8]) -> Result<Fault<'a>, Refusal>
+    ensures refusals { IfErr result (λ refusal. refusal ≡ Memory) }
+{
+    match nearest(alloc, word)? {
+        Some(command) => Ok(Fault::Misspelled(word, command)),
+        None => Ok(Fault::Unknown(word)),
+    }
+}
+
+fn explain_fault<N: Write>(
     place: &NotePlace,
-    word: &[u8],
-    reason: &'static str,
+    fault: &Fault<'_>,
     notes: &mut N,
 ) -> Result<(), Refusal>
     ensures noted { Notes result place.now.line (N.contents notes.old) (N.contents notes.new) }
     ensures refusals { IfErr result (λ refusal. refusal ≡ WriteFault) }
 {
-    let parts = [
+    match fault {
+        Fault::LongLine(length) => note(place, &parts_of_long_line(*length), notes),
+        Fault::LongScript => note(place, &parts_of_long_script(), notes),
+        Fault::Word(word, reason) => note(place, &parts_of_word(word, *reason), notes),
+        Fault::Unknown(word) => note(place, &parts_of_unknown(word), notes),
+        Fault::Misspelled(word, command) => {
+            note(place, &parts_of_misspelled(word, *command), notes)
+        }
+    }
+}
+
+fn parts_of_long_line(length: usize) -> [NotePart<'static>; 4] {
+    [
+        NotePart::Text("the line is "),
+        NotePart::Number(length as u64),
+        NotePart::Text(" bytes long; the limit is "),
+        NotePart::Number(LINE_BYTES as u64),
+    ]
+}
+
+fn parts_of_long_script() -> [NotePart<'static>; 3] {
+    [
+        NotePart::Text("the script is longer than the limit of "),
+        NotePart::Number(SCRIPT_BYTES as u64),
+        NotePart::Text(" bytes"),
+    ]
+}
+
+fn parts_of_word<'a>(word: &'a [u8], reason: &'static str) -> [NotePart<'a>; 3] {
+    [
         NotePart::Quoted(word),
         NotePart::Text(": "),
         NotePart::Text(reason),
-    ];
-    note(place, &parts, notes)
+    ]
+}
+
+fn parts_of_unknown(word: &[u8]) -> [NotePart<'_>; 2] {
+    [NotePart::Quoted(word), NotePart::Text(": unknown command")]
+}
+
+fn parts_of_misspelled<'a>(word: &'a [u8], command: &'static str) -> [NotePart<'a>; 4] {
+    [
+        NotePart::Quoted(word),
+        NotePart::Text(": unknown command; did you mean \""),
+        NotePart::Text(command),
+        NotePart::Text("\"?"),
+    ]
 }
 
 /// The first word with a byte that no word may have, and the sentence on it.
@@ -144,33 +179,6 @@ fn first_word(line: &[u8]) -> (&[u8], &[u8]) {
         .position(|byte| *byte == b' ')
         .unwrap_or(bytes.len());
     bytes.split_at(end)
-}
-
-fn explain_no_command<N: Write>(
-    alloc: Global,
-    place: &NotePlace,
-    word: &[u8],
-    notes: &mut N,
-) -> Result<(), Refusal>
-    ensures noted { Notes result place.now.line (N.contents notes.old) (N.contents notes.new) }
-    ensures refusals { IfErr result (λ refusal. (refusal ≡ WriteFault) ⊎ (refusal ≡ Memory)) }
-{
-    match nearest(alloc, word)? {
-        Some(command) => {
-            let parts = [
-                NotePart::Quoted(word),
-                NotePart::Text(": unknown command; did you mean \""),
-                NotePart::Text(command),
-                NotePart::Text("\"?"),
-            ];
-            note(place, &parts, notes)
-        }
-        None => note(
-            place,
-            &[NotePart::Quoted(word), NotePart::Text(": unknown command")],
-            notes,
-        ),
-    }
 }
 
 /// The command that differs in the fewest letters, if these are few; two letters that are swapped count as one.

@@ -1,5 +1,0 @@
-use Rattle.reason_core.proofs.Notes.{Notes-none}
-use Rattle.reason_core.proofs.syntax.explain_no_command.Goals as goal
-
-pub returns-in_err-command-clause-noted : goal.returns-in_err-command-clause-noted
-returns-in_err-command-clause-noted g c = Notes-none _ c.args.place.now.line (g.N.Write.contents c.args.notes.now)
