@@ -2,9 +2,9 @@
 use Rattle.std.proofs.Common.{◌≡◌, ℕ, List, subst}
 use Rattle.check_core.specs.Check.{ChecksScript}
 use Rattle.check_core.specs.Update.{Passes}
-use Rattle.check_core.specs.declared.tally.Tally.{Tally}
+use Rattle.check_core.specs.declared.tally.CheckTally.{CheckTally}
 
-pub passes : (input script : List ℕ) (tally : Tally) → script ≡ input → ChecksScript script tally → tally.differing ≡ 0 → Passes input
+pub passes : (input script : List ℕ) (tally : CheckTally) → script ≡ input → ChecksScript script tally → tally.differing ≡ 0 → Passes input
 passes input script tally is checks none = record {
   tally = tally;
   checks = subst (λ s. ChecksScript s tally) is checks;

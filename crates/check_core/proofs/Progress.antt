@@ -25,7 +25,7 @@ use Rattle.line_core.proofs.EndedLines.{body_of-cut}
 use Rattle.line_core.proofs.Inputs.{input_from}
 use Rattle.script_core.proofs.Progress.{AreLineAnswers-push, history_along-push, length-answers}
 use Rattle.check_core.specs.declared.checker.Checker.{Checker}
-use Rattle.check_core.specs.declared.tally.Tally.{Tally}
+use Rattle.check_core.specs.declared.tally.CheckTally.{CheckTally}
 use Rattle.check_core.specs.Checked.{HasChecked, asked_among, asked_of, differing_among, differing_of, expected_at}
 use Rattle.check_core.specs.Expected.{expected_text, expected_after, expected_of, is_asked, differs}
 use Rattle.check_core.specs.Check.{asked_count, differing_count, ChecksScript, IsJudged, IsFresh, IsTooLong, Expects, IsJudgedAt, IsAnswered, IsTaken, IsEnded}
@@ -252,7 +252,7 @@ not-whole end (inl e) whole = cc
 not-whole end (inr e) whole = cc
 
 -- the bytes that were read are the script
-pub checks-bytes : (bytes : List ℕ) (lines broken : List (List ℕ)) (done : List Line) (tally : Tally) → length bytes ≤ SCRIPT_BYTES → done ≡ lines_until ending.Whole (take SCRIPT_BYTES bytes) → lines_of (take SCRIPT_BYTES bytes) ≡ lines ++ broken → broken ≡ []
+pub checks-bytes : (bytes : List ℕ) (lines broken : List (List ℕ)) (done : List Line) (tally : CheckTally) → length bytes ≤ SCRIPT_BYTES → done ≡ lines_until ending.Whole (take SCRIPT_BYTES bytes) → lines_of (take SCRIPT_BYTES bytes) ≡ lines ++ broken → broken ≡ []
     → ((script : List ℕ) → lines_of script ≡ lines → script_of script ≡ done → ChecksScript script tally) → ChecksScript bytes tally
 checks-bytes bytes lines broken done tally short is split none checks =
     let all : take SCRIPT_BYTES bytes ≡ bytes = take_all SCRIPT_BYTES bytes short in
@@ -262,7 +262,7 @@ checks-bytes bytes lines broken done tally short is split none checks =
     (ap (λ end. lines_until end (take SCRIPT_BYTES bytes)) ends ∙ sym is)
 
 -- and the reader had no more
-pub checks-input : (before after : Option (List ℕ)) (bytes : List ℕ) (tally : Tally) → WasRead before after bytes ending.Whole → ChecksScript bytes tally → (script : List ℕ) × IsInput before script × ChecksScript script tally
+pub checks-input : (before after : Option (List ℕ)) (bytes : List ℕ) (tally : CheckTally) → WasRead before after bytes ending.Whole → ChecksScript bytes tally → (script : List ℕ) × IsInput before script × ChecksScript script tally
 checks-input before after bytes tally read checks =
     let input = input_from before after bytes read.consumed in
     let same : bytes ≡ input.0 = sym (input.1.whole ∙ ap (λ more. bytes ++ more) (input.1.end read.ends.1) ∙ append-nil bytes) in

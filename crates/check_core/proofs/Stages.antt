@@ -3,14 +3,14 @@ use Rattle.std.proofs.Common.{◌≡◌, ◌≢◌, ℕ, ◌-◌, ◌<◌, ◌�
 use Rattle.std.proofs.Math.Seq.{drop-append_seam}
 use Rattle.std.proofs.Math.ListN.{drop_of_length-le}
 use Rattle.std.proofs.lemmas.List.{length-drop}
-use Rattle.check_core.specs.declared.stage.Stage.{Stage}
-use Rattle.check_core.specs.declared.stage.Stage.TheVariants.{Unasked, Came, Differs}
+use Rattle.check_core.specs.declared.stage.MatchStage.{MatchStage}
+use Rattle.check_core.specs.declared.stage.MatchStage.TheVariants.{Unasked, Came, Differs}
 use Rattle.check_core.specs.Expected.{ended, output_of_lines, is_asked, differs}
 use Rattle.check_core.specs.Stage.{left_of, HasCome, IsAt}
 use Rattle.check_core.proofs.Comparing.{came-push, is_asked-middle, other-differs, all-differs, more-differs}
 
 -- what is left of the text stands behind the expected lines
-left-behind : (stage : Stage) (expected : List (List ℕ)) (text left : List ℕ) → IsAt stage expected text → left_of stage text ≡ Some left → text ≡ output_of_lines expected ++ left
+left-behind : (stage : MatchStage) (expected : List (List ℕ)) (text left : List ℕ) → IsAt stage expected text → left_of stage text ≡ Some left → text ≡ output_of_lines expected ++ left
 left-behind Unasked expected text left at is =
     let same : text ≡ left = cc in
     same ∙ ap (λ lines. output_of_lines lines ++ left) (sym at)
@@ -25,7 +25,7 @@ drop-behind front rest text e =
     ap (λ n. drop n text) place ∙ ap (λ xs. drop (length front) xs) e ∙ drop-append_seam front rest
 
 -- the next expected line came
-pub stage-came : (stage : Stage) (expected : List (List ℕ)) (text left line rest : List ℕ) → IsAt stage expected text → left_of stage text ≡ Some left → left ≡ ended line ++ rest → HasCome (length text - length rest) (expected ++ line ∷ []) text
+pub stage-came : (stage : MatchStage) (expected : List (List ℕ)) (text left line rest : List ℕ) → IsAt stage expected text → left_of stage text ≡ Some left → left ≡ ended line ++ rest → HasCome (length text - length rest) (expected ++ line ∷ []) text
 stage-came stage expected text left line rest at is next =
     let whole = came-push text left rest line expected (left-behind stage expected text left at is) next in
     record {
@@ -34,12 +34,12 @@ stage-came stage expected text left line rest at is next =
     }
 
 -- another line came
-pub stage-other : (stage : Stage) (expected : List (List ℕ)) (text left line : List ℕ) → IsAt stage expected text → left_of stage text ≡ Some left → ((rest : List ℕ) → left ≢ ended line ++ rest) → IsAt Differs (expected ++ line ∷ []) text
+pub stage-other : (stage : MatchStage) (expected : List (List ℕ)) (text left line : List ℕ) → IsAt stage expected text → left_of stage text ≡ Some left → ((rest : List ℕ) → left ≢ ended line ++ rest) → IsAt Differs (expected ++ line ∷ []) text
 stage-other stage expected text left line at is other more =
     sym (other-differs text left line (expected ++ line ∷ [] ++ more) expected more (append_assoc expected (line ∷ []) more) (left-behind stage expected text left at is) other)
 
 -- what differs differs with any more expected lines
-pub stage-differs : (stage : Stage) (expected : List (List ℕ)) (text line : List ℕ) → IsAt stage expected text → left_of stage text ≡ None → IsAt Differs (expected ++ line ∷ []) text
+pub stage-differs : (stage : MatchStage) (expected : List (List ℕ)) (text line : List ℕ) → IsAt stage expected text → left_of stage text ≡ None → IsAt Differs (expected ++ line ∷ []) text
 stage-differs Unasked expected text line at is more = absurd (cc)
 stage-differs (Came place) expected text line at is more = absurd (cc)
 stage-differs Differs expected text line at is more = ap (λ lines. differs lines text) (append_assoc expected (line ∷ []) more) ∙ at (line ∷ more)

@@ -10,8 +10,8 @@ use Rattle.script_core.specs.Output.{AreLineAnswers}
 use Rattle.line_core.specs.Script.{script_of}
 use Rattle.report_core.specs.Answer.{text_of}
 use Rattle.check_core.specs.declared.checker.Checker.{Checker}
-use Rattle.check_core.specs.declared.stage.Stage.TheVariants.{Unasked}
-use Rattle.check_core.specs.declared.tally.Tally.{Tally}
+use Rattle.check_core.specs.declared.stage.MatchStage.TheVariants.{Unasked}
+use Rattle.check_core.specs.declared.tally.CheckTally.{CheckTally}
 use Rattle.check_core.specs.Answering.{AnswersInto}
 use Rattle.check_core.specs.Expected.{expected_of, IsAsExpected, is_asked, differs}
 use Rattle.check_core.specs.Stage.{is_different, IsAt}
@@ -42,7 +42,7 @@ differing_count script (l ∷ ls) (a ∷ rest) =
 
 -- The script was checked: each of its lines has its answer, and of these were counted how many there are, of how many lines
 -- are expected, and of how many other lines came. None of them differs exactly if each expected line is the one that came.
-pub record ChecksScript (script : List ℕ) (tally : Tally) : Type 0 where
+pub record ChecksScript (script : List ℕ) (tally : CheckTally) : Type 0 where
   pub given : List Answer
   pub each : AreLineAnswers [] (script_of script) given
   pub lines : tally.lines ≡ length given
@@ -58,7 +58,7 @@ pub record IsTooLong (old new : Option (List ℕ)) : Type 0 where
   pub long : SCRIPT_BYTES < length bytes
 
 -- one text was compared
-pub record IsJudged (tally tally' : Tally) (expected : List (List ℕ)) (text : List ℕ) : Type 0 where
+pub record IsJudged (tally tally' : CheckTally) (expected : List (List ℕ)) (text : List ℕ) : Type 0 where
   pub lines : tally'.lines ≡ tally.lines
   pub checked : tally'.checked ≡ tally.checked + one_if (is_asked expected)
   pub differing : tally'.differing ≡ tally.differing + one_if (differs expected text)

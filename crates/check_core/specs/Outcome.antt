@@ -14,7 +14,7 @@ use Rattle.check_core.specs.declared.outcome.CheckOutcome.TheVariants as outcome
 use Rattle.check_core.specs.declared.outcome.Verdict.{Verdict}
 use Rattle.check_core.specs.declared.outcome.Verdict.TheVariants.{Passed, Differs, Failed}
 use Rattle.check_core.specs.declared.scripts.CheckOptions.{CheckOptions}
-use Rattle.check_core.specs.declared.tally.Tally.{Tally}
+use Rattle.check_core.specs.declared.tally.CheckTally.{CheckTally}
 
 abbrev pub is_failed : CheckOutcome → Bool
 is_failed (outcome.Checked tally) = false
@@ -30,12 +30,12 @@ abbrev pub is_passed : Bool → CheckOutcome → Bool
 is_passed allows_empty o = not (is_failed o) && not (is_wrong allows_empty o)
 
 -- the counts of a script, which are 0 if it was not checked to its end
-abbrev pub tally_of : CheckOutcome → Tally
+abbrev pub tally_of : CheckOutcome → CheckTally
 tally_of (outcome.Checked tally) = tally
 tally_of (outcome.Failed refusal) = no_counts
 
 -- the counts of all of them together
-abbrev pub totals_of : List CheckOutcome → Tally
+abbrev pub totals_of : List CheckOutcome → CheckTally
 totals_of [] = no_counts
 totals_of (o ∷ os) = with_counts (tally_of o) (totals_of os)
 
@@ -46,7 +46,7 @@ has_counts Counts = true
 has_counts (Tap version) = false
 
 -- the line of counts was written last
-abbrev pub EndsInCounts : ℕ → Tally → Option (List ℕ) → Type 0
+abbrev pub EndsInCounts : ℕ → CheckTally → Option (List ℕ) → Type 0
 EndsInCounts files tally new = (before : Option (List ℕ)) × Appends before new (totals_text files tally)
 
 abbrev pub is_none : List CheckOutcome → Bool

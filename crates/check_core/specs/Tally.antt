@@ -1,34 +1,34 @@
 -- How many answers of a script were as expected.
 use Rattle.std.specs.Prelude.{◌≡◌, ℕ, ◌+◌, ◌-◌, ◌^◌, ◌<◌, ◌≤◌, min, Bool, if◌then◌else◌, List, ◌++◌, codes, decimal}
-use Rattle.check_core.specs.declared.tally.Tally.{Tally}
+use Rattle.check_core.specs.declared.tally.CheckTally.{CheckTally}
 
 -- what a line adds to a count
 abbrev pub one_if : Bool → ℕ
 one_if counted = if counted then 1 else 0
 
-pub record IsEmpty (tally : Tally) : Type 0 where
+pub record IsEmpty (tally : CheckTally) : Type 0 where
   pub lines : tally.lines ≡ 0
   pub checked : tally.checked ≡ 0
   pub differing : tally.differing ≡ 0
 
 -- one more finding can be counted
-pub record HasRoom (tally : Tally) : Type 0 where
+pub record HasRoom (tally : CheckTally) : Type 0 where
   pub checked : tally.checked + 1 < 2 ^ 64
   pub differing : tally.differing + 1 < 2 ^ 64
 
 -- each count is below that number
-pub record IsBelow (tally : Tally) (number : ℕ) : Type 0 where
+pub record IsBelow (tally : CheckTally) (number : ℕ) : Type 0 where
   pub lines : tally.lines < number
   pub checked : tally.checked < number
   pub differing : tally.differing < number
 
 -- at most one finding more is counted
-pub record CountsOne (tally tally' : Tally) : Type 0 where
+pub record CountsOne (tally tally' : CheckTally) : Type 0 where
   pub lines : tally'.lines ≡ tally.lines
   pub checked : tally'.checked ≤ tally.checked + 1
   pub differing : tally'.differing ≤ tally.differing + 1
 
-abbrev pub no_counts : Tally
+abbrev pub no_counts : CheckTally
 no_counts = record { lines = 0; checked = 0; differing = 0 }
 
 -- a sum that stays at the greatest number
@@ -36,7 +36,7 @@ abbrev pub sum_of : ℕ → ℕ → ℕ
 sum_of a b = min (a + b) (2 ^ 64 - 1)
 
 -- the counts of both together
-abbrev pub with_counts : Tally → Tally → Tally
+abbrev pub with_counts : CheckTally → CheckTally → CheckTally
 with_counts t u = record {
   lines = sum_of t.lines u.lines;
   checked = sum_of t.checked u.checked;
@@ -48,7 +48,7 @@ abbrev pub count_text : List ℕ → ℕ → List ℕ
 count_text words count = words ++ decimal count
 
 -- the line of counts
-abbrev pub totals_text : ℕ → Tally → List ℕ
+abbrev pub totals_text : ℕ → CheckTally → List ℕ
 totals_text files tally =
     count_text (codes "files: ") files
     ++ count_text (codes ", answers: ") tally.lines

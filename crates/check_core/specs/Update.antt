@@ -9,13 +9,13 @@ use Rattle.check_core.specs.Check.{ChecksScript}
 use Rattle.check_core.specs.Kept.{kept}
 use Rattle.check_core.specs.declared.outcome.Verdict.{Verdict}
 use Rattle.check_core.specs.declared.outcome.Verdict.TheVariants as verdict
-use Rattle.check_core.specs.declared.tally.Tally.{Tally}
+use Rattle.check_core.specs.declared.tally.CheckTally.{CheckTally}
 use Rattle.check_core.specs.declared.updates.Update.{Update}
 use Rattle.check_core.specs.declared.updates.Update.TheVariants.{Same, Written, Failed}
 
 -- its answers are counted so, and none differs
 pub record Passes (script : List ℕ) : Type 0 where
-  pub tally : Tally
+  pub tally : CheckTally
   pub checks : ChecksScript script tally
   pub none : tally.differing ≡ 0
 

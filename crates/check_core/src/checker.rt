@@ -10,11 +10,11 @@ ghost use Rattle.check_core.specs.Answering.{AnswersInto};
 ghost use Rattle.check_core.specs.Tally.{HasRoom, IsBelow, CountsOne};
 
 use crate::expected::expected_text;
-use crate::finding::{Difference, Finding};
+use crate::finding::{CheckFinding, Difference};
 use crate::form::CheckPlace;
 use crate::reporting::report_difference;
-use crate::stage::Stage;
-use crate::tally::Tally;
+use crate::stage::MatchStage;
+use crate::tally::CheckTally;
 use desk_core::Desk;
 use line_core::{Body, Ending, LineHandler, RawLine, body_of};
 use point_core::Refusal;
@@ -29,13 +29,13 @@ pub(crate) struct Checker<'a> {
     alloc: Global,
     place: CheckPlace<'a>,
     desk: Desk,
-    pub(crate) tally: Tally,
+    pub(crate) tally: CheckTally,
     // the number of the last line that has an answer, and its bytes; 0 is before the first
     number: u32,
     bytes: Vec<u8>,
     // its answer, and how much of it the expected lines have matched
     text: Vec<u8>,
-    stage: Stage,
+    stage: MatchStage,
     ghost within: { place_of stage ≤ length text.items },
 }
 
@@ -49,11 +49,11 @@ impl<'a> Checker<'a> {
             alloc,
             place: *place,
             desk: Desk::new(alloc).unwrap(),
-            tally: Tally::new(),
+            tally: CheckTally::new(),
             number: 0,
             bytes: Vec::new(alloc),
             text: Vec::new(alloc),
-            stage: Stage::Unasked,
+            stage: MatchStage::Unasked,
         }
     }
 
@@ -120,7 +120,7 @@ impl<'a> Checker<'a> {
         self.number = number;
         self.bytes.clear();
         self.bytes.extend_from_slice(bytes)?;
-        self.stage = Stage::Unasked;
+        self.stage = MatchStage::Unasked;
         answer_into(&mut self.desk, number, body, &mut self.text)?;
         self.tally.lines += 1;
         Ok(())
@@ -149,8 +149,8 @@ impl<'a> Checker<'a> {
         let before = self.stage;
         self.stage = before.with(&self.text, line);
         match self.stage {
-            Stage::Differs => self.report(before, Some(line), writer),
-            Stage::Unasked | Stage::Came(_) => Ok(()),
+            MatchStage::Differs => self.report(before, Some(line), writer),
+            MatchStage::Unasked | MatchStage::Came(_) => Ok(()),
         }
     }
 
@@ -166,15 +166,15 @@ impl<'a> Checker<'a> {
         let finding = self.stage.finding(&self.text);
         self.tally.count(finding);
         match finding {
-            Finding::Differs => self.report(self.stage, None, writer),
-            Finding::Unasked | Finding::AsExpected => Ok(()),
+            CheckFinding::Differs => self.report(self.stage, None, writer),
+            CheckFinding::Unasked | CheckFinding::AsExpected => Ok(()),
         }
     }
 
     /// Reports the answer's first line that differs from the expected one, unless `stage` says that one was reported.
     fn report<W: Write>(
         &self,
-        stage: Stage,
+        stage: MatchStage,
         expected: Option<&[u8]>,
         writer: &mut W,
     ) -> Result<(), Refusal>

@@ -1,8 +1,8 @@
-//! `Finding`, the result for one answer, and `Difference`, an answer's first line that differs, for the report.
+//! `CheckFinding`, the result for one answer, and `Difference`, an answer's first line that differs, for the report.
 
 /// The result of comparing an answer with all lines that are expected of it.
 #[derive(Clone, Copy)]
-pub(crate) enum Finding {
+pub(crate) enum CheckFinding {
     /// Nothing was expected, so anything may come.
     Unasked,
     /// The expected lines came, and nothing else.

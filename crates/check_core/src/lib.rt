@@ -28,6 +28,6 @@ pub use form::{CheckForm, CheckPlace};
 pub use outcome::{CheckOutcome, Verdict};
 pub use reading::check;
 pub use scripts::{CheckOptions, check_scripts};
-pub use tally::Tally;
+pub use tally::CheckTally;
 pub use update::updated;
 pub use updates::update_scripts;

@@ -3,14 +3,14 @@ ghost use Rattle.std.specs.Prelude.{◌≡◌};
 ghost use Rattle.std.specs.List.{list_any};
 ghost use Rattle.check_core.specs.Outcome.{is_failed, is_passed, is_wrong, tally_of, verdict_of};
 
-use crate::tally::Tally;
+use crate::tally::CheckTally;
 use point_core::Refusal;
 
 /// The result of checking a script.
 #[derive(Clone, Copy)]
 pub enum CheckOutcome {
     /// It was checked to its end.
-    Checked(Tally),
+    Checked(CheckTally),
     /// It could not be opened, or not be checked to its end: with `Read` or with `Limit` of a script.
     Failed(Refusal),
 }
@@ -56,12 +56,12 @@ impl CheckOutcome {
     }
 
     /// The counts, which are 0 if it was not checked to its end.
-    pub(crate) fn tally(self) -> Tally
+    pub(crate) fn tally(self) -> CheckTally
         ensures { result ≡ tally_of self }
     {
         match self {
             CheckOutcome::Checked(tally) => tally,
-            CheckOutcome::Failed(_) => Tally::new(),
+            CheckOutcome::Failed(_) => CheckTally::new(),
         }
     }
 }

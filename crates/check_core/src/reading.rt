@@ -10,7 +10,7 @@ ghost use Rattle.check_core.specs.Check.{ChecksScript, IsTooLong};
 
 use crate::checker::Checker;
 use crate::form::CheckPlace;
-use crate::tally::Tally;
+use crate::tally::CheckTally;
 use line_core::{Ending, SCRIPT_BYTES, for_each_line};
 use point_core::{LimitKind, Refusal};
 use std::alloc::Global;
@@ -29,7 +29,7 @@ pub fn check<R: Read, W: Write>(
     place: &CheckPlace<'_>,
     reader: &mut R,
     writer: &mut W,
-) -> Result<Tally, Refusal>
+) -> Result<CheckTally, Refusal>
     ensures ok { IfOk result (λ tally. (script : List ℕ) × IsInput (R.remaining reader.old) script
         × ChecksScript script tally) }
 

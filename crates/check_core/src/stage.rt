@@ -1,15 +1,15 @@
-//! `Stage`: how much of an answer the expected lines have matched so far. `IsAt` ties a stage to the lines.
+//! `MatchStage`: how much of an answer the expected lines have matched so far. `IsAt` ties a stage to the lines.
 ghost use Rattle.std.specs.Prelude.{◌≡◌, ◌≢◌, ◌≤◌, ◌++◌, ◌∷◌, [], List, ℕ, length, option_map, MatchOption};
 ghost use Rattle.check_core.specs.Finding.{is_asked_finding, is_difference};
 ghost use Rattle.check_core.specs.Expected.{differs, ended, is_asked};
 ghost use Rattle.check_core.specs.Tally.{one_if};
 
-use crate::finding::Finding;
+use crate::finding::CheckFinding;
 use line_core::strip_prefix;
 
 /// How much of an answer the lines that are expected of it so far have matched.
 #[derive(Clone, Copy)]
-pub(crate) enum Stage {
+pub(crate) enum MatchStage {
     /// No line is expected.
     Unasked,
     /// The answer begins with them, up to this place.
@@ -18,7 +18,7 @@ pub(crate) enum Stage {
     Differs,
 }
 
-impl Stage {
+impl MatchStage {
     ghost use Rattle.check_core.specs.Stage.{place_of, left_of, is_different, IsAt};
 
     /// The part of the text that the next expected line is compared with; `None` if that can't matter.
@@ -27,14 +27,14 @@ impl Stage {
         ensures left { option_map (λ l. l.now) result ≡ left_of self text.now }
     {
         match self {
-            Stage::Unasked => Some(text),
-            Stage::Came(place) => Some(&text[place..]),
-            Stage::Differs => None,
+            MatchStage::Unasked => Some(text),
+            MatchStage::Came(place) => Some(&text[place..]),
+            MatchStage::Differs => None,
         }
     }
 
     /// The stage after one more expected line.
-    pub(crate) fn with(self, text: &[u8], line: &[u8]) -> Stage
+    pub(crate) fn with(self, text: &[u8], line: &[u8]) -> MatchStage
         requires within { place_of self ≤ length text.now }
         ensures within { place_of result ≤ length text.now }
         ensures next { (expected : List (List ℕ)) → IsAt self expected text.now
@@ -42,16 +42,16 @@ impl Stage {
         ensures kept { one_if (is_different self) ≤ one_if (is_different result) }
     {
         let Some(left) = self.left(text) else {
-            return Stage::Differs;
+            return MatchStage::Differs;
         };
         match strip_line(left, line) {
-            Some(rest) => Stage::Came(text.len() - rest.len()),
-            None => Stage::Differs,
+            Some(rest) => MatchStage::Came(text.len() - rest.len()),
+            None => MatchStage::Differs,
         }
     }
 
     /// The result once no more is expected.
-    pub(crate) fn finding(self, text: &[u8]) -> Finding
+    pub(crate) fn finding(self, text: &[u8]) -> CheckFinding
         ensures asked { (expected : List (List ℕ)) → IsAt self expected text.now
             → is_asked_finding result ≡ is_asked expected }
         ensures difference { (expected : List (List ℕ)) → IsAt self expected text.now
@@ -59,15 +59,15 @@ impl Stage {
         ensures counted { one_if (is_different self) ≤ one_if (is_difference result) }
     {
         match self {
-            Stage::Unasked => Finding::Unasked,
-            Stage::Came(place) => {
+            MatchStage::Unasked => CheckFinding::Unasked,
+            MatchStage::Came(place) => {
                 if place < text.len() {
-                    Finding::Differs
+                    CheckFinding::Differs
                 } else {
-                    Finding::AsExpected
+                    CheckFinding::AsExpected
                 }
             }
-            Stage::Differs => Finding::Differs,
+            MatchStage::Differs => CheckFinding::Differs,
         }
     }
 }

@@ -9,7 +9,7 @@ use crate::form::CheckForm;
 use crate::outcome::CheckOutcome;
 use crate::parts::{ReportPart, write_parts};
 use crate::scripts::CheckOptions;
-use crate::tally::Tally;
+use crate::tally::CheckTally;
 use itoa::Buffer;
 use point_core::Refusal;
 use report_core::write_whole;
@@ -106,10 +106,10 @@ pub(crate) fn parts_of_outcome(outcome: CheckOutcome) -> [ReportPart<'static>; 5
 }
 
 /// The counts of all of them together.
-fn totals_of(outcomes: &[CheckOutcome]) -> Tally
+fn totals_of(outcomes: &[CheckOutcome]) -> CheckTally
     ensures { result ≡ totals_of outcomes.now }
 {
-    let mut totals = Tally::new();
+    let mut totals = CheckTally::new();
     for outcome in outcomes {
         totals = totals.with(&outcome.tally());
     }
@@ -117,7 +117,7 @@ fn totals_of(outcomes: &[CheckOutcome]) -> Tally
 }
 
 /// Writes the line of counts, and flushes.
-fn report_totals<W: Write>(files: usize, tally: &Tally, writer: &mut W) -> Result<(), Refusal>
+fn report_totals<W: Write>(files: usize, tally: &CheckTally, writer: &mut W) -> Result<(), Refusal>
     requires files { files < 2 ^ 64 }
     ensures ok { OnOk result (Appends (W.contents writer.old) (W.contents writer.new) (totals_text files tally.now)) }
     ensures refusals { IfErr result (λ refusal. refusal ≡ WriteFault) }

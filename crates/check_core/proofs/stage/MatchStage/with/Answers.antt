@@ -1,7 +1,7 @@
 -- At each exit, by what was left of the text.
 use Rattle.std.proofs.Common.{sym}
 use Rattle.check_core.proofs.Stages.{stage-came, stage-other}
-use Rattle.check_core.proofs.stage.Stage.with.Goals as goal
+use Rattle.check_core.proofs.stage.MatchStage.with.Goals as goal
 
 pub returns-in-Some-strip_line-clause-next : goal.returns-in-Some-strip_line-clause-next
 returns-in-Some-strip_line-clause-next c expected at =

@@ -2,7 +2,7 @@
 use Rattle.std.proofs.Common.{subst}
 use Rattle.check_core.specs.Stage.{IsAt}
 use Rattle.check_core.proofs.Stages.{came-all, differs-now, differs-asks}
-use Rattle.check_core.proofs.stage.Stage.finding.Goals as goal
+use Rattle.check_core.proofs.stage.MatchStage.finding.Goals as goal
 
 pub returns-else-place-text-clause-difference : goal.returns-else-place-text-clause-difference
 returns-else-place-text-clause-difference c expected at =
