@@ -8,7 +8,6 @@ mod expected;
 mod finding;
 mod form;
 mod kept;
-mod list;
 mod outcome;
 mod parts;
 mod reading;

@@ -7,7 +7,6 @@ ghost use Rattle.check_core.specs.Outcome.{CameOf, CameOfEach, ComesOf, IsOutcom
 ghost use Rattle.check_core.specs.Tap.{TellsTest};
 
 use crate::form::{CheckForm, CheckPlace};
-use crate::list::push;
 use crate::outcome::{CheckOutcome, Verdict, verdict_of};
 use crate::reading::check;
 use crate::sink::Sink;
@@ -85,7 +84,7 @@ fn check_each<R: Files + Eprint + AllocGlobal, S: Read + Copy + Drop, O: Write, 
             output,
             errors,
         )?;
-        push(outcomes, outcome)?;
+        outcomes.push(outcome).map_err(|_| Refusal::Memory)?;
     }
     Ok(())
 }

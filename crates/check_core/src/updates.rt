@@ -8,7 +8,6 @@ ghost use Rattle.source_core.specs.FileBytes.{HasFront, WasGiven};
 ghost use Rattle.check_core.specs.Kept.{kept};
 ghost use Rattle.check_core.specs.Update.{HasReported, IsUpdate, Passes, failure_text, is_failed, one_if_written, update_text, updates_text, update_totals, verdict_of_updates, written_count};
 
-use crate::list::push;
 use crate::outcome::Verdict;
 use crate::update::updated;
 use itoa::Buffer;
@@ -68,7 +67,7 @@ fn update_each<R: Files + Eprint + AllocGlobal, W: Write>(
     for name in names {
         let update = update_script(rt, name.as_str())?;
         report_update(rt.alloc(), name.as_str(), update, errors)?;
-        push(updates, update)?;
+        updates.push(update).map_err(|_| Refusal::Memory)?;
     }
     Ok(())
 }

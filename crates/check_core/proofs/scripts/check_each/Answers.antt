@@ -1,4 +1,4 @@
-use Rattle.std.proofs.Common.{ℕ, List, length, Some, refl, subst, String, Global, string_bytes}
+use Rattle.std.proofs.Common.{ℕ, List, [], ◌∷◌, ◌++◌, ◌∙◌, if◌then◌else◌, length, Some, refl, sym, ap, subst, String, Global, string_bytes}
 use Rattle.std.proofs.lemmas.Option.{slice_get_read}
 use Rattle.source_core.specs.Input.{file_named}
 use Rattle.source_core.specs.Source.{HasUnread}
@@ -16,5 +16,7 @@ loop-index-preserved g c =
     let o = c.in_ok-outcome.outcome in
     let at = slice_get_read names (length names) c.loop-index.index name refl c.loop-index-test.true c.index-names-index.is in
     let came = subst (λ (text : List ℕ). CameOf (opened text) o) c.as_str.ensures.value c.in_ok-outcome.ensures.outcome in
-    let next = CameOfEach-next opens names c.loop-index.outcomes.items c.push.new.items.items c.loop-index.index name o was.count at was.each came c.in_ok-push.ensures in
+    let before = c.loop-index.outcomes.items in
+    let pushed = c.push.ensures.items ∙ ap (λ b. if b then before ++ o ∷ [] else before) (sym c.in_ok-map_err.ensures.variant) in
+    let next = CameOfEach-next opens names before c.push.new.self.items c.loop-index.index name o was.count at was.each came pushed in
     record { count = next.0; each = next.1 }
