@@ -2,18 +2,4 @@
 #![tactic(auto)]
 
 #[cfg(test)]
-mod buffers;
-#[cfg(test)]
-mod callbacks;
-#[cfg(test)]
-mod device;
-#[cfg(test)]
-mod fences;
-#[cfg(test)]
-mod listings;
-#[cfg(test)]
-mod refusals;
-#[cfg(test)]
-mod reservations;
-#[cfg(test)]
-mod values;
+mod tests;

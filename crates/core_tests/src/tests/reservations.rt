@@ -1,5 +1,5 @@
 //! Tests of reservations: which entry a new one replaces.
-use crate::values::{holds, point, reach_at, row};
+use crate::tests::values::{holds, point, reach_at, row};
 use point_core::{Point, Reach, TopRow, Usage};
 use resv_core::{PLACES, Resv};
 use std::process::Abort;

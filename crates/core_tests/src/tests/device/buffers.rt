@@ -1,8 +1,13 @@
 //! Requests about buffers, each with its answer.
-use crate::device::answers::{Wanted, check, check_table_sizes};
-use device_core::{Errno, FenceDriver, Request, Text, run};
+use crate::tests::device::answers::{Row, Wanted, check_table_sizes, run_checked};
+use device_core::{Errno, FenceDriver, Request, Text};
 use point_core::{Status, Usage};
 use std::test::Fail;
+
+/// The fence of an export while it is pending, and the stub of an export of an idle buffer.
+const PENDING: &[Row] = &[(b"", FenceDriver::SwSync, Status::Active, 0)];
+
+const STUB: &[Row] = &[(b"stub", FenceDriver::Stub, Status::Signalled, 9)];
 
 static ASKED: [(Request, Wanted); 48] = [
     (Request::Open(Text::EMPTY), Wanted::Number(1)),
@@ -19,11 +24,7 @@ static ASKED: [(Request, Wanted); 48] = [
     (Request::Export(5, 2), Wanted::Number(7)),
     (
         Request::Info(6),
-        Wanted::Info(
-            b"sw_sync-2-1",
-            Status::Active,
-            &[(b"", FenceDriver::SwSync, Status::Active, 0)],
-        ),
+        Wanted::Info(b"sw_sync-2-1", Status::Active, PENDING),
     ),
     (Request::Inc(2, 1, 20), Wanted::Woken(&[4, 6])),
     (Request::Test(5, Usage::Write), Wanted::Signalled(true)),
@@ -32,11 +33,7 @@ static ASKED: [(Request, Wanted); 48] = [
     (Request::Export(5, 1), Wanted::Number(8)),
     (
         Request::Info(8),
-        Wanted::Info(
-            b"stub-stub0-0",
-            Status::Signalled,
-            &[(b"stub", FenceDriver::Stub, Status::Signalled, 9)],
-        ),
+        Wanted::Info(b"stub-stub0-0", Status::Signalled, STUB),
     ),
     (Request::Inc(1, 1, 30), Wanted::Woken(&[3, 7])),
     (Request::Test(5, Usage::Read), Wanted::Signalled(true)),
@@ -85,12 +82,7 @@ fn asked() -> &'static [(Request, Wanted)] {
 
 #[test]
 fn buffers_are_waited_for_by_usage(rt: HostRuntime) -> Result<(), Fail> {
-    let mut requests = Vec::new(rt.alloc());
-    for (request, _wanted) in asked() {
-        requests.push(*request)?;
-    }
-    let (device, answers) = run(rt.alloc(), requests.as_slice())?;
-    check(&rt, answers.as_slice(), asked());
+    let device = run_checked(&rt, rt.alloc(), asked())?;
     check_table_sizes(&rt, &device.table_sizes(), [2, 9, 1, 1]);
     Ok(())
 }

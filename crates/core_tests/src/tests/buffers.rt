@@ -1,5 +1,5 @@
 //! Tests of a full buffer: a fence of every context at every usage.
-use crate::values::{EVERY_USAGE, are_full_rows, holds, name, numbered, value_of};
+use crate::tests::values::{EVERY_USAGE, are_full_rows, holds, name, numbered, value_of};
 use dmabuf_core::Buffers;
 use point_core::{CONTEXTS, Context, Name, Point, Reach};
 use std::alloc::Global;

@@ -1,5 +1,5 @@
 //! Tests of the table of refusals, and of the words of limits.
-use crate::values::holds;
+use crate::tests::values::holds;
 use point_core::{LimitKind, Refusal};
 use std::alloc::Global;
 use std::fmt::Display;

@@ -1,5 +1,5 @@
 //! Tests of the callbacks of one fence.
-use crate::values::holds;
+use crate::tests::values::holds;
 use fence_core::{CALLBACKS, CallbackList};
 use point_core::{LimitKind, Refusal};
 use std::process::Abort;

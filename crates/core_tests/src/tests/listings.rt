@@ -1,5 +1,5 @@
 //! Tests of `canon`: listings that were worked out by hand.
-use crate::values::{LAST_CONTEXT, has_points, holds, points_of, reach_of};
+use crate::tests::values::{LAST_CONTEXT, has_points, holds, points_of, reach_of};
 use point_core::{LatestPoints, Reach, canon};
 use std::alloc::Global;
 use std::process::Abort;

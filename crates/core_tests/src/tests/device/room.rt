@@ -1,5 +1,5 @@
 //! Tests of a map that has lost most of its entries.
-use crate::values::holds;
+use crate::tests::values::holds;
 use device_core::room::give_room_back;
 use std::collections::HashMap;
 use std::test::Fail;

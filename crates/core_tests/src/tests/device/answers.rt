@@ -1,8 +1,12 @@
-//! Compares a device's answers with the wanted ones.
-use crate::values::holds;
-use device_core::{Errno, FenceDriver, FenceInfo, FileInfo, Reply, Request, TableSizes};
+//! Runs requests on a device, and compares its answers with the wanted ones.
+use crate::tests::values::holds;
+use device_core::{
+    Device, Errno, FenceDriver, FenceInfo, FileInfo, Reply, Request, TableSizes, run,
+};
 use point_core::Status;
+use std::alloc::Global;
 use std::process::Abort;
+use std::test::Fail;
 
 /// An answer, or a refusal.
 #[derive(Clone, Copy, PartialEq, Eq)]
@@ -19,12 +23,23 @@ pub(crate) enum Wanted {
 /// Information on a fence: the name of its timeline, its driver and status, and when it signalled.
 pub(crate) type Row = (&'static [u8], FenceDriver, Status, u64);
 
-/// Checks that each answer is the one beside its request.
-pub(crate) fn check(
+/// Has a new device serve the requests, and checks its answers.
+pub(crate) fn run_checked(
     rt: &impl Abort,
-    answers: &[Result<Reply, Errno>],
+    alloc: Global,
     asked: &[(Request, Wanted)],
-) {
+) -> Result<Device, Fail> {
+    let mut requests = Vec::new(alloc);
+    for (request, _wanted) in asked {
+        requests.push(*request)?;
+    }
+    let (device, answers) = run(alloc, requests.as_slice())?;
+    check(rt, answers.as_slice(), asked);
+    Ok(device)
+}
+
+/// Checks that each answer is the one beside its request.
+fn check(rt: &impl Abort, answers: &[Result<Reply, Errno>], asked: &[(Request, Wanted)]) {
     let mut left = asked;
     for answer in answers {
         let Some((first, rest)) = left.split_first() else {

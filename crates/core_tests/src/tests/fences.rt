@@ -2,7 +2,7 @@
 ghost use Rattle.std.specs.Prelude.{◌≡◌, replicate};
 ghost use Rattle.point_core.specs.declared.context.TheConstants.{CONTEXTS};
 
-use crate::values::holds;
+use crate::tests::values::holds;
 use fence_core::{Fence, Watches};
 use point_core::{Context, Point, Reach, Refusal};
 use std::alloc::Global;

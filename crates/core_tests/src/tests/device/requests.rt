@@ -1,6 +1,6 @@
 //! Requests about timelines and files, each with its answer.
-use crate::device::answers::{Wanted, check};
-use device_core::{Errno, FenceDriver, Request, Text, run};
+use crate::tests::device::answers::{Wanted, run_checked};
+use device_core::{Errno, FenceDriver, Request, Text};
 use point_core::Status;
 use std::test::Fail;
 
@@ -96,11 +96,6 @@ fn asked() -> &'static [(Request, Wanted)] {
 
 #[test]
 fn requests_are_answered_as_linux_answers(rt: HostRuntime) -> Result<(), Fail> {
-    let mut requests = Vec::new(rt.alloc());
-    for (request, _wanted) in asked() {
-        requests.push(*request)?;
-    }
-    let (_device, answers) = run(rt.alloc(), requests.as_slice())?;
-    check(&rt, answers.as_slice(), asked());
+    run_checked(&rt, rt.alloc(), asked())?;
     Ok(())
 }
