@@ -1,5 +1,5 @@
 -- Why a script is no plan.
-use Rattle.std.specs.Prelude.{◌≡◌, ◌⊎◌, ℕ, ◌+◌, ◌&&◌, nat_le, Bool, true, false, if◌then◌else◌, List, length, take, count_by, slice_get, Option, None, Some, is_some}
+use Rattle.std.specs.Prelude.{◌≡◌, ◌⊎◌, ◌<◌, ◌≤◌, ℕ, ◌-◌, ◌&&◌, nat_le, All, Bool, true, false, if◌then◌else◌, List, length, take, count_by, slice_get, Option, None, Some, is_some}
 use Rattle.std.specs.List.{list_any}
 use Rattle.std.specs.Str.{bytes_eq}
 use Rattle.command_core.specs.declared.command.Command.{Command}
@@ -93,13 +93,14 @@ IsRow rows index row = slice_get rows index ≡ Some row
 abbrev pub IsPlaced : Row → Type 0
 IsPlaced row = cause_of row.context row.mark ≡ None
 
--- the row's context does not allow what it says
+-- the row's context does not allow what it says, and it is the first such row
 pub record IsMisplaced (rows : List Row) (m : Mistake) : Type 0 where
   pub index : ℕ
   pub row : Row
   pub at : IsRow rows index row
   pub line : m.line ≡ row.number
   pub why : cause_of row.context row.mark ≡ Some m.cause
+  pub first : All IsPlaced (take index rows)
 
 -- whether a row begins the lines of a client with that name
 abbrev pub is_named : List ℕ → Mark → Bool
@@ -118,15 +119,32 @@ is_client_named name row = is_named name row.mark
 abbrev pub has_client : List Row → List ℕ → Bool
 has_client rows name = list_any (is_client_named name) rows
 
--- a client has the name of one above it
+-- a row that begins the lines of a client, whose name a client above has
+abbrev pub is_taken : List Row → Mark → Bool
+is_taken above (mark.Client name) = has_client above name
+is_taken above mark.Finally = false
+is_taken above mark.Await = false
+is_taken above mark.Expected = false
+is_taken above mark.OrExpected = false
+is_taken above (mark.Command command) = false
+is_taken above (mark.Wrong why) = false
+
+-- the row of that index begins no client, or one whose name no client above has
+abbrev pub HasOwnName : List Row → ℕ → Type 0
+HasOwnName rows index = (row : Row) → IsRow rows index row → is_taken (take index rows) row.mark ≡ false
+
+-- no two clients have the same name
+abbrev pub HaveOwnNames : List Row → Type 0
+HaveOwnNames rows = (index : ℕ) → HasOwnName rows index
+
+-- a client has the name of one above it, and it is the first such client
 pub record IsTaken (rows : List Row) (m : Mistake) : Type 0 where
   pub index : ℕ
   pub row : Row
   pub at : IsRow rows index row
   pub line : m.line ≡ row.number
-  pub name : List ℕ
-  pub client : row.mark ≡ mark.Client name
-  pub taken : has_client (take index rows) name ≡ true
+  pub taken : is_taken (take index rows) row.mark ≡ true
+  pub first : (above : ℕ) → above < index → HasOwnName rows above
   pub why : m.cause ≡ cause.NameTaken
 
 abbrev pub is_in_client : Section → Bool
@@ -137,6 +155,10 @@ is_in_client section.Last = false
 -- whether a row is a line of a client
 abbrev pub is_line : Row → Bool
 is_line row = is_some (command_said row.mark) && is_in_client row.context.section
+
+-- the clients have together no more lines than the limit
+abbrev pub AreFew : List Row → Type 0
+AreFew rows = count_by is_line rows ≤ PLAN_LINES
 
 -- a client's line has PLAN_LINES lines of clients above it
 pub record IsPastLimit (rows : List Row) (m : Mistake) : Type 0 where
@@ -163,24 +185,57 @@ is_client_row row = begins_client row.mark
 abbrev pub has_some_client : List Row → Bool
 has_some_client rows = list_any is_client_row rows
 
+abbrev pub is_await : Mark → Bool
+is_await (mark.Client name) = false
+is_await mark.Finally = false
+is_await mark.Await = true
+is_await mark.Expected = false
+is_await mark.OrExpected = false
+is_await (mark.Command command) = false
+is_await (mark.Wrong why) = false
+
+abbrev pub IsLastRow : List Row → Row → Type 0
+IsLastRow rows row = slice_get rows (length rows - 1) ≡ Some row
+
+-- the last row is no `#await`, which a command would have to follow
+abbrev pub EndsWhole : List Row → Type 0
+EndsWhole rows = (row : Row) → IsLastRow rows row → is_await row.mark ≡ false
+
+-- nothing is missing at the end
+pub record IsWhole (rows : List Row) : Type 0 where
+  pub ended : EndsWhole rows
+  pub client : has_some_client rows ≡ true
+
 -- the last row is `#await`, which no command follows
 pub record IsAwaiting (rows : List Row) (m : Mistake) : Type 0 where
-  pub index : ℕ
   pub row : Row
-  pub at : IsRow rows index row
-  pub last : index + 1 ≡ length rows
+  pub last : IsLastRow rows row
   pub line : m.line ≡ row.number
-  pub await : row.mark ≡ mark.Await
+  pub await : is_await row.mark ≡ true
   pub why : m.cause ≡ cause.AwaitsNothing
 
--- no row begins the lines of a client
-pub record IsClientless (rows : List Row) (m : Mistake) : Type 0 where
+-- no row begins the lines of a client; reported of the last line
+pub record IsClientless (rows : List Row) (last : ℕ) (m : Mistake) : Type 0 where
   pub none : has_some_client rows ≡ false
+  pub line : m.line ≡ last
   pub why : m.cause ≡ cause.NoClient
 
-abbrev pub IsMissing : List Row → Mistake → Type 0
-IsMissing rows m = IsAwaiting rows m ⊎ IsClientless rows m
+abbrev pub IsMissing : List Row → ℕ → Mistake → Type 0
+IsMissing rows last m = IsAwaiting rows m ⊎ (EndsWhole rows × IsClientless rows last m)
 
--- a line for which the rows make no plan
-abbrev pub IsMistake : List Row → Mistake → Type 0
-IsMistake rows m = IsMisplaced rows m ⊎ IsTaken rows m ⊎ IsPastLimit rows m ⊎ IsMissing rows m
+-- rows that make a plan
+pub record IsPlan (rows : List Row) : Type 0 where
+  pub placed : All IsPlaced rows
+  pub named : HaveOwnNames rows
+  pub few : AreFew rows
+  pub whole : IsWhole rows
+
+-- why rows that are placed make no plan: a name that is taken; else too many lines; else what is missing at the end
+abbrev pub IsLaterMistake : List Row → ℕ → Mistake → Type 0
+IsLaterMistake rows last m =
+    IsTaken rows m ⊎ (HaveOwnNames rows × (IsPastLimit rows m ⊎ (AreFew rows × IsMissing rows last m)))
+
+-- Why the rows make no plan, and the first line of that kind: a row that its context does not allow; else a later mistake. The last
+-- line has that number.
+abbrev pub IsMistake : List Row → ℕ → Mistake → Type 0
+IsMistake rows last m = IsMisplaced rows m ⊎ (All IsPlaced rows × IsLaterMistake rows last m)

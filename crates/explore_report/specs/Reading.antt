@@ -1,5 +1,5 @@
 -- What a script is found to be.
-use Rattle.std.specs.Prelude.{◌≡◌, ◌<◌, ◌⊎◌, ℕ, List, length, map}
+use Rattle.std.specs.Prelude.{◌≡◌, ◌<◌, ◌≤◌, ◌⊎◌, ℕ, List, length, map}
 use Rattle.line_core.specs.Script.{lines_of}
 use Rattle.line_core.specs.declared.script.TheConstants.{SCRIPT_BYTES}
 use Rattle.explore_core.specs.Found.{CanBeExplored}
@@ -8,21 +8,33 @@ use Rattle.explore_report.specs.declared.mistake.Mistake.{Mistake}
 use Rattle.explore_report.specs.declared.plan_script.PlanScript.{PlanScript}
 use Rattle.explore_report.specs.declared.plan_script.Reading.{Reading}
 use Rattle.explore_report.specs.declared.plan_script.Reading.TheVariants as reading
-use Rattle.explore_report.specs.Mistake.{IsMistake}
+use Rattle.explore_report.specs.Mistake.{IsMistake, IsPlan}
 use Rattle.explore_report.specs.Plan.{plan_of}
 use Rattle.explore_report.specs.Rows.{rows_of}
 
--- the plan is exactly what the script's sections say, and can be explored
+-- the script is short enough, and its lines make a plan
+pub record IsPlanText (script : List ℕ) : Type 0 where
+  pub short : length script ≤ SCRIPT_BYTES
+  pub plan : IsPlan (rows_of (lines_of script))
+
+-- the script is a plan, which is exactly what its sections say, and can be explored
 pub record IsPlanOf (script : List ℕ) (p : PlanScript) : Type 0 where
+  pub valid : IsPlanText script
   pub is : p.plan ≡ plan_of (rows_of (lines_of script))
   pub explorable : CanBeExplored p.plan
   pub lines : map (λ line. line.now) p.lines.items ≡ lines_of script
   pub rows : p.rows.items ≡ rows_of (lines_of script)
 
--- the script is too long, or one of its lines makes it no plan
-abbrev pub IsNoPlan : List ℕ → Mistake → Type 0
-IsNoPlan script m =
-    ((m.cause ≡ cause.Bytes SCRIPT_BYTES) × (SCRIPT_BYTES < length script)) ⊎ IsMistake (rows_of (lines_of script)) m
+-- the script is too long; reported of its last line
+pub record IsTooLong (script : List ℕ) (m : Mistake) : Type 0 where
+  pub long : SCRIPT_BYTES < length script
+  pub line : m.line ≡ length (lines_of script)
+  pub why : m.cause ≡ cause.Bytes SCRIPT_BYTES
+
+-- the script is no plan: it is too long, or one of its lines makes it none; the first cause counts, and its first line
+pub record IsNoPlan (script : List ℕ) (m : Mistake) : Type 0 where
+  pub none : IsPlanText script → ⊥
+  pub found : IsTooLong script m ⊎ ((length script ≤ SCRIPT_BYTES) × IsMistake (rows_of (lines_of script)) (length (lines_of script)) m)
 
 abbrev pub IsReading : List ℕ → Reading → Type 0
 IsReading script (reading.Plan p) = IsPlanOf script p

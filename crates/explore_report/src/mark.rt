@@ -1,6 +1,6 @@
 //! `Mark`: what a line says to the reader of a plan. `row.rt` asks for it line by line.
 ghost use Rattle.std.specs.Prelude.{◌≡◌};
-ghost use Rattle.explore_report.specs.Mistake.{is_named};
+ghost use Rattle.explore_report.specs.Mistake.{is_await, is_named};
 ghost use Rattle.explore_report.specs.Rows.{command_said};
 ghost use Rattle.explore_report.specs.Mark.{after_mark, begins_directive, blank_note, client_mark, client_named, directive_of, expected_text, is_directive, mark_of, mark_of_body, note_of, without_words};
 
@@ -46,6 +46,12 @@ impl Mark {
             Mark::Client(other) => other == name,
             _ => false,
         }
+    }
+
+    pub(crate) fn is_await(&self) -> bool
+        ensures { result ≡ is_await self.now }
+    {
+        matches!(self, Mark::Await)
     }
 }
 

@@ -1,6 +1,6 @@
 //! `Mistake`: the first line that makes a script no plan, and why. `PlanScript::read` looks for one.
-ghost use Rattle.std.specs.Prelude.{◌≡◌, All, IfSome, MatchOption};
-ghost use Rattle.explore_report.specs.Mistake.{IsAwaiting, IsMisplaced, IsMissing, IsMistake, IsPastLimit, IsPlaced, IsTaken, await_cause, cause_of, client_cause, command_cause, expected_cause, finally_cause, has_client, has_some_client};
+ghost use Rattle.std.specs.Prelude.{◌≡◌, All, MatchOption};
+ghost use Rattle.explore_report.specs.Mistake.{AreFew, EndsWhole, HaveOwnNames, IsAwaiting, IsMisplaced, IsMissing, IsMistake, IsPastLimit, IsPlaced, IsPlan, IsTaken, IsWhole, await_cause, cause_of, client_cause, command_cause, expected_cause, finally_cause, has_client, has_some_client, is_taken};
 
 use crate::cause::{Cause, LAST_CLIENT, PLAN_CLIENTS, PLAN_LINES};
 use crate::context::{Above, Context, Section};
@@ -20,7 +20,7 @@ pub struct Mistake {
 /// The first mistake of the rows: a row that its context does not allow; else a name that is taken; else a line past the limit;
 /// else what is missing at the end, with the number of the last line.
 pub(crate) fn mistake_of(rows: &[Row], last: usize) -> Option<Mistake>
-    ensures found { MatchOption result (All IsPlaced rows.now) (IsMistake rows.now) }
+    ensures found { MatchOption result (IsPlan rows.now) (IsMistake rows.now last) }
 {
     if let Some(mistake) = misplaced(rows) {
         return Some(mistake);
@@ -117,21 +117,29 @@ fn command_cause(section: Section, command: &Command) -> Option<Cause>
     }
 }
 
-/// The first client whose name another has.
+/// The first client whose name a client above it has.
 fn taken(rows: &[Row]) -> Option<Mistake>
-    ensures found { IfSome result (IsTaken rows.now) }
+    ensures found { MatchOption result (HaveOwnNames rows.now) (IsTaken rows.now) }
 {
     for (index, row) in rows.iter().enumerate() {
-        if let Mark::Client(name) = row.mark {
-            if has_client(&rows[..index], &name) {
-                return Some(Mistake {
-                    line: row.number,
-                    cause: Cause::NameTaken,
-                });
-            }
+        if is_taken(&rows[..index], &row.mark) {
+            return Some(Mistake {
+                line: row.number,
+                cause: Cause::NameTaken,
+            });
         }
     }
     None
+}
+
+/// Whether a row begins the lines of a client whose name a client above has.
+fn is_taken(above: &[Row], mark: &Mark) -> bool
+    ensures { result ≡ is_taken above.now mark.now }
+{
+    match mark {
+        Mark::Client(name) => has_client(above, name),
+        _ => false,
+    }
 }
 
 fn has_client(rows: &[Row], name: &Name) -> bool
@@ -142,7 +150,7 @@ fn has_client(rows: &[Row], name: &Name) -> bool
 
 /// The first line of a client past the limit.
 fn too_many(rows: &[Row]) -> Option<Mistake>
-    ensures found { IfSome result (IsPastLimit rows.now) }
+    ensures found { MatchOption result (AreFew rows.now) (IsPastLimit rows.now) }
 {
     let mut left = PLAN_LINES;
     for row in rows {
@@ -162,7 +170,7 @@ fn too_many(rows: &[Row]) -> Option<Mistake>
 
 /// What is missing at the end of the plan, whose last line has that number.
 fn missing(rows: &[Row], last: usize) -> Option<Mistake>
-    ensures found { IfSome result (IsMissing rows.now) }
+    ensures found { MatchOption result (IsWhole rows.now) (IsMissing rows.now last) }
 {
     if let Some(mistake) = awaiting(rows) {
         return Some(mistake);
@@ -178,16 +186,16 @@ fn missing(rows: &[Row], last: usize) -> Option<Mistake>
 
 /// The last row, if it is `#await`.
 fn awaiting(rows: &[Row]) -> Option<Mistake>
-    ensures found { IfSome result (IsAwaiting rows.now) }
+    ensures found { MatchOption result (EndsWhole rows.now) (IsAwaiting rows.now) }
 {
     let row = rows.last()?;
-    match row.mark {
-        Mark::Await => Some(Mistake {
+    if row.mark.is_await() {
+        return Some(Mistake {
             line: row.number,
             cause: Cause::AwaitsNothing,
-        }),
-        _ => None,
+        });
     }
+    None
 }
 
 fn has_some_client(rows: &[Row]) -> bool

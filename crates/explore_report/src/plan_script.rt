@@ -35,7 +35,7 @@ pub enum Reading<'a> {
 }
 
 impl<'a> PlanScript<'a> {
-    /// Reads a plan, or finds why the script is none.
+    /// Reads a plan, or finds why the script is none: the first cause of `mistake_of` that holds, and its first line.
     ///
     /// Fails with `Memory` only.
     pub fn read(alloc: Global, script: &'a [u8]) -> Result<Reading<'a>, Refusal>
@@ -43,14 +43,15 @@ impl<'a> PlanScript<'a> {
         ensures memory { IfErr result (λ refusal. refusal ≡ Refusal.Memory) }
     {
         let lines = lines_of(alloc, script)?;
+        let last = lines.len();
         if script.len() > SCRIPT_BYTES {
             return Ok(Reading::NoPlan(Mistake {
-                line: lines.len(),
+                line: last,
                 cause: Cause::Bytes(SCRIPT_BYTES),
             }));
         }
         let rows = rows_of(alloc, lines.as_slice())?;
-        if let Some(mistake) = mistake_of(rows.as_slice(), lines.len()) {
+        if let Some(mistake) = mistake_of(rows.as_slice(), last) {
             return Ok(Reading::NoPlan(mistake));
         }
         let plan = plan_of(alloc, rows.as_slice())?;
