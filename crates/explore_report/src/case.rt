@@ -240,8 +240,9 @@ fn push_case(
     ensures pushed { OnOk result (map judged_of cases.new.items
         ≡ map judged_of cases.old.items ++ judged plan.now index answer.now schedule.now ∷ []) }
 {
+    cases.reserve(1)?;
     let case = case_of(alloc, plan, index, answer, schedule)?;
-    cases.push(case).map_err(|_| Refusal::Memory)?;
+    cases.push_reserved(case);
     Ok(())
 }
 

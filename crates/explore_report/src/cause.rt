@@ -11,7 +11,7 @@ pub(crate) const LAST_CLIENT: usize = PLAN_CLIENTS - 1;
 pub const PLAN_LINES: usize = 4096;
 
 /// Why a script is no plan, so that nothing of it is explored.
-#[derive(Clone, Copy, Debug, PartialEq, Eq, Error)]
+#[derive(Clone, Copy, Debug, Error)]
 pub enum Cause {
     #[error("the line is not a command; fencectl explain says why")]
     NoCommand,

@@ -7,7 +7,7 @@ use crate::cause::PLAN_CLIENTS;
 use crate::mark::Mark;
 
 /// A part of a plan.
-#[derive(Clone, Copy, Debug)]
+#[derive(Clone, Copy)]
 pub enum Section {
     /// What is done first.
     First,
@@ -18,7 +18,7 @@ pub enum Section {
 }
 
 /// What is directly above a line in its section. Notes to the reader do not count.
-#[derive(Clone, Copy, Debug)]
+#[derive(Clone, Copy)]
 pub enum Above {
     Nothing,
     /// A command, or a note that expects its answer.
@@ -28,7 +28,7 @@ pub enum Above {
 }
 
 /// The section of a line, and what is directly above it.
-#[derive(Clone, Copy, Debug)]
+#[derive(Clone, Copy)]
 pub struct Context {
     pub section: Section,
     pub above: Above,

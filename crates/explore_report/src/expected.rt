@@ -11,7 +11,7 @@ use command_core::Answer;
 use std::alloc::{AllocError, Global};
 
 /// What is wrong with an answer.
-#[derive(Clone, Copy, Debug, PartialEq, Eq)]
+#[derive(Clone, Copy)]
 pub(crate) enum Finding {
     /// It is none of the answers that are expected.
     Unexpected,

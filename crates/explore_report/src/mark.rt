@@ -11,7 +11,7 @@ use line_core::{Body, body_of, strip_prefix, without_spaces};
 use point_core::Name;
 
 /// What a line says to the reader of a plan.
-#[derive(Clone, Copy, Debug)]
+#[derive(Clone, Copy)]
 pub enum Mark {
     /// `#client NAME`: the lines below are this client's.
     Client(Name),

@@ -10,7 +10,7 @@ use command_core::Command;
 use point_core::Name;
 
 /// The first line that makes a script no plan, and why.
-#[derive(Clone, Copy, Debug)]
+#[derive(Clone, Copy)]
 pub struct Mistake {
     /// The line's number, from 1.
     pub line: usize,

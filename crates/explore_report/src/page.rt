@@ -1,7 +1,7 @@
 //! `Page`: a text that is put together piece by piece. Reports and scripts of schedules are written on one.
 use itoa::Buffer;
 use point_core::Refusal;
-use std::alloc::{AllocError, Global};
+use std::alloc::Global;
 use std::ascii::escape_default;
 
 /// A text so far.
@@ -27,7 +27,7 @@ impl Page {
     /// Bytes as they are.
     pub(crate) fn bytes(&mut self, bytes: &[u8]) {
         if self.text.extend_from_slice(bytes).is_err() {
-            self.is_short = true;
+            self.fail();
         }
     }
 
@@ -36,14 +36,31 @@ impl Page {
         self.text(digits.format(number));
     }
 
-    pub(crate) fn count(&mut self, count: usize) {
+    /// A text, and a number behind it.
+    pub(crate) fn counted(&mut self, text: &str, count: usize) {
+        self.text(text);
         self.number(count as u64);
     }
 
     /// Lines with `; ` between them, and bytes other than printable ASCII as in a Rust literal.
     pub(crate) fn escaped(&mut self, lines: &[u8]) {
-        if push_escaped(lines.strip_suffix(b"\n").unwrap_or(lines), &mut self.text).is_err() {
-            self.is_short = true;
+        for byte in lines.strip_suffix(b"\n").unwrap_or(lines) {
+            self.escaped_byte(*byte);
+        }
+    }
+
+    /// A single quote needs no escape between double ones.
+    fn escaped_byte(&mut self, byte: u8) {
+        match byte {
+            b'\'' => self.text("'"),
+            b'\n' => self.text("; "),
+            _ => self.escape(byte),
+        }
+    }
+
+    fn escape(&mut self, byte: u8) {
+        for escaped in escape_default(byte) {
+            self.bytes(&[escaped]);
         }
     }
 
@@ -54,13 +71,27 @@ impl Page {
         self.text("\"");
     }
 
-    /// A string of JSON, of a text that is printable ASCII.
-    pub(crate) fn string(&mut self, text: &[u8]) {
+    /// The lines as strings of JSON, with commas between them. They are printable ASCII.
+    pub(crate) fn strings(&mut self, lines: &[u8]) {
         self.text("\"");
-        if push_string(text, &mut self.text).is_err() {
-            self.is_short = true;
+        for byte in lines.strip_suffix(b"\n").unwrap_or(lines) {
+            self.string_byte(*byte);
         }
         self.text("\"");
+    }
+
+    fn string_byte(&mut self, byte: u8) {
+        match byte {
+            b'"' => self.text("\\\""),
+            b'\\' => self.text("\\\\"),
+            b'\n' => self.text("\",\""),
+            _ => self.bytes(&[byte]),
+        }
+    }
+
+    /// Remembers that memory was refused.
+    pub(crate) fn fail(&mut self) {
+        self.is_short = true;
     }
 
     /// A comma, if something is before it.
@@ -79,43 +110,5 @@ impl Page {
         } else {
             Ok(self.text)
         }
-    }
-}
-
-fn push_escaped(bytes: &[u8], text: &mut Vec<u8>) -> Result<(), AllocError> {
-    for byte in bytes {
-        push_byte(*byte, text)?;
-    }
-    Ok(())
-}
-
-/// A single quote needs no escape between double ones.
-fn push_byte(byte: u8, text: &mut Vec<u8>) -> Result<(), AllocError> {
-    match byte {
-        b'\'' => text.extend_from_slice(b"'"),
-        b'\n' => text.extend_from_slice(b"; "),
-        _ => push_escape(byte, text),
-    }
-}
-
-fn push_escape(byte: u8, text: &mut Vec<u8>) -> Result<(), AllocError> {
-    for escaped in escape_default(byte) {
-        text.push(escaped)?;
-    }
-    Ok(())
-}
-
-fn push_string(bytes: &[u8], text: &mut Vec<u8>) -> Result<(), AllocError> {
-    for byte in bytes {
-        push_in_string(*byte, text)?;
-    }
-    Ok(())
-}
-
-fn push_in_string(byte: u8, text: &mut Vec<u8>) -> Result<(), AllocError> {
-    match byte {
-        b'"' => text.extend_from_slice(b"\\\""),
-        b'\\' => text.extend_from_slice(b"\\\\"),
-        _ => text.extend_from_slice(&[byte]),
     }
 }

@@ -112,10 +112,7 @@ impl<'a> PlanScript<'a> {
     }
 
     pub(crate) fn command_of(&self, index: usize) -> Option<Command> {
-        match self.rows.get(index)?.mark {
-            Mark::Command(command) => Some(command),
-            _ => None,
-        }
+        self.rows.get(index)?.command()
     }
 
     /// The name of the client whose line the row is; the section's word, if it is no client's.

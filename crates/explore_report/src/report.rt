@@ -7,7 +7,7 @@ ghost use Rattle.explore_report.specs.Report.{IsReport, findings_in, is_wrong, o
 
 use crate::case::{Case, cases_of};
 use crate::plan_script::PlanScript;
-use crate::schedule::run_all;
+use crate::schedule::answers_of;
 use crate::{objects, text, witness};
 use command_core::Answer;
 use explore_core::Found;
@@ -15,7 +15,7 @@ use point_core::Refusal;
 use std::alloc::Global;
 
 /// The outcome of an exploration.
-#[derive(Clone, Copy, Debug, PartialEq, Eq)]
+#[derive(Clone, Copy)]
 pub enum Outcome {
     /// Every schedule was covered, and nothing was found.
     Clean,
@@ -112,18 +112,26 @@ impl<'a> Report<'a> {
     /// The answers of a row.
     pub(crate) fn cases_of(&self, row: usize) -> &[Case] {
         let cases = self.cases.as_slice();
-        let first = cases.iter().position(|case| case.row == row);
-        let below = cases.get(first.unwrap_or(cases.len())..).unwrap_or(&[]);
-        let count = below.iter().position(|case| case.row != row);
-        &below[..count.unwrap_or(below.len())]
+        let below = cases.get(front(cases, row, false)..).unwrap_or(&[]);
+        below.get(..front(below, row, true)).unwrap_or(below)
     }
+}
+
+/// How many cases at the front are all of the row, or all of other rows.
+fn front(cases: &[Case], row: usize, is_of: bool) -> usize {
+    for (place, case) in cases.iter().enumerate() {
+        if (case.row == row) != is_of {
+            return place;
+        }
+    }
+    cases.len()
 }
 
 /// The answers of the commands above the first client, which no schedule changes.
 fn first_answers(alloc: Global, plan: &PlanScript<'_>) -> Result<Vec<Answer>, Refusal>
     ensures answers { IfOk result (λ answers. answers.items ≡ answers_along empty_world plan.now.plan.first) }
 {
-    let (_, answers) = run_all(alloc, plan.plan.first.as_slice())?;
+    let answers = answers_of(alloc, plan.plan.first.as_slice())?;
     Ok(answers)
 }
 

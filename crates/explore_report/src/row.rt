@@ -12,7 +12,7 @@ use command_core::Command;
 use std::alloc::{AllocError, Global};
 
 /// A line of a plan that says something.
-#[derive(Clone, Copy, Debug)]
+#[derive(Clone, Copy)]
 pub struct Row {
     /// Its number, from 1.
     pub number: usize,

@@ -1,13 +1,15 @@
 //! `Making`: the rows of a plan in the order in which a schedule makes them. Reports and scripts of schedules go by it.
-ghost use Rattle.std.specs.Prelude.{◌≡◌, All, IfOk, IsTrue, false};
+ghost use Rattle.std.specs.Prelude.{◌≡◌, [], All, IfOk, IsTrue, false};
+ghost use Rattle.desk_core.specs.theorem.History.{AreAnswers};
 ghost use Rattle.desk_core.specs.theorem.World.{empty_world};
 ghost use Rattle.explore_core.specs.Alike.{answers_along};
 ghost use Rattle.explore_report.specs.Making.{IsNotMemory};
 
 use crate::context::Section;
 use crate::plan_script::PlanScript;
+use crate::row::push_commands;
 use command_core::{Answer, Command};
-use desk_core::{Desk, run};
+use desk_core::run;
 use point_core::Refusal;
 use std::alloc::{AllocError, Global};
 
@@ -27,21 +29,19 @@ impl Making {
         plan: &PlanScript<'_>,
         schedule: &[usize],
     ) -> Result<Making, AllocError> {
+        let made = vec![in alloc; 0; plan.client_count()]?;
         let mut making = Making {
             rows: Vec::new(alloc),
-            made: Vec::new(alloc),
+            made,
         };
-        making.push_section(plan, Section::First)?;
-        making.begin_clients(plan)?;
-        for client in schedule {
-            making.push_line(plan, *client)?;
-        }
+        making.push_all(plan, schedule)?;
         Ok(making)
     }
 
-    fn begin_clients(&mut self, plan: &PlanScript<'_>) -> Result<(), AllocError> {
-        for _ in 0..plan.client_count() {
-            self.made.push(0)?;
+    fn push_all(&mut self, plan: &PlanScript<'_>, schedule: &[usize]) -> Result<(), AllocError> {
+        self.push_section(plan, Section::First)?;
+        for client in schedule {
+            self.push_line(plan, *client)?;
         }
         Ok(())
     }
@@ -52,12 +52,7 @@ impl Making {
         plan: &PlanScript<'_>,
         section: Section,
     ) -> Result<(), AllocError> {
-        for (index, row) in plan.rows.as_slice().iter().enumerate() {
-            if row.command_in(section).is_some() {
-                self.rows.push(index)?;
-            }
-        }
-        Ok(())
+        push_commands(plan.rows.as_slice(), section, &mut self.rows)
     }
 
     /// The next line of a client.
@@ -81,49 +76,65 @@ impl Making {
         plan.row_at(Section::Client(client), *made)
     }
 
-    /// The rows of the lines that clients come to.
-    pub(crate) fn next_lines(
-        &self,
-        alloc: Global,
-        plan: &PlanScript<'_>,
-    ) -> Result<Vec<usize>, AllocError> {
-        let mut lines = Vec::new(alloc);
+    /// The lines that clients come to.
+    pub(crate) fn push_next(&mut self, plan: &PlanScript<'_>) -> Result<(), AllocError> {
         for client in 0..plan.client_count() {
-            if let Some(index) = self.next_of(plan, client) {
-                lines.push(index)?;
-            }
+            self.push_line(plan, client)?;
         }
-        Ok(lines)
+        Ok(())
     }
 
-    /// Makes the rows on a fresh desk.
-    ///
-    /// Fails with `Memory` only, as `run_all`.
-    pub(crate) fn run(
+    /// Their commands.
+    pub(crate) fn commands(
         &self,
         alloc: Global,
         plan: &PlanScript<'_>,
-    ) -> Result<(Desk, Vec<Answer>), Refusal> {
-        let commands = commands_of(alloc, plan, self.rows.as_slice())?;
-        run_all(alloc, commands.as_slice())
+    ) -> Result<Vec<Command>, AllocError> {
+        let mut commands = Vec::new(alloc);
+        for index in self.rows.as_slice() {
+            if let Some(command) = plan.command_of(*index) {
+                commands.push(command)?;
+            }
+        }
+        Ok(commands)
+    }
+
+    /// The answers to them on a fresh desk.
+    ///
+    /// Fails with `Memory` only, as `answers_of`.
+    pub(crate) fn answers(
+        &self,
+        alloc: Global,
+        plan: &PlanScript<'_>,
+    ) -> Result<Vec<Answer>, Refusal> {
+        let commands = self.commands(alloc, plan)?;
+        answers_of(alloc, commands.as_slice())
     }
 }
 
-/// Makes the commands on a fresh desk.
+/// The answers to the commands on a fresh desk.
 ///
 /// Fails with `Memory` only, also if a command was refused memory, since no schedule of the plan answers so.
-pub(crate) fn run_all(alloc: Global, commands: &[Command]) -> Result<(Desk, Vec<Answer>), Refusal>
-    ensures answers { IfOk result (λ made. made.1.items ≡ answers_along empty_world commands.now) }
+pub(crate) fn answers_of(alloc: Global, commands: &[Command]) -> Result<Vec<Answer>, Refusal>
+    ensures answers { IfOk result (λ answers. answers.items ≡ answers_along empty_world commands.now) }
 {
-    let made = run(alloc, commands)?;
-    if lacks_memory(made.1.as_slice()) {
+    let answers = all_answers(alloc, commands)?;
+    if lacks_memory(answers.as_slice()) {
         return Err(Refusal::Memory);
     }
-    Ok(made)
+    Ok(answers)
+}
+
+/// The answers to the commands, also those that were refused memory.
+fn all_answers(alloc: Global, commands: &[Command]) -> Result<Vec<Answer>, Refusal>
+    ensures answers { IfOk result (λ answers. AreAnswers [] commands.now answers.items) }
+{
+    let (_, answers) = run(alloc, commands)?;
+    Ok(answers)
 }
 
 /// Whether a command was refused memory.
-fn lacks_memory(answers: &[Answer]) -> bool
+pub(crate) fn lacks_memory(answers: &[Answer]) -> bool
     ensures { result ≡ false → All IsNotMemory answers.now }
 {
     for answer in answers {
@@ -141,18 +152,4 @@ fn is_memory(answer: &Answer) -> bool
         Answer::Refused(refusal) => *refusal == Refusal::Memory,
         _ => false,
     }
-}
-
-fn commands_of(
-    alloc: Global,
-    plan: &PlanScript<'_>,
-    rows: &[usize],
-) -> Result<Vec<Command>, AllocError> {
-    let mut commands = Vec::new(alloc);
-    for index in rows {
-        if let Some(command) = plan.command_of(*index) {
-            commands.push(command)?;
-        }
-    }
-    Ok(commands)
 }

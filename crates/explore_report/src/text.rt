@@ -7,10 +7,9 @@ use crate::plan_script::PlanScript;
 use crate::report::Report;
 use crate::row::Row;
 use crate::schedule::Making;
-use crate::why::add_why;
+use crate::why::{Form, add_stuck_lines, add_why};
 use desk_core::Desk;
 use point_core::Refusal;
-use std::alloc::AllocError;
 
 /// The most answers that are listed of a line.
 const LISTED: usize = 6;
@@ -24,8 +23,8 @@ pub(crate) fn text_of(
     everything: bool,
 ) -> Result<Vec<u8>, Refusal> {
     let mut page = Page::new(report.alloc);
-    add_stuck(report, name, &mut page)?;
-    add_findings(report, name, &mut page)?;
+    add_stuck(report, name, &mut page);
+    add_findings(report, name, &mut page);
     add_answers(report, name, everything, &mut page);
     if report.found.covered {
         add_unreached(report, name, &mut page);
@@ -37,23 +36,21 @@ pub(crate) fn text_of(
 }
 
 /// The schedule that gets stuck, and why each client waits.
-fn add_stuck(report: &Report<'_>, name: &str, page: &mut Page) -> Result<(), Refusal> {
+fn add_stuck(report: &Report<'_>, name: &str, page: &mut Page) {
     let Some(schedule) = &report.found.stuck else {
-        return Ok(());
+        return;
     };
-    let making = Making::of(report.alloc, report.plan, schedule.as_slice())?;
     add_stuck_head(report, name, schedule.len(), page);
-    add_stuck_lines(report, name, &making, page)?;
-    add_making(report.plan, making.rows.as_slice(), page);
-    Ok(())
+    match Making::of(report.alloc, report.plan, schedule.as_slice()) {
+        Ok(making) => add_stuck_making(report, name, &making, page),
+        Err(_) => page.fail(),
+    }
 }
 
 fn add_stuck_head(report: &Report<'_>, name: &str, steps: usize, page: &mut Page) {
     page.text(name);
-    page.text(": stuck after ");
-    page.count(steps);
-    page.text(" of ");
-    page.count(report.plan.line_count());
+    page.counted(": stuck after ", steps);
+    page.counted(" of ", report.plan.line_count());
     page.text(" steps");
     if report.found.covered {
         page.text("; no schedule gets stuck sooner");
@@ -61,33 +58,20 @@ fn add_stuck_head(report: &Report<'_>, name: &str, steps: usize, page: &mut Page
     page.text(" (schedule 1)\n");
 }
 
-/// The lines at which the clients wait.
-fn add_stuck_lines(
-    report: &Report<'_>,
-    name: &str,
-    making: &Making,
-    page: &mut Page,
-) -> Result<(), Refusal> {
-    let next = making.next_lines(report.alloc, report.plan)?;
-    let (mut desk, _) = making.run(report.alloc, report.plan)?;
-    add_all_waiting(report, name, next.as_slice(), &mut desk, page);
-    Ok(())
-}
-
-fn add_all_waiting(
-    report: &Report<'_>,
-    name: &str,
-    next: &[usize],
-    desk: &mut Desk,
-    page: &mut Page,
-) {
-    for index in next {
-        add_waiting(report, name, *index, desk, page);
-    }
+/// The lines at which the clients wait, and the lines that are made before.
+fn add_stuck_making(report: &Report<'_>, name: &str, making: &Making, page: &mut Page) {
+    add_stuck_lines(report, making, Form::Text(name), page);
+    add_making(report.plan, making.rows.as_slice(), page);
 }
 
 /// A line at which a client waits. The desk refuses it, and so stays as it is.
-fn add_waiting(report: &Report<'_>, name: &str, index: usize, desk: &mut Desk, page: &mut Page) {
+pub(crate) fn add_waiting(
+    report: &Report<'_>,
+    name: &str,
+    index: usize,
+    desk: &mut Desk,
+    page: &mut Page,
+) {
     if let Some(command) = report.plan.command_of(index) {
         add_head(report.plan, name, index, page);
         add_why(desk, &command, page);
@@ -101,8 +85,7 @@ fn add_head(plan: &PlanScript<'_>, name: &str, index: usize, page: &mut Page) {
         return;
     };
     page.text(name);
-    page.text(":");
-    page.count(row.number);
+    page.counted(":", row.number);
     page.text(": ");
     page.bytes(plan.client_of(row));
     page.text(": ");
@@ -165,25 +148,22 @@ impl Run {
     fn add(&self, plan: &PlanScript<'_>, front: &str, page: &mut Page) {
         page.text(front);
         page.bytes(plan.client_name(self.client));
-        page.text(" ");
-        page.count(self.first);
+        page.counted(" ", self.first);
         if self.last != self.first {
-            page.text("..");
-            page.count(self.last);
+            page.counted("..", self.last);
         }
     }
 }
 
 /// Each answer that is wrong, with the number of its schedule.
-fn add_findings(report: &Report<'_>, name: &str, page: &mut Page) -> Result<(), Refusal> {
+fn add_findings(report: &Report<'_>, name: &str, page: &mut Page) {
     let mut number = report.stuck();
     for case in report.cases.as_slice() {
         if let Some(finding) = case.finding {
             number = number.saturating_add(1);
-            add_finding(report, name, case, finding, number, page)?;
+            add_finding(report, name, case, finding, number, page);
         }
     }
-    Ok(())
 }
 
 fn add_finding(
@@ -193,7 +173,7 @@ fn add_finding(
     finding: Finding,
     number: usize,
     page: &mut Page,
-) -> Result<(), AllocError> {
+) {
     add_head(report.plan, name, case.row, page);
     match finding {
         Finding::Unexpected => {
@@ -208,24 +188,26 @@ fn add_finding(
         }
     }
     add_others(report, case, page);
-    page.text(" (schedule ");
-    page.count(number);
+    page.counted(" (schedule ", number);
     page.text(")\n");
-    let making = case.making(report.alloc, report.plan)?;
-    add_making(report.plan, making.rows.as_slice(), page);
-    Ok(())
+    match case.making(report.alloc, report.plan) {
+        Ok(making) => add_making(report.plan, making.rows.as_slice(), page),
+        Err(_) => page.fail(),
+    }
 }
 
 /// The answers that are expected of a row.
 fn add_expected(plan: &PlanScript<'_>, index: usize, page: &mut Page) {
-    let mut front = "\"";
-    for row in plan.expectations(index) {
-        if row.begins_answer() && front != "\"" {
-            front = "\" or \"";
+    page.text("\"");
+    for (place, note) in plan.expectations(index).iter().enumerate() {
+        if place > 0 {
+            page.text(if note.begins_answer() {
+                "\" or \""
+            } else {
+                "; "
+            });
         }
-        page.text(front);
-        page.escaped(plan.expected(row));
-        front = "; ";
+        page.escaped(plan.expected(note));
     }
     page.text("\"");
 }
@@ -270,29 +252,39 @@ fn add_answers(report: &Report<'_>, name: &str, everything: bool, page: &mut Pag
 }
 
 fn depends(cases: &[Case]) -> bool {
-    cases.len() > 1 && cases.iter().all(|case| case.finding.is_none())
+    for case in cases {
+        if case.finding.is_some() {
+            return false;
+        }
+    }
+    cases.len() > 1
 }
 
-/// The answers of a line. While schedules are left, its one answer is only the one that was seen.
+/// The answers of a line.
 fn add_listed(cases: &[Case], is_covered: bool, page: &mut Page) {
-    let mut front = if cases.len() > 1 {
+    page.text(front_of(cases.len(), is_covered));
+    for (place, case) in cases.iter().enumerate() {
+        if place < LISTED {
+            page.text(if place > 0 { " or " } else { "" });
+            page.quoted(case.text.as_slice());
+        }
+    }
+    if cases.len() > LISTED {
+        page.counted(" or ", cases.len() - LISTED);
+        page.text(" more");
+    }
+    page.text("\n");
+}
+
+/// What is said of a line with this many answers. While schedules are left, its one answer is only the one that was seen.
+fn front_of(answers: usize, is_covered: bool) -> &'static str {
+    if answers > 1 {
         "depends on the schedule: "
     } else if is_covered {
         "always "
     } else {
         "so far "
-    };
-    for case in cases.iter().take(LISTED) {
-        page.text(front);
-        page.quoted(case.text.as_slice());
-        front = " or ";
     }
-    if cases.len() > LISTED {
-        page.text(" or ");
-        page.count(cases.len() - LISTED);
-        page.text(" more");
-    }
-    page.text("\n");
 }
 
 /// The lines of clients that no schedule makes.
@@ -306,21 +298,18 @@ fn add_unreached(report: &Report<'_>, name: &str, page: &mut Page) {
 }
 
 fn add_totals(report: &Report<'_>, page: &mut Page) {
-    page.text("covered: every schedule; clients: ");
-    page.count(report.plan.client_count());
-    page.text(", lines: ");
-    page.count(report.plan.line_count());
-    page.text(", states: ");
-    page.count(report.found.states);
-    page.text(", stuck: ");
-    page.count(report.stuck());
-    page.text(", findings: ");
-    page.count(report.findings());
+    page.counted(
+        "covered: every schedule; clients: ",
+        report.plan.client_count(),
+    );
+    page.counted(", lines: ", report.plan.line_count());
+    page.counted(", states: ", report.found.states);
+    page.counted(", stuck: ", report.stuck());
+    page.counted(", findings: ", report.findings());
     page.text("\n");
 }
 
 fn add_bound(report: &Report<'_>, page: &mut Page) {
-    page.text("not covered: stopped after ");
-    page.count(report.found.states);
+    page.counted("not covered: stopped after ", report.found.states);
     page.text(" states; what is above was found in some of the schedules\n");
 }

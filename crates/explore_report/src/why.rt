@@ -1,15 +1,86 @@
 //! Why a client waits: what the desk refuses. The text of a report and its JSON say why for each client of a schedule that
 //! gets stuck.
 use crate::page::Page;
+use crate::report::Report;
+use crate::schedule::{Making, lacks_memory};
+use crate::{objects, text};
 use command_core::{Answer, Command};
-use desk_core::Desk;
+use desk_core::{Desk, run};
 use point_core::{Name, Point};
+
+/// A form of a report.
+#[derive(Clone, Copy)]
+pub(crate) enum Form<'a> {
+    /// The text, on a plan in the file of that name.
+    Text(&'a str),
+    Json,
+}
+
+/// The lines at which the clients wait once the schedule is made.
+pub(crate) fn add_stuck_lines(
+    report: &Report<'_>,
+    making: &Making,
+    form: Form<'_>,
+    page: &mut Page,
+) {
+    let Ok(commands) = making.commands(report.alloc, report.plan) else {
+        page.fail();
+        return;
+    };
+    let Ok(made) = run(report.alloc, commands.as_slice()) else {
+        page.fail();
+        return;
+    };
+    let (mut desk, answers) = made;
+    if lacks_memory(answers.as_slice()) {
+        page.fail();
+    }
+    drop(answers);
+    add_all_waiting(report, making, form, &mut desk, page);
+}
+
+fn add_all_waiting(
+    report: &Report<'_>,
+    making: &Making,
+    form: Form<'_>,
+    desk: &mut Desk,
+    page: &mut Page,
+) {
+    let mut follows = false;
+    for client in 0..report.plan.client_count() {
+        if let Some(index) = making.next_of(report.plan, client) {
+            add_waiting(report, index, form, follows, desk, page);
+            follows = true;
+        }
+    }
+}
+
+fn add_waiting(
+    report: &Report<'_>,
+    index: usize,
+    form: Form<'_>,
+    follows: bool,
+    desk: &mut Desk,
+    page: &mut Page,
+) {
+    match form {
+        Form::Text(name) => text::add_waiting(report, name, index, desk, page),
+        Form::Json => {
+            page.comma(follows);
+            objects::add_waiting(report, index, desk, page);
+        }
+    }
+}
 
 /// Adds why the desk refuses a command.
 pub(crate) fn add_why(desk: &mut Desk, command: &Command, page: &mut Page) {
     match command {
         Command::Wait(file) => add_wait(desk, file, page),
-        _ => add_refusal(&desk.step(*command), page),
+        _ => {
+            let answer = desk.step(*command);
+            add_refusal(&answer, page);
+            drop(answer);
+        }
     }
 }
 

@@ -11,31 +11,44 @@ use report_core::print;
 use std::alloc::Global;
 
 pub(crate) fn script_of(report: &Report<'_>, number: usize) -> Result<Option<Vec<u8>>, Refusal> {
+    let mut page = Page::new(report.alloc);
+    if !add_script(report, number, &mut page) {
+        return Ok(None);
+    }
+    let script = page.finish()?;
+    Ok(Some(script))
+}
+
+/// Whether the report shows a schedule of that number.
+fn add_script(report: &Report<'_>, number: usize, page: &mut Page) -> bool {
     match &report.found.stuck {
-        Some(schedule) if number == 1 => Ok(Some(stuck_script(report, schedule.as_slice())?)),
-        _ => finding_script(report, number),
+        Some(schedule) if number == 1 => {
+            add_stuck(report, schedule.as_slice(), page);
+            true
+        }
+        _ => add_finding(report, number, page),
     }
 }
 
 /// A schedule that gets stuck, with the lines at which the clients wait.
-fn stuck_script(report: &Report<'_>, schedule: &[usize]) -> Result<Vec<u8>, Refusal> {
-    let mut page = Page::new(report.alloc);
-    add_stuck(report, schedule, &mut page)?;
-    page.finish()
+fn add_stuck(report: &Report<'_>, schedule: &[usize], page: &mut Page) {
+    page.text("# a shortest schedule that gets stuck\n");
+    match Making::of(report.alloc, report.plan, schedule) {
+        Ok(mut making) => add_stuck_steps(report, &mut making, page),
+        Err(_) => page.fail(),
+    }
 }
 
-fn add_stuck(report: &Report<'_>, schedule: &[usize], page: &mut Page) -> Result<(), Refusal> {
-    page.text("# a shortest schedule that gets stuck\n");
-    let mut making = Making::of(report.alloc, report.plan, schedule)?;
+fn add_stuck_steps(report: &Report<'_>, making: &mut Making, page: &mut Page) {
     let going = making.rows.len();
-    let mut next = making.next_lines(report.alloc, report.plan)?;
-    making.rows.append(&mut next)?;
-    add_steps(report, &making, going, page)?;
-    Ok(())
+    if making.push_next(report.plan).is_err() {
+        page.fail();
+    }
+    add_steps(report, making, going, page);
 }
 
 /// The schedule of an answer that is wrong.
-fn finding_script(report: &Report<'_>, number: usize) -> Result<Option<Vec<u8>>, Refusal> {
+fn add_finding(report: &Report<'_>, number: usize, page: &mut Page) -> bool {
     let mut reached = report.stuck();
     for case in report.cases.as_slice() {
         if case.finding.is_none() {
@@ -43,41 +56,40 @@ fn finding_script(report: &Report<'_>, number: usize) -> Result<Option<Vec<u8>>,
         }
         reached = reached.saturating_add(1);
         if reached == number {
-            return Ok(Some(case_script(report, case)?));
+            add_case(report, case, page);
+            return true;
         }
     }
-    Ok(None)
+    false
 }
 
-fn case_script(report: &Report<'_>, case: &Case) -> Result<Vec<u8>, Refusal> {
-    let mut page = Page::new(report.alloc);
-    add_case(report, case, &mut page)?;
-    page.finish()
-}
-
-fn add_case(report: &Report<'_>, case: &Case, page: &mut Page) -> Result<(), Refusal> {
-    page.text("# a schedule that gives line ");
-    page.count(report.plan.number_of(case.row));
+fn add_case(report: &Report<'_>, case: &Case, page: &mut Page) {
+    page.counted(
+        "# a schedule that gives line ",
+        report.plan.number_of(case.row),
+    );
     page.text(" a wrong answer\n");
-    let mut making = case.making(report.alloc, report.plan)?;
-    if report.plan.section_of(case.row).is_same(Section::Last) {
-        making.push_section(report.plan, Section::Last)?;
+    match case.making(report.alloc, report.plan) {
+        Ok(mut making) => add_case_steps(report, case, &mut making, page),
+        Err(_) => page.fail(),
+    }
+}
+
+fn add_case_steps(report: &Report<'_>, case: &Case, making: &mut Making, page: &mut Page) {
+    let is_last = report.plan.section_of(case.row).is_same(Section::Last);
+    if is_last && making.push_section(report.plan, Section::Last).is_err() {
+        page.fail();
     }
     let going = making.rows.len();
-    add_steps(report, &making, going, page)?;
-    Ok(())
+    add_steps(report, making, going, page);
 }
 
 /// Each command with its answer; the commands from `going` on are refused.
-fn add_steps(
-    report: &Report<'_>,
-    making: &Making,
-    going: usize,
-    page: &mut Page,
-) -> Result<(), Refusal> {
-    let (_, answers) = making.run(report.alloc, report.plan)?;
-    add_answers(report, making, answers.as_slice(), going, page)?;
-    Ok(())
+fn add_steps(report: &Report<'_>, making: &Making, going: usize, page: &mut Page) {
+    match making.answers(report.alloc, report.plan) {
+        Ok(answers) => add_answers(report, making, answers.as_slice(), going, page),
+        Err(_) => page.fail(),
+    }
 }
 
 fn add_answers(
@@ -86,53 +98,43 @@ fn add_answers(
     answers: &[Answer],
     going: usize,
     page: &mut Page,
-) -> Result<(), Refusal> {
+) {
     for (place, answer) in answers.iter().enumerate() {
         if let Some(index) = making.rows.get(place) {
-            add_step(
-                report.alloc,
-                report.plan,
-                *index,
-                place >= going,
-                answer,
-                page,
-            )?;
+            add_step(report.plan, *index, place >= going, page);
+            add_answer(report.alloc, answer, page);
         }
     }
-    Ok(())
 }
 
-fn add_step(
-    alloc: Global,
-    plan: &PlanScript<'_>,
-    index: usize,
-    is_stuck: bool,
-    answer: &Answer,
-    page: &mut Page,
-) -> Result<(), Refusal> {
+fn add_step(plan: &PlanScript<'_>, index: usize, is_stuck: bool, page: &mut Page) {
     let Some(row) = plan.rows.get(index) else {
-        return Ok(());
+        return;
     };
-    let end = if is_stuck { ", waits\n" } else { "\n" };
     page.text("# ");
     page.bytes(plan.client_of(row));
-    page.text(", line ");
-    page.count(row.number);
-    page.text(end);
+    page.counted(", line ", row.number);
+    page.text(if is_stuck { ", waits\n" } else { "\n" });
     page.bytes(plan.text(row));
     page.text("\n");
+}
+
+fn add_answer(alloc: Global, answer: &Answer, page: &mut Page) {
     let mut text = Vec::new(alloc);
-    print(0, answer, &mut text)?;
-    add_notes(text.as_slice(), page);
-    Ok(())
+    match print(0, answer, &mut text) {
+        Ok(()) => add_notes(text.as_slice(), page),
+        Err(_) => page.fail(),
+    }
 }
 
 /// The lines of an answer as notes that expect them.
 fn add_notes(text: &[u8], page: &mut Page) {
-    let lines = text.strip_suffix(b"\n").unwrap_or(text);
-    for line in lines.split(|byte| *byte == b'\n') {
-        page.text("#= ");
-        page.bytes(line);
-        page.text("\n");
+    page.text("#= ");
+    for byte in text.strip_suffix(b"\n").unwrap_or(text) {
+        page.bytes(&[*byte]);
+        if *byte == b'\n' {
+            page.text("#= ");
+        }
     }
+    page.text("\n");
 }

@@ -1,9 +1,0 @@
-use denote.Text.{Utf8}
-use denote.Shadow.{shadow}
-use Rattle.explore_report.proofs.text.add_listed.Given as goal
-
-abbrev pub invariant-loop-case : goal.invariant-loop-case
-invariant-loop-case l =
-    (goal.iterator-loop-case).can_next l.case-iterator ×
-    (goal.iterator-loop-case).is_finite l.case-iterator ×
-    shadow (Utf8 l.front)
