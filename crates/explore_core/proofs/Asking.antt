@@ -7,18 +7,20 @@ use Rattle.std.specs.Cmp.Lexicographic.{nat_list_eq_equiv}
 use Rattle.std.proofs.lemmas.Bool.{false≢true}
 use Rattle.std.proofs.lemmas.List.Elements.{All-nil, All-cons, All-head, All-tail}
 use Rattle.std.proofs.lemmas.List.{take_more}
-use Rattle.std.proofs.lemmas.Option.{same_Some, none-some}
+use Rattle.std.proofs.lemmas.Option.{same_Some, none-some, slice_get_read}
 use Rattle.command_core.specs.declared.command.Command.{Command}
 use Rattle.command_core.specs.declared.command.Command.TheVariants as command
+use Rattle.syncfile_core.specs.Files.{names_of as file_names}
 use Rattle.desk_core.specs.Keeping.{points_at}
 use Rattle.desk_core.specs.theorem.Desk.{DeskState}
 use Rattle.explore_core.specs.declared.look.FileLook.{FileLook}
+use Rattle.explore_core.specs.declared.look.Look.{Look}
 use Rattle.explore_core.specs.declared.plan.Step.{Step}
 use Rattle.explore_core.specs.Alike.{AsksOnly}
 use Rattle.explore_core.specs.Covering.{MayAsk}
 use Rattle.explore_core.specs.Found.{CanBeExplored}
 use Rattle.explore_core.specs.Schedule.{Lines}
-use Rattle.explore_core.specs.Search.{asked_file, asks_for, client_asks, is_asked, is_name, has_name, Adds, is_to_come, file_look}
+use Rattle.explore_core.specs.Search.{asked_file, asks_for, client_asks, is_asked, is_name, has_name, Adds, is_to_come, file_look, Shows}
 
 or-left : (a b : Bool) → a ≡ true → (a || b) ≡ true
 or-left true b is = refl
@@ -79,6 +81,17 @@ any-push : {X : Type 0} (p : X → Bool) (xs : List X) (x : X) → list_any p (x
 any-push p [] x = or-nil (p x)
 any-push p (y ∷ ys) x = ap (λ b. p y || b) (any-push p ys x) ∙ sym (or-assoc (p y) (list_any p ys) (p x))
 
+-- a file among the names, as they are looked through
+
+pub has-at : (names : List (List ℕ)) (file : List ℕ) (i : ℕ) (name : List ℕ) → i < length names → name ≡ get_or names i name → is_name file name ≡ true → has_name names file ≡ true
+has-at names file i name low at is = any-at (is_name file) names i name (slice_get_read names (length names) i name refl low at) is
+
+pub has-none : (names : List (List ℕ)) (file : List ℕ) (i : ℕ) (name : List ℕ) → i < length names → name ≡ get_or names i name
+    → has_name (take i names) file ≡ false → is_name file name ≡ false → has_name (take (i + 1) names) file ≡ false
+has-none names file i name low at before here =
+    let more = take_more names i name low ∙ ap (λ d. take i names ++ d ∷ []) (sym at) in
+    ap (λ ns. has_name ns file) more ∙ any-push (is_name file) (take i names) name ∙ ap (λ b. b || is_name file name) before ∙ here
+
 pub Adds-none : (names : List (List ℕ)) → Adds (λ name. false) names names
 Adds-none names = λ name. sym (or-nil (has_name names name))
 
@@ -118,3 +131,11 @@ looks-same asked other d is [] = refl
 looks-same asked other d is (name ∷ names) =
     let look : Bool → FileLook = λ b. record { name = name; points = if b then points_at d.files name else filter (is_to_come d.timelines) (points_at d.files name) } in
     ap (λ (l : FileLook). l ∷ map (file_look asked d) names) (ap look (is name)) ∙ ap (λ ls. file_look other d name ∷ ls) (looks-same asked other d is names)
+
+pub Shows-same : (asked other : List ℕ → Bool) {look : Look} {d : DeskState} → ((name : List ℕ) → asked name ≡ other name) → Shows asked look d → Shows other look d
+Shows-same asked other {look} {d} is shows = record {
+  timelines = shows.timelines;
+  files = shows.files ∙ looks-same asked other d is (file_names d.files);
+  distinct = shows.distinct;
+  buffers = shows.buffers;
+}

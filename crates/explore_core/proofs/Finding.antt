@@ -31,9 +31,6 @@ pub All-next : {X : Type 0} (P : X → Type 0) (xs : List X) (i : ℕ) (x : X) �
 All-next P xs i x low at before here =
     subst (All P) (sym (take_more xs i x low ∙ ap (λ d. take i xs ++ d ∷ []) (sym at))) (All-push P (take i xs) x before here)
 
-pub Contains-item : {X : Type 0} (xs : List X) (i : ℕ) (x : X) → i < length xs → x ≡ get_or xs i x → Contains xs x
-Contains-item xs i x low at = (i, low, sym at)
-
 -- an answer that is recorded
 
 Lists-grow : {old new : List Given} {client place : ℕ} {answer : Answer} {schedule : Schedule} → Records old new client place answer schedule → (c p : ℕ) (a : Answer) → Lists old c p a → Lists new c p a

@@ -6,8 +6,8 @@ use Rattle.desk_core.specs.theorem.Answer.{is_refused}
 use Rattle.desk_core.specs.theorem.Desk.{HasHistory}
 use Rattle.explore_core.specs.declared.plan.Step.{Step}
 use Rattle.explore_core.specs.declared.position.Position.{Position}
-use Rattle.explore_core.specs.Schedule.{Lines, Standing, answer_now, history_with, next_line, after_line, made_line, after_one}
-use Rattle.explore_core.specs.Search.{IsMade, IsAt, standing_after}
+use Rattle.explore_core.specs.Schedule.{Lines, Standing, answer_now, history_with, made_by, next_line, after_line, made_line, after_one}
+use Rattle.explore_core.specs.Search.{Answers, IsMade, IsAt, standing_after}
 
 module _ (plan : Lines) (now : Standing) (client : ℕ) (step : Step) (given : Answer) (old new : Position) (at : IsAt old now) (next : next_line plan now client ≡ Some step) (made : IsMade old.desk step.command given new.desk) where
   given-is : given ≡ answer_now now.history step.command
@@ -17,6 +17,18 @@ module _ (plan : Lines) (now : Standing) (client : ℕ) (step : Step) (given : A
   after-by held is =
       ap (made_line now client) next
       ∙ ap (λ (b : Bool). if not b then Some (after_line now client step) else None) (ap (λ (g : Answer). step.waits && is_refused g) (sym given-is) ∙ is)
+
+  pub none-held : (step.waits && is_refused given) ≡ true → after_one plan now client ≡ None
+  none-held held = after-by true held
+
+  pub answers-free : (place : ℕ) → made_by now client ≡ place → (step.waits && is_refused given) ≡ false → Answers plan now client place given
+  answers-free place here free = record {
+    at = here;
+    step = step;
+    next = next;
+    made = ap not (ap (λ (g : Answer). step.waits && is_refused g) (sym given-is) ∙ free);
+    answer = given-is;
+  }
 
   pub IsAt-held : (step.waits && is_refused given) ≡ true → new.made.items ≡ old.made.items → IsAt new (standing_after plan now client)
   IsAt-held held same =

@@ -1,5 +1,5 @@
 -- What a client does at a state, and what the search keeps of it.
-use Rattle.std.proofs.Common.{◌≡◌, ℕ, ◌+◌, ◌<◌, ◌≤◌, Bool, true, false, refl, sym, ap, ◌∙◌, subst, List, [], ◌∷◌, ◌++◌, length, length-append, map, take, Option, None, Some, is_some, option_map, unwrap_or, if◌then◌else◌, get_or, replicate, arith}
+use Rattle.std.proofs.Common.{◌≡◌, ℕ, ◌+◌, ◌<◌, ◌≤◌, true, false, refl, sym, ap, ◌∙◌, subst, List, [], ◌∷◌, ◌++◌, length, length-append, map, take, Option, None, Some, is_some, option_map, unwrap_or, get_or, replicate, arith}
 use Rattle.std.specs.Prelude.{All, IsSome, IsOk, OnOk, Vec, Result, Ok, Err}
 use Rattle.std.specs.Global.{Global}
 use Rattle.std.proofs.lemmas.Bool.{false≢true}
@@ -10,16 +10,14 @@ use Rattle.command_core.specs.declared.command.Command.{Command}
 use Rattle.explore_core.specs.declared.plan.Step.{Step}
 use Rattle.explore_core.specs.declared.found.Found.{Found}
 use Rattle.explore_core.specs.declared.position.Position.{Position}
-use Rattle.explore_core.specs.declared.position.Turn.TheVariants.{Waits}
 use Rattle.explore_core.specs.declared.state.Seen.{Seen}
 use Rattle.explore_core.specs.declared.state.State.{State}
 use Rattle.explore_core.specs.declared.search.Move.{Move}
 use Rattle.explore_core.specs.declared.search.Move.TheVariants as move
-use Rattle.explore_core.specs.declared.search.Reached.TheVariants as reached
 use Rattle.explore_core.specs.declared.search.Stop.{Stop}
 use Rattle.explore_core.specs.Found.{CanBeExplored, IsTrue, IsAll, Lists}
-use Rattle.explore_core.specs.Schedule.{Lines, Standing, Schedule, history_with, history_along, next_line, after_line, made_line, after_one, ComesTo, IsAnswered}
-use Rattle.explore_core.specs.Search.{standing_of, standing_at, states_of, standing_after, Answers, Grows, IsAt, IsTurn, IsReached, IsState, IsSeen, IsTried, AreTried, AreMoves, Keeps, Records}
+use Rattle.explore_core.specs.Schedule.{Lines, Standing, Schedule, history_with, history_along, made_by, next_line, after_line, after_one, ComesTo, IsAnswered}
+use Rattle.explore_core.specs.Search.{standing_of, standing_at, states_of, standing_after, Answers, Grows, IsAt, IsReached, IsState, IsSeen, IsTried, AreTried, AreMoves, Keeps, Records}
 use Rattle.explore_core.proofs.Scheduling.{history_along-push}
 use Rattle.explore_core.proofs.Finding.{Grows-given, HasLike-kept, IsFollowed-none, IsFollowed-made, none-next, after-answers, comes-more}
 
@@ -35,61 +33,76 @@ first-state plan state none made = record {
 pub none-seen-yet : (plan : Lines) (depth : ℕ) (seen : List Seen) → seen ≡ [] → All (IsSeen plan depth) seen
 none-seen-yet plan depth seen none = subst (All (IsSeen plan depth)) (sym none) (All-nil (IsSeen plan depth))
 
--- what a client does, from its turn
+-- what a client does
 
-pub reached-waits : (plan : Lines) (now : Standing) (client : ℕ) → IsTurn plan now client Waits → (after_one plan now client ≡ None) × IsSome (next_line plan now client)
-reached-waits plan now client w = (
-  ap (made_line now client) w.1 ∙ ap (λ (b : Bool). if b then Some (after_line now client w.0) else None) w.2,
-  ap is_some w.1,
-)
-
-pub reached-made : (plan : Lines) (schedule : Schedule) {more : Schedule} {client place : ℕ} {given : Answer} {seen : Seen} {position : Position}
+pub reached-made : (plan : Lines) (schedule : Schedule) {client place : ℕ} {given : Answer} {seen : Seen} {position : Position}
     → ComesTo plan schedule (standing_of plan schedule) → Answers plan (standing_of plan schedule) client place given
-    → IsAt position (standing_after plan (standing_of plan schedule) client) → more ≡ schedule ++ client ∷ [] → seen.state.schedule.items ≡ more
-    → (ComesTo plan more (standing_of plan more) → IsAt position (standing_of plan more) → IsSeen plan (length more) seen)
-    → IsReached plan schedule client (reached.Made place given seen)
-reached-made plan schedule {more} {client} {place} {given} {seen} {position} comes a at is kept make =
+    → IsAt position (standing_after plan (standing_of plan schedule) client) → seen.state.schedule.items ≡ schedule ++ client ∷ []
+    → (ComesTo plan (schedule ++ client ∷ []) (standing_of plan (schedule ++ client ∷ [])) → IsAt position (standing_of plan (schedule ++ client ∷ []))
+    → IsSeen plan (length (schedule ++ client ∷ [])) seen)
+    → IsReached plan schedule client seen
+reached-made plan schedule {client} {place} {given} {seen} {position} comes a at kept make =
     let now = standing_of plan schedule in
+    let more : Schedule = schedule ++ client ∷ [] in
     let goes = after-answers a in
     let next = comes-more plan schedule client (after_line now client a.step) comes goes in
-    let to : standing_after plan now client ≡ standing_of plan more = ap (λ (o : Option Standing). unwrap_or o now) goes ∙ next.0 ∙ ap (standing_of plan) (sym is) in
-    let there = subst (λ (s : Schedule). ComesTo plan s (standing_of plan s)) (sym is) next.1 in
-    let size : length more ≡ length schedule + 1 = ap length is ∙ length-append schedule (client ∷ []) in
-    (a, goes ∙ ap Some (next.0 ∙ ap (standing_of plan) (sym (kept ∙ is))), subst (λ n. IsSeen plan n seen) size (make there (subst (IsAt position) to at)))
+    let to : standing_after plan now client ≡ standing_of plan more = ap (λ (o : Option Standing). unwrap_or o now) goes ∙ next.0 in
+    let size : length more ≡ length schedule + 1 = length-append schedule (client ∷ []) in
+    (goes ∙ ap Some (next.0 ∙ ap (standing_of plan) (sym kept)), subst (λ n. IsSeen plan n seen) size (make next.1 (subst (IsAt position) to at)))
+
+pub place-here : (plan : Lines) (state : State) (schedule : Schedule) (client place : ℕ) (made : List ℕ) → schedule ≡ state.schedule.items → made ≡ (standing_at plan state).made
+    → place ≡ get_or made client 0 → made_by (standing_of plan schedule) client ≡ place
+place-here plan state schedule client place made is same at =
+    ap (λ (s : Schedule). made_by (standing_of plan s) client) is ∙ sym (ap (λ (ps : List ℕ). get_or ps client 0) same) ∙ sym at
 
 -- what is listed and kept of it
 
 module _ {plan : Lines} {state : State} {schedule : Schedule} {client : ℕ} (is : schedule ≡ state.schedule.items) where
-  pub tried-done : (found : Found) (next : List State) → IsReached plan schedule client reached.Done → IsTried plan found next state client move.Done
+  pub tried-done : (found : Found) (next : List State) → next_line plan (standing_of plan schedule) client ≡ None → IsTried plan found next state client move.Done
   tried-done found next r =
       let now = standing_at plan state in
       let none : next_line plan now client ≡ None = subst (λ (s : Schedule). next_line plan (standing_of plan s) client ≡ None) is r in
       record { followed = IsFollowed-none plan found next now client (none-next plan now client none); is = none }
 
-  pub tried-waits : (found : Found) (next : List State) → IsReached plan schedule client reached.Waits → IsTried plan found next state client move.Waits
-  tried-waits found next r =
-      let waits = subst (λ (s : Schedule). IsReached plan s client reached.Waits) is r in
-      record { followed = IsFollowed-none plan found next (standing_at plan state) client waits.0; is = waits }
+  pub tried-waits : (found : Found) (next : List State) → after_one plan (standing_of plan schedule) client ≡ None → IsSome (next_line plan (standing_of plan schedule) client)
+      → IsTried plan found next state client move.Waits
+  tried-waits found next held some =
+      let now = standing_at plan state in
+      let none : after_one plan now client ≡ None = subst (λ (s : Schedule). after_one plan (standing_of plan s) client ≡ None) is held in
+      record {
+        followed = IsFollowed-none plan found next now client none;
+        is = (none, subst (λ (s : Schedule). IsSome (next_line plan (standing_of plan s) client)) is some);
+      }
 
-  module _ {depth place : ℕ} {given : Answer} {later : Seen} (from : IsState plan depth state) (r : IsReached plan schedule client (reached.Made place given later)) where
-    pub later-seen : IsSeen plan (depth + 1) later
-    later-seen = subst (λ n. IsSeen plan (n + 1) later) (ap length is ∙ from.deep) r.2
+  module _ {depth place : ℕ} {given : Answer} (from : IsState plan depth state) (a : Answers plan (standing_of plan schedule) client place given) where
+    comes-here : ComesTo plan schedule (standing_of plan schedule)
+    comes-here = subst (λ (s : Schedule). ComesTo plan s (standing_of plan s)) (sym is) from.comes
 
-    pub tried-made : {found : Found} {old new : List Seen} → CanBeExplored plan → All (IsSeen plan (depth + 1)) old → Lists found.given.items client place given → Keeps old later new
-        → IsTried plan found (states_of new) state client move.Goes
-    tried-made {found} {old} {new} can all lists keeps =
-        let made = subst (λ (s : Schedule). IsReached plan s client (reached.Made place given later)) is r in
-        record {
-          followed = IsFollowed-made plan found (states_of new) (standing_at plan state) client place given (standing_at plan later.state) made.0 made.1 lists (HasLike-kept can all keeps later-seen);
-          is = (standing_at plan later.state, made.1);
-        }
-
-    pub Grows-reached : (old new : Found) → Records old.given.items new.given.items client place given schedule → new.ended ≡ old.ended → new.stuck ≡ old.stuck → Grows plan depth old new
-    Grows-reached old new records ended stuck =
-        let comes = subst (λ (s : Schedule). ComesTo plan s (standing_of plan s)) (sym is) from.comes in
+    pub Grows-answered : (old new : Found) → Records old.given.items new.given.items client place given schedule → new.ended ≡ old.ended → new.stuck ≡ old.stuck → Grows plan depth old new
+    Grows-answered old new records ended stuck =
         let answered : IsAnswered plan schedule client place given =
-        record { now = standing_of plan schedule; comes = comes; at = r.0.at; step = r.0.step; next = r.0.next; made = r.0.made; answer = r.0.answer } in
+        record { now = standing_of plan schedule; comes = comes-here; at = a.at; step = a.step; next = a.next; made = a.made; answer = a.answer } in
         Grows-given plan depth old new client place given schedule records answered ended stuck
+
+    pub later-reached : {later : Seen} {position : Position} → IsAt position (standing_after plan (standing_of plan schedule) client) → later.state.schedule.items ≡ schedule ++ client ∷ []
+        → (ComesTo plan (schedule ++ client ∷ []) (standing_of plan (schedule ++ client ∷ [])) → IsAt position (standing_of plan (schedule ++ client ∷ []))
+        → IsSeen plan (length (schedule ++ client ∷ [])) later)
+        → IsReached plan schedule client later
+    later-reached at kept make = reached-made plan schedule comes-here a at kept make
+
+    module _ {later : Seen} (r : IsReached plan schedule client later) where
+      pub later-seen : IsSeen plan (depth + 1) later
+      later-seen = subst (λ n. IsSeen plan (n + 1) later) (ap length is ∙ from.deep) r.1
+
+      pub tried-made : {found : Found} {old new : List Seen} → CanBeExplored plan → All (IsSeen plan (depth + 1)) old → Lists found.given.items client place given → Keeps old later new
+          → IsTried plan found (states_of new) state client move.Goes
+      tried-made {found} {old} {new} can all lists keeps =
+          let goes = (subst (λ (s : Schedule). IsReached plan s client later) is r).0 in
+          let answers = subst (λ (s : Schedule). Answers plan (standing_of plan s) client place given) is a in
+          record {
+            followed = IsFollowed-made plan found (states_of new) (standing_at plan state) client place given (standing_at plan later.state) answers goes lists (HasLike-kept can all keeps later-seen);
+            is = (standing_at plan later.state, goes);
+          }
 
 -- of some clients, the first of them
 

@@ -1,8 +1,8 @@
 -- A visit of a state, on which one client after another tries its next line.
-use Rattle.std.proofs.Common.{◌≡◌, ℕ, ◌+◌, Bool, true, false, ◌||◌, refl, sym, ap, ◌∙◌, subst, List, Option, None, Some, unwrap_or, if◌then◌else◌, set, slice_get}
-use Rattle.std.specs.Prelude.{IfSome}
+use Rattle.std.proofs.Common.{◌≡◌, ℕ, ◌+◌, Bool, true, false, not, ◌||◌, refl, sym, ap, ◌∙◌, subst, List, Option, None, Some, unwrap_or, if◌then◌else◌, set}
 use Rattle.std.proofs.lemmas.Bool.{false≢true}
 use Rattle.std.proofs.lemmas.List.{set-set, set-get_or}
+use Rattle.std.proofs.lemmas.Option.{same_Some}
 use Rattle.command_core.specs.declared.answer.Answer.{Answer}
 use Rattle.command_core.specs.declared.command.Command.{Command}
 use Rattle.command_core.specs.declared.command.Command.TheVariants as command
@@ -13,7 +13,7 @@ use Rattle.desk_core.specs.theorem.World.{World, after}
 use Rattle.explore_core.specs.declared.plan.Step.{Step}
 use Rattle.explore_core.specs.declared.position.Position.{Position}
 use Rattle.explore_core.specs.Alike.{after_answer}
-use Rattle.explore_core.specs.Schedule.{Lines, Standing, answer_now, history_with, lines_of, made_by, after_line, after_one}
+use Rattle.explore_core.specs.Schedule.{Lines, Standing, answer_now, history_with, made_by, next_line, after_line, after_one}
 use Rattle.explore_core.specs.Search.{Answers, IsAt, keeps_world, stays, standing_after}
 use Rattle.explore_core.proofs.Covering.{world-with}
 use Rattle.explore_core.proofs.Finding.{after-answers}
@@ -49,15 +49,17 @@ back-history d history c given accepted is same has = record {
   holds = subst (Holds d) (world-with history c ∙ stays-world (world_of history) c given is same) has.holds;
 }
 
+pub stays-here : (stays : Bool) → not stays ≡ false → stays ≡ true
+stays-here true is = refl
+stays-here false is = absurd (false≢true (sym is))
+
 -- a line that is taken back
 pub IsAt-back : (plan : Lines) (now : Standing) (client place : ℕ) (given : Answer) (old new : Position) → IsHistory now.history → Answers plan now client place given
-    → IfSome (slice_get (lines_of plan client) place) (λ (step : Step). stays step.command given ≡ true)
-    → IsAt old (standing_after plan now client) → new.desk ≡ old.desk → new.made.items ≡ set old.made.items client place → IsAt new now
-IsAt-back plan now client place given old new accepted a same at desk made =
+    → (step : Step) → next_line plan now client ≡ Some step → stays step.command given ≡ true → IsAt old (standing_after plan now client) → new.desk ≡ old.desk → new.made.items ≡ set old.made.items client place → IsAt new now
+IsAt-back plan now client place given old new accepted a line next same at desk made =
     let step = a.step in
     let there : IsAt old (after_line now client step) = subst (IsAt old) (ap (λ (o : Option Standing). unwrap_or o now) (after-answers a)) at in
-    let line : slice_get (lines_of plan client) place ≡ Some step = ap (slice_get (lines_of plan client)) (sym a.at) ∙ a.next in
-    let kept : stays step.command given ≡ true = subst (λ (o : Option Step). IfSome o (λ (s : Step). stays s.command given ≡ true)) line same in
+    let kept : stays step.command given ≡ true = subst (λ (s : Step). stays s.command given ≡ true) (same_Some line step (sym next ∙ a.next)) same in
     record {
       desk = subst (λ (d : DeskState). HasHistory d now.history) (sym desk) (back-history old.desk now.history step.command given accepted a.answer kept there.desk);
       made = made ∙ ap (λ (ps : List ℕ). set ps client place) there.made ∙ set-set now.made client (made_by now client + 1) place

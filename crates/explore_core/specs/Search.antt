@@ -21,16 +21,12 @@ use Rattle.explore_core.specs.declared.look.FileLook.{FileLook}
 use Rattle.explore_core.specs.declared.look.BufferLook.{BufferLook}
 use Rattle.explore_core.specs.declared.look.Look.{Look}
 use Rattle.explore_core.specs.declared.position.Position.{Position}
-use Rattle.explore_core.specs.declared.position.Turn.{Turn}
-use Rattle.explore_core.specs.declared.position.Turn.TheVariants.{Done, Waits, Made}
 use Rattle.explore_core.specs.declared.level.Kept.{Kept}
 use Rattle.explore_core.specs.declared.parts.Parts.{Parts}
 use Rattle.explore_core.specs.declared.parts.Places.{Places}
 use Rattle.explore_core.specs.declared.state.State.{State}
 use Rattle.explore_core.specs.declared.state.Seen.{Seen}
 use Rattle.explore_core.specs.declared.visit.Visit.{Visit}
-use Rattle.explore_core.specs.declared.search.Reached.{Reached}
-use Rattle.explore_core.specs.declared.search.Reached.TheVariants as reached
 use Rattle.explore_core.specs.declared.search.Move.{Move}
 use Rattle.explore_core.specs.declared.search.Move.TheVariants as move
 use Rattle.explore_core.specs.declared.found.Given.{Given}
@@ -95,11 +91,12 @@ pub record Ends (plan : Lines) (now : Standing) (place : ℕ) (given : Answer) :
   pub at : slice_get plan.last place ≡ Some command
   pub answer : given ≡ answer_now (history_along now.history (take place plan.last)) command
 
--- the client is done, waits, or makes a line
-abbrev pub IsTurn : Lines → Standing → ℕ → Turn → Type 0
-IsTurn plan now client Done = next_line plan now client ≡ None
-IsTurn plan now client Waits = (step : Step) × (next_line plan now client ≡ Some step) × (can_be_made now step ≡ false)
-IsTurn plan now client (Made place given) = Answers plan now client place given
+-- the client waits with its line, or has made the line at this place and got this answer
+abbrev pub IsTurn : Lines → Standing → ℕ → ℕ → Option Answer → Position → Type 0
+IsTurn plan now client place None position =
+    (after_one plan now client ≡ None) × IsSome (next_line plan now client) × IsAt position now
+IsTurn plan now client place (Some given) position =
+    Answers plan now client place given × IsAt position (standing_after plan now client)
 
 -- the file for which the command asks what it lists
 abbrev pub asked_file : Command → Option (List ℕ)
@@ -125,6 +122,10 @@ is_name name n = same_name n name
 
 abbrev pub has_name : List (List ℕ) → List ℕ → Bool
 has_name names name = list_any (is_name name) names
+
+-- the names are the names of the files for which a line of the plan asks what they list
+abbrev pub AreAsked : Lines → List (List ℕ) → Type 0
+AreAsked plan names = (name : List ℕ) → has_name names name ≡ is_asked plan name
 
 -- the names are those before, and others
 abbrev pub Adds : (List ℕ → Bool) → List (List ℕ) → List (List ℕ) → Type 0
@@ -294,14 +295,10 @@ pub record IsVisited (plan : Lines) (found : Found) (next : List State) (state :
   pub listed : IsListed plan found (standing_at plan state)
   pub expanded : IsExpanded plan next (standing_at plan state)
 
--- after the schedule the client is done, waits, or makes a line that leads to this state
-abbrev pub IsReached : Lines → Schedule → ℕ → Reached → Type 0
-IsReached plan schedule client reached.Done = next_line plan (standing_of plan schedule) client ≡ None
-IsReached plan schedule client reached.Waits =
-    (after_one plan (standing_of plan schedule) client ≡ None) × IsSome (next_line plan (standing_of plan schedule) client)
-IsReached plan schedule client (reached.Made place given seen) =
-    Answers plan (standing_of plan schedule) client place given
-    × (after_one plan (standing_of plan schedule) client ≡ Some (standing_at plan seen.state))
+-- after the schedule the client makes its line, which leads to this state
+abbrev pub IsReached : Lines → Schedule → ℕ → Seen → Type 0
+IsReached plan schedule client seen =
+    (after_one plan (standing_of plan schedule) client ≡ Some (standing_at plan seen.state))
     × IsSeen plan (length schedule + 1) seen
 
 -- the client is done, waits, or makes its line

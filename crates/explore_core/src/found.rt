@@ -2,7 +2,7 @@
 use command_core::Answer;
 
 /// An answer that a line gives in some schedule.
-#[derive(Debug, Drop)]
+#[derive(Drop)]
 pub struct Given {
     /// The client whose line it is, or the number of clients for a command at the end.
     pub client: usize,
@@ -14,7 +14,7 @@ pub struct Given {
 }
 
 /// What is found of a plan.
-#[derive(Debug, Drop)]
+#[derive(Drop)]
 pub struct Found {
     /// The answers of the clients' lines, each answer of a line once.
     pub given: Vec<Given>,

@@ -1,6 +1,6 @@
 //! `Level`: the states after schedules of one length, equal states once. Once a level is complete, the search keeps its states and
 //! drops their looks.
-ghost use Rattle.std.specs.Prelude.{◌≡◌, ◌++◌, ◌∷◌, true, [], IfOk, IfErr, OnOk, OnErr, Contains};
+ghost use Rattle.std.specs.Prelude.{◌≡◌, ◌++◌, ◌∷◌, true, [], IfOk, OnOk, OnErr, Contains};
 ghost use Rattle.explore_core.specs.declared.level.Kept.{Kept as Holding};
 ghost use Rattle.explore_core.specs.Search.{Keeps, AreSameKept, states_of, states_kept};
 
@@ -9,8 +9,7 @@ use crate::parts::{Parts, Places};
 use crate::search::Stop;
 use crate::state::{Seen, State};
 use indexmap::IndexMap;
-use point_core::Refusal;
-use std::alloc::Global;
+use std::alloc::{AllocError, Global};
 use std::marker::Model;
 
 /// The states, with the places of their looks among the parts, and a table by hashes. The table is a hint: a state that it suggests
@@ -38,7 +37,7 @@ impl Model for Level {
 }
 
 /// A state, and the places of its look.
-#[derive(Debug, Drop)]
+#[derive(Drop)]
 struct Kept {
     state: State,
     places: Places,
@@ -57,9 +56,8 @@ impl Level {
     }
 
     /// The states, once all are found.
-    pub(crate) fn into_states(self, alloc: Global) -> Result<Vec<State>, Refusal>
+    pub(crate) fn into_states(self, alloc: Global) -> Result<Vec<State>, AllocError>
         ensures states { IfOk result (λ states. states.items ≡ states_of self) }
-        ensures memory { IfErr result (λ e. e ≡ Refusal.Memory) }
     {
         let Level { kept, .. } = self;
         states_of(alloc, kept)
@@ -74,17 +72,21 @@ impl Level {
     {
         let Seen { state, look } = seen;
         let Ok(places) = self.parts.places_of(alloc, look) else {
+            drop(state);
             return Err(Stop::Memory);
         };
         let kept = Kept { state, places };
         let hash = kept.hash();
         if has(&self.by_hash, self.kept.as_slice(), hash, &kept) {
+            drop(kept);
             return Ok(());
         }
         if self.kept.len() >= self.room {
+            drop(kept);
             return Err(Stop::Bound);
         }
         let Ok(_old) = self.by_hash.insert(hash, self.kept.len()) else {
+            drop(kept);
             return Err(Stop::Memory);
         };
         let Ok(_done) = self.kept.push(kept) else {
@@ -133,9 +135,8 @@ fn are_same(made: &[usize], others: &[usize]) -> bool
 }
 
 /// The states, without the places of their looks.
-fn states_of(alloc: Global, kept: Vec<Kept>) -> Result<Vec<State>, Refusal>
+fn states_of(alloc: Global, kept: Vec<Kept>) -> Result<Vec<State>, AllocError>
     ensures states { IfOk result (λ states. states.items ≡ states_kept kept.items) }
-    ensures memory { IfErr result (λ e. e ≡ Refusal.Memory) }
 {
     let mut states = Vec::new(alloc);
     for one in kept {
@@ -144,11 +145,10 @@ fn states_of(alloc: Global, kept: Vec<Kept>) -> Result<Vec<State>, Refusal>
     Ok(states)
 }
 
-fn put_state(states: &mut Vec<State>, kept: Kept) -> Result<(), Refusal>
+fn put_state(states: &mut Vec<State>, kept: Kept) -> Result<(), AllocError>
     ensures put { OnOk result (states.new.items ≡ states.old.items ++ kept.state ∷ []) }
-    ensures memory { IfErr result (λ e. e ≡ Refusal.Memory) }
 {
     let Kept { state, .. } = kept;
-    states.push(state).map_err(|_| Refusal::Memory)?;
+    states.push(state)?;
     Ok(())
 }

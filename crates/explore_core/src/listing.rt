@@ -1,12 +1,13 @@
 //! The answers found so far, each with a schedule that gives it.
-ghost use Rattle.std.specs.Prelude.{◌≡◌, true, IfErr, OnOk, OnErr};
+ghost use Rattle.std.specs.Prelude.{◌≡◌, ◌+◌, ◌≤◌, true, IfOk, OnOk, vec_len};
+ghost use Rattle.std.specs.Vec.{vec_capacity};
 ghost use Rattle.explore_core.specs.Found.{Lists};
 ghost use Rattle.explore_core.specs.Search.{Records};
 
 use crate::found::Given;
 use crate::list::shown;
 use command_core::Answer;
-use point_core::Refusal;
+use std::alloc::AllocError;
 
 /// Lists the answer of the line with the schedule, unless the answer is listed already.
 pub(crate) fn record(
@@ -15,29 +16,46 @@ pub(crate) fn record(
     place: usize,
     answer: Answer,
     schedule: &[u16],
-) -> Result<(), Refusal>
+) -> Result<(), AllocError>
     ensures records { Records list.old.items list.new.items client place answer schedule.now }
     ensures lists { OnOk result (Lists list.new.items client place answer) }
-    ensures memory { IfErr result (λ e. e ≡ Refusal.Memory) }
 {
     if is_listed(list.as_slice(), client, place, &answer) {
+        drop(answer);
         return Ok(());
     }
-    let schedule = shown(*list.allocator(), schedule)?;
-    let given = Given {
+    let Ok(schedule) = prepare(list, schedule) else {
+        drop(answer);
+        return Err(AllocError);
+    };
+    list.push_reserved(Given {
         client,
         place,
         answer,
         schedule,
-    };
-    list.push(given).map_err(|_| Refusal::Memory)?;
+    });
     Ok(())
+}
+
+/// Makes room for one more, and gives the schedule as it is shown.
+fn prepare(list: &mut Vec<Given>, schedule: &[u16]) -> Result<Vec<usize>, AllocError>
+    ensures same { list.new.items ≡ list.old.items }
+    ensures room { OnOk result (vec_len list.new + 1 ≤ vec_capacity list.new) }
+    ensures shown { IfOk result (λ shown. shown.items ≡ schedule.now) }
+{
+    list.reserve(1)?;
+    let schedule = shown(*list.allocator(), schedule)?;
+    Ok(schedule)
 }
 
 fn is_listed(list: &[Given], client: usize, place: usize, answer: &Answer) -> bool
     ensures { result ≡ true → Lists list.now client place answer.now }
 {
-    for given in list {
+    // From the end, where the answers of nearby states are.
+    for index in 0..list.len() {
+        let Some(given) = list.get(list.len() - 1 - index) else {
+            return false;
+        };
         if is_of(given, client, place, answer) {
             return true;
         }

@@ -1,30 +1,29 @@
 //! `Look`: what the lines of a plan can see of a desk without watches. Two desks whose looks are the same answer the lines alike
 //! forever (`laws.rt`), so the search compares looks and keeps no desk.
-ghost use Rattle.std.specs.Prelude.{◌≡◌, true, ◌++◌, ◌∷◌, [], map, filter, IfOk, IfErr, OnOk};
-ghost use Rattle.explore_core.specs.Search.{Shows, is_asked, is_name, has_name, is_to_come, seen_points, file_look, buffer_look};
+ghost use Rattle.std.specs.Prelude.{◌≡◌, true, ◌++◌, ◌∷◌, [], map, filter, IfOk, OnOk};
+ghost use Rattle.explore_core.specs.Search.{Shows, is_name, has_name, is_to_come, seen_points, file_look, buffer_look};
 
-use crate::plan::Plan;
 use crate::table::Part;
 use desk_core::Desk;
-use point_core::{Items, Name, Point, Refusal, TimelineRow, TopRow};
-use std::alloc::Global;
+use point_core::{Items, Name, Point, TimelineRow, TopRow};
+use std::alloc::{AllocError, Global};
 
 /// A file, with its points: all of them if the plan asks what the file lists, or else the points to come.
-#[derive(Debug, Drop, PartialEq, Eq)]
+#[derive(Drop, PartialEq, Eq)]
 pub(crate) struct FileLook {
     pub(crate) name: Name,
     pub(crate) points: Items<Point>,
 }
 
 /// A buffer, with its pending tops.
-#[derive(Debug, Drop, PartialEq, Eq)]
+#[derive(Drop, PartialEq, Eq)]
 pub(crate) struct BufferLook {
     pub(crate) name: Name,
     pub(crate) tops: Items<TopRow>,
 }
 
 /// The timelines, files and buffers of a desk, each by the order of making.
-#[derive(Debug, Drop)]
+#[derive(Drop)]
 pub(crate) struct Look {
     pub(crate) timelines: Items<TimelineRow>,
     pub(crate) files: Items<FileLook>,
@@ -38,16 +37,21 @@ const HASH_FACTOR: u64 = 0x9E37_79B9_7F4A_7C15;
 pub(crate) const SEED: u64 = 0x5851_F42D_4C95_7F2D;
 
 impl Look {
-    pub(crate) fn of(alloc: Global, plan: &Plan, desk: &Desk) -> Result<Look, Refusal>
-        ensures shows { IfOk result (λ look. Shows (is_asked plan.now) look desk.now) }
-        ensures memory { IfErr result (λ e. e ≡ Refusal.Memory) }
+    /// What the desk shows, with all points of the files that are asked what they list.
+    pub(crate) fn of(alloc: Global, asked: &[Name], desk: &Desk) -> Result<Look, AllocError>
+        ensures shows { IfOk result (λ look. Shows (has_name asked.now) look desk.now) }
     {
-        let timelines = desk.timeline_rows()?;
-        let asked = plan.asked_files(alloc)?;
-        let names = desk.file_names()?;
-        let files = file_looks(alloc, asked.as_slice(), desk, names.as_slice())?;
-        let names = desk.buffer_names()?;
-        let buffers = buffer_looks(alloc, desk, names.as_slice())?;
+        let Ok(timelines) = desk.timeline_rows() else {
+            return Err(AllocError);
+        };
+        let Ok(file_names) = desk.file_names() else {
+            return Err(AllocError);
+        };
+        let Ok(buffer_names) = desk.buffer_names() else {
+            return Err(AllocError);
+        };
+        let files = file_looks(alloc, asked, desk, file_names.as_slice())?;
+        let buffers = buffer_looks(alloc, desk, buffer_names.as_slice())?;
         Ok(Look {
             timelines: Items::of(timelines),
             files: Items::of(files),
@@ -58,7 +62,11 @@ impl Look {
 
 impl Part for Items<TimelineRow> {
     fn hash(&self) -> u64 {
-        hash_of_timelines(self.as_slice())
+        let mut hash = SEED;
+        for row in self.as_slice() {
+            hash = mix(mix(hash, row.value), u64::from(row.closed));
+        }
+        hash
     }
 
     fn is_same(&self, other: &Self) -> bool {
@@ -68,7 +76,11 @@ impl Part for Items<TimelineRow> {
 
 impl Part for FileLook {
     fn hash(&self) -> u64 {
-        hash_of_points(hash_of_name(&self.name), self.points.as_slice())
+        let mut hash = hash_of_name(&self.name);
+        for point in self.points.as_slice() {
+            hash = mix(mix(hash, u64::from(point.ctx.number())), point.value);
+        }
+        hash
     }
 
     fn is_same(&self, other: &Self) -> bool {
@@ -78,7 +90,11 @@ impl Part for FileLook {
 
 impl Part for Items<BufferLook> {
     fn hash(&self) -> u64 {
-        hash_of_buffers(self.as_slice())
+        let mut hash = SEED;
+        for buffer in self.as_slice() {
+            hash = hash_of_tops(hash, buffer.tops.as_slice());
+        }
+        hash
     }
 
     fn is_same(&self, other: &Self) -> bool {
@@ -109,27 +125,18 @@ fn file_looks(
     asked: &[Name],
     desk: &Desk,
     names: &[Name],
-) -> Result<Vec<FileLook>, Refusal>
+) -> Result<Vec<FileLook>, AllocError>
     ensures looks { IfOk result (λ looks. looks.items ≡ map (file_look (has_name asked.now) desk.now) names.now) }
-    ensures memory { IfErr result (λ e. e ≡ Refusal.Memory) }
 {
     let mut looks = Vec::with_capacity(alloc, names.len())?;
     for name in names {
-        let look = file_look(alloc, asked, desk, name)?;
-        looks.push(look).map_err(|_| Refusal::Memory)?;
+        let points = seen_points(alloc, asked, desk, name)?;
+        looks.push(FileLook {
+            name: *name,
+            points: Items::of(points),
+        })?;
     }
     Ok(looks)
-}
-
-fn file_look(alloc: Global, asked: &[Name], desk: &Desk, name: &Name) -> Result<FileLook, Refusal>
-    ensures look { IfOk result (λ look. look ≡ file_look (has_name asked.now) desk.now name.now) }
-    ensures memory { IfErr result (λ e. e ≡ Refusal.Memory) }
-{
-    let points = seen_points(alloc, asked, desk, name)?;
-    Ok(FileLook {
-        name: *name,
-        points: Items::of(points),
-    })
 }
 
 fn seen_points(
@@ -137,9 +144,8 @@ fn seen_points(
     asked: &[Name],
     desk: &Desk,
     file: &Name,
-) -> Result<Vec<Point>, Refusal>
+) -> Result<Vec<Point>, AllocError>
     ensures points { IfOk result (λ points. points.items ≡ seen_points (has_name asked.now) desk.now file.now) }
-    ensures memory { IfErr result (λ e. e ≡ Refusal.Memory) }
 {
     let Some(listed) = desk.file_points(file) else {
         return Ok(Vec::new(alloc));
@@ -156,7 +162,12 @@ fn seen_points(
 fn has_name(names: &[Name], file: &Name) -> bool
     ensures { result ≡ has_name names.now file.now }
 {
-    names.iter().any(|name| is_name(name, file))
+    for name in names {
+        if is_name(name, file) {
+            return true;
+        }
+    }
+    false
 }
 
 fn is_name(name: &Name, file: &Name) -> bool
@@ -166,9 +177,8 @@ fn is_name(name: &Name, file: &Name) -> bool
 }
 
 /// The points that their timelines have not reached.
-fn points_to_come(alloc: Global, desk: &Desk, listed: &[Point]) -> Result<Vec<Point>, Refusal>
+fn points_to_come(alloc: Global, desk: &Desk, listed: &[Point]) -> Result<Vec<Point>, AllocError>
     ensures points { IfOk result (λ points. points.items ≡ filter (is_to_come desk.now.timelines) listed.now) }
-    ensures memory { IfErr result (λ e. e ≡ Refusal.Memory) }
 {
     let mut points = Vec::new(alloc);
     for point in listed {
@@ -178,59 +188,33 @@ fn points_to_come(alloc: Global, desk: &Desk, listed: &[Point]) -> Result<Vec<Po
 }
 
 /// Adds the point, if its timeline has not reached it.
-fn put_to_come(points: &mut Vec<Point>, desk: &Desk, point: &Point) -> Result<(), Refusal>
+fn put_to_come(points: &mut Vec<Point>, desk: &Desk, point: &Point) -> Result<(), AllocError>
     ensures put { OnOk result (points.new.items ≡ points.old.items ++ filter (is_to_come desk.now.timelines) (point.now ∷ [])) }
-    ensures memory { IfErr result (λ e. e ≡ Refusal.Memory) }
 {
     if desk.point_status(*point).is_signalled() {
         return Ok(());
     }
-    points.push(*point).map_err(|_| Refusal::Memory)?;
+    points.push(*point)?;
     Ok(())
 }
 
-fn buffer_looks(alloc: Global, desk: &Desk, names: &[Name]) -> Result<Vec<BufferLook>, Refusal>
+/// Fails also if there is no buffer of one of the names.
+fn buffer_looks(alloc: Global, desk: &Desk, names: &[Name]) -> Result<Vec<BufferLook>, AllocError>
     ensures looks { IfOk result (λ looks. looks.items ≡ map (buffer_look desk.now) names.now) }
-    ensures memory { IfErr result (λ e. e ≡ Refusal.Memory) }
 {
     let mut looks = Vec::with_capacity(alloc, names.len())?;
     for name in names {
-        let look = buffer_look(alloc, desk, name)?;
-        looks.push(look).map_err(|_| Refusal::Memory)?;
+        let Ok(rows) = desk.buffer_rows(name) else {
+            return Err(AllocError);
+        };
+        // The rows have room for each timeline at each usage, 16 KiB. A copy has room only for its rows.
+        let tops = Vec::from_slice(alloc, rows.as_slice())?;
+        looks.push(BufferLook {
+            name: *name,
+            tops: Items::of(tops),
+        })?;
     }
     Ok(looks)
-}
-
-/// Fails also if there is no such buffer.
-fn buffer_look(alloc: Global, desk: &Desk, name: &Name) -> Result<BufferLook, Refusal>
-    ensures look { IfOk result (λ look. look ≡ buffer_look desk.now name.now) }
-    ensures memory { IfErr result (λ e. e ≡ Refusal.Memory) }
-{
-    let Ok(rows) = desk.buffer_rows(name) else {
-        return Err(Refusal::Memory);
-    };
-    // The rows have room for each timeline at each usage, 16 KiB. A copy has room only for its rows.
-    let tops = Vec::from_slice(alloc, rows.as_slice())?;
-    Ok(BufferLook {
-        name: *name,
-        tops: Items::of(tops),
-    })
-}
-
-fn hash_of_timelines(rows: &[TimelineRow]) -> u64 {
-    let mut hash = SEED;
-    for row in rows {
-        hash = mix(mix(hash, row.value), u64::from(row.closed));
-    }
-    hash
-}
-
-fn hash_of_buffers(buffers: &[BufferLook]) -> u64 {
-    let mut hash = SEED;
-    for buffer in buffers {
-        hash = hash_of_tops(hash, buffer.tops.as_slice());
-    }
-    hash
 }
 
 fn hash_of_tops(start: u64, tops: &[TopRow]) -> u64 {
@@ -245,14 +229,6 @@ fn hash_of_name(name: &Name) -> u64 {
     let mut hash = 0;
     for byte in name.as_bytes() {
         hash = mix(hash, u64::from(*byte));
-    }
-    hash
-}
-
-fn hash_of_points(start: u64, points: &[Point]) -> u64 {
-    let mut hash = start;
-    for point in points {
-        hash = mix(mix(hash, u64::from(point.ctx.number())), point.value);
     }
     hash
 }

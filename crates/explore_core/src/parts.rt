@@ -1,12 +1,12 @@
 //! `Parts`: the parts of a level's looks, each part once. `Places`: a look by the places of its parts. A look takes kilobytes, its
 //! places take some hundred bytes, and two looks are compared by their places. `Level` keeps both.
-ghost use Rattle.std.specs.Prelude.{◌≡◌, ◌++◌, ◌∷◌, ℕ, ◌<◌, true, [], Some, slice_get, length, map, All, Contains, IfOk, IfErr, OnOk};
+ghost use Rattle.std.specs.Prelude.{◌≡◌, ◌++◌, ◌∷◌, ℕ, ◌<◌, true, [], Some, slice_get, length, map, All, Contains, IfOk, OnOk};
 ghost use Rattle.explore_core.specs.Search.{Begins, IsGrown, Fits, AreSamePlaces, no_parts, look_of, file_at};
 
 use crate::look::{BufferLook, FileLook, Look, SEED, mix};
 use crate::table::Table;
-use point_core::{Items, Refusal, TimelineRow};
-use std::alloc::Global;
+use point_core::{Items, TimelineRow};
+use std::alloc::{AllocError, Global};
 
 /// The timelines of looks, their files one by one, and their buffers.
 #[derive(Drop)]
@@ -17,7 +17,7 @@ pub(crate) struct Parts {
 }
 
 /// A look by the places of its parts.
-#[derive(Debug, Drop)]
+#[derive(Drop)]
 pub(crate) struct Places {
     timelines: usize,
     files: Vec<usize>,
@@ -36,13 +36,10 @@ impl Parts {
     }
 
     /// The places of the look's parts. A part that has no place yet is put last.
-    ///
-    /// Fails with `Memory` only.
-    pub(crate) fn places_of(&mut self, alloc: Global, look: Look) -> Result<Places, Refusal>
+    pub(crate) fn places_of(&mut self, alloc: Global, look: Look) -> Result<Places, AllocError>
         ensures look { IfOk result (λ places. look_of self.new places ≡ look) }
         ensures fits { IfOk result (Fits self.new) }
         ensures grown { IsGrown self.old self.new }
-        ensures memory { IfErr result (λ e. e ≡ Refusal.Memory) }
     {
         let Look {
             timelines,
@@ -50,8 +47,8 @@ impl Parts {
             buffers,
         } = look;
         let timelines = self.timelines.place_of(timelines)?;
-        let files = file_places(alloc, &mut self.files, files.into_vec())?;
         let buffers = self.buffers.place_of(buffers)?;
+        let files = file_places(alloc, &mut self.files, files.into_vec())?;
         Ok(Places {
             timelines,
             files,
@@ -64,11 +61,10 @@ fn file_places(
     alloc: Global,
     table: &mut Table<FileLook>,
     files: Vec<FileLook>,
-) -> Result<Vec<usize>, Refusal>
+) -> Result<Vec<usize>, AllocError>
     ensures files { IfOk result (λ places. map (file_at table.new) places.items ≡ files.items) }
     ensures fit { IfOk result (λ places. All (λ (i : ℕ). i < length table.new) places.items) }
     ensures begins { Begins table.old table.new }
-    ensures memory { IfErr result (λ e. e ≡ Refusal.Memory) }
 {
     let mut places = Vec::with_capacity(alloc, files.len())?;
     for file in files {
@@ -81,14 +77,13 @@ fn put_place(
     table: &mut Table<FileLook>,
     places: &mut Vec<usize>,
     file: FileLook,
-) -> Result<(), Refusal>
+) -> Result<(), AllocError>
     ensures put { OnOk result ((place : ℕ) × (slice_get table.new place ≡ Some file)
         × (places.new.items ≡ places.old.items ++ place ∷ [])) }
     ensures begins { Begins table.old table.new }
-    ensures memory { IfErr result (λ e. e ≡ Refusal.Memory) }
 {
     let place = table.place_of(file)?;
-    places.push(place).map_err(|_| Refusal::Memory)?;
+    places.push(place)?;
     Ok(())
 }
 
@@ -136,21 +131,38 @@ fn are_same_files(files: &[usize], others: &[usize]) -> bool
 fn are_among(files: &[usize], others: &[usize]) -> bool
     ensures { result ≡ true → All (Contains others.now) files.now }
 {
-    for file in files {
-        if !is_among(*file, others) {
+    for (place, file) in files.iter().enumerate() {
+        if !is_among(*file, place, others) {
             return false;
         }
     }
     true
 }
 
-fn is_among(file: usize, others: &[usize]) -> bool
+/// Whether the file is one of the others. Most are at the same place in both, where it is looked for first.
+fn is_among(file: usize, place: usize, others: &[usize]) -> bool
     ensures { result ≡ true → Contains others.now file }
 {
+    if is_at(file, place, others) {
+        return true;
+    }
     for other in others {
         if *other == file {
             return true;
         }
+    }
+    false
+}
+
+/// Whether the file is at this place of the others.
+fn is_at(file: usize, place: usize, others: &[usize]) -> bool
+    ensures { result ≡ true → Contains others.now file }
+{
+    let Some(other) = others.get(place) else {
+        return false;
+    };
+    if *other == file {
+        return true;
     }
     false
 }

@@ -1,18 +1,18 @@
 //! `Plan`: the lines of each client, and the commands before and after them. `explore_report` makes it from a script, and `explore`
 //! decides it.
-ghost use Rattle.std.specs.Prelude.{◌≡◌, ℕ, List, Vec, IfOk, IfErr, OnOk};
+ghost use Rattle.std.specs.Prelude.{◌≡◌, Vec, IfOk, OnOk};
 ghost use Rattle.std.specs.Global.{Global};
 ghost use Rattle.std.specs.List.{list_any};
 ghost use Rattle.explore_core.specs.declared.plan.Step.{Step as Line};
-ghost use Rattle.explore_core.specs.Search.{asked_file, asks_for, client_asks, is_asked, has_name, Adds};
+ghost use Rattle.explore_core.specs.Search.{asked_file, asks_for, client_asks, AreAsked, Adds};
 
 use command_core::Command;
-use point_core::{Name, Refusal};
-use std::alloc::Global;
+use point_core::Name;
+use std::alloc::{AllocError, Global};
 use std::marker::Model;
 
 /// A line of a client.
-#[derive(Clone, Copy, Debug)]
+#[derive(Clone, Copy)]
 pub struct Step {
     pub command: Command,
     /// Whether the client waits with the line until it would be accepted. Any other line is made at once, whatever its
@@ -45,9 +45,8 @@ impl Model for Plan {
 
 impl Plan {
     /// The names of the files for which a line of a client, or a command at the end, asks what they list.
-    pub(crate) fn asked_files(&self, alloc: Global) -> Result<Vec<Name>, Refusal>
-        ensures asked { IfOk result (λ asked. (name : List ℕ) → has_name asked.items name ≡ is_asked self.now name) }
-        ensures memory { IfErr result (λ e. e ≡ Refusal.Memory) }
+    pub(crate) fn asked_files(&self, alloc: Global) -> Result<Vec<Name>, AllocError>
+        ensures asked { IfOk result (λ asked. AreAsked self.now asked.items) }
     {
         let mut asked = Vec::new(alloc);
         add_of_clients(&mut asked, self.clients.as_slice())?;
@@ -56,10 +55,9 @@ impl Plan {
     }
 }
 
-fn add_of_clients(asked: &mut Vec<Name>, clients: &[Vec<Step>]) -> Result<(), Refusal>
+fn add_of_clients(asked: &mut Vec<Name>, clients: &[Vec<Step>]) -> Result<(), AllocError>
     ensures adds { OnOk result (Adds (λ name. list_any (λ (lines : Vec Line Global). client_asks name lines.items) clients.now)
         asked.old.items asked.new.items) }
-    ensures memory { IfErr result (λ e. e ≡ Refusal.Memory) }
 {
     for lines in clients {
         add_of_lines(asked, lines.as_slice())?;
@@ -67,9 +65,8 @@ fn add_of_clients(asked: &mut Vec<Name>, clients: &[Vec<Step>]) -> Result<(), Re
     Ok(())
 }
 
-fn add_of_lines(asked: &mut Vec<Name>, lines: &[Step]) -> Result<(), Refusal>
+fn add_of_lines(asked: &mut Vec<Name>, lines: &[Step]) -> Result<(), AllocError>
     ensures adds { OnOk result (Adds (λ name. client_asks name lines.now) asked.old.items asked.new.items) }
-    ensures memory { IfErr result (λ e. e ≡ Refusal.Memory) }
 {
     for line in lines {
         add_of(asked, &line.command)?;
@@ -77,9 +74,8 @@ fn add_of_lines(asked: &mut Vec<Name>, lines: &[Step]) -> Result<(), Refusal>
     Ok(())
 }
 
-fn add_of_commands(asked: &mut Vec<Name>, commands: &[Command]) -> Result<(), Refusal>
+fn add_of_commands(asked: &mut Vec<Name>, commands: &[Command]) -> Result<(), AllocError>
     ensures adds { OnOk result (Adds (λ name. list_any (asks_for name) commands.now) asked.old.items asked.new.items) }
-    ensures memory { IfErr result (λ e. e ≡ Refusal.Memory) }
 {
     for command in commands {
         add_of(asked, command)?;
@@ -88,14 +84,13 @@ fn add_of_commands(asked: &mut Vec<Name>, commands: &[Command]) -> Result<(), Re
 }
 
 /// If the command asks what a file lists, adds the name of the file.
-fn add_of(asked: &mut Vec<Name>, command: &Command) -> Result<(), Refusal>
+fn add_of(asked: &mut Vec<Name>, command: &Command) -> Result<(), AllocError>
     ensures adds { OnOk result (Adds (λ name. asks_for name command.now) asked.old.items asked.new.items) }
-    ensures memory { IfErr result (λ e. e ≡ Refusal.Memory) }
 {
     let Some(name) = asked_file(command) else {
         return Ok(());
     };
-    asked.push(name).map_err(|_| Refusal::Memory)?;
+    asked.push(name)?;
     Ok(())
 }
 

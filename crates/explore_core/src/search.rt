@@ -1,44 +1,33 @@
 //! The search: level by level, each state of a level with each client's next line.
-ghost use Rattle.std.specs.Prelude.{◌≡◌, ◌+◌, ◌∷◌, [], ℕ, List, All, length, None, Some, IfOk, IfErr, OnOk};
+ghost use Rattle.std.specs.Prelude.{◌≡◌, ◌+◌, ◌∷◌, [], ℕ, List, All, length, None, Some, IfOk, OnOk};
 ghost use Rattle.command_core.specs.declared.command.Command.{Command};
 ghost use Rattle.explore_core.specs.declared.state.State.{State as Kept};
 ghost use Rattle.desk_core.specs.theorem.Desk.{HasHistory};
 ghost use Rattle.explore_core.specs.Found.{CanBeExplored, IsTrue, IsAll, stuck_of};
-ghost use Rattle.explore_core.specs.Schedule.{Lines, ComesTo, IsStuck, next_line};
-ghost use Rattle.explore_core.specs.Search.{Grows, Extends, IsAt, IsState, IsSeen, IsVisitOf, IsVisited, IsReached, IsTried, AreTried, HasEnds, EndsAre, AreEndsListed, standing_of, standing_at, states_of, IsEmptyFound, together};
+ghost use Rattle.explore_core.specs.Schedule.{Lines, IsStuck, next_line};
+ghost use Rattle.explore_core.specs.Search.{AreAsked, Grows, Extends, IsState, IsSeen, IsVisitOf, IsVisited, IsTried, AreTried, HasEnds, EndsAre, AreEndsListed, standing_of, standing_at, states_of, IsEmptyFound, together};
 
 use crate::found::{Found, Given};
 use crate::level::Level;
-use crate::list::{shown, with_client};
+use crate::list::shown;
 use crate::listing::record;
 use crate::plan::Plan;
-use crate::position::{Position, Turn, is_done, make, none_made};
+use crate::position::{Position, clear_made, line_at, make, place_of};
 use crate::state::{Seen, State};
 use crate::visit::Visit;
-use command_core::Answer;
-use desk_core::Desk;
-use point_core::Refusal;
-use std::alloc::Global;
+use point_core::Name;
+use std::alloc::{AllocError, Global};
 
 /// Why a search stops before it has covered every schedule.
-#[derive(Clone, Copy, Debug)]
+#[derive(Clone, Copy)]
 pub(crate) enum Stop {
     Memory,
     /// There are more states than the bound.
     Bound,
 }
 
-/// What a client does when it goes.
-#[derive(Debug, Drop)]
-enum Reached {
-    Done,
-    Waits,
-    /// It makes the line at this place, with this answer, and this is seen afterwards.
-    Made(usize, Answer, Seen),
-}
-
 /// What some clients do when each of them goes.
-#[derive(Clone, Copy, Debug)]
+#[derive(Clone, Copy)]
 enum Move {
     /// All are done.
     Done,
@@ -60,12 +49,43 @@ pub(crate) fn search(
     ensures shown { IsTrue plan.now found.new }
     ensures all { OnOk result (IsAll plan.now found.new) }
 {
+    let Ok(asked) = plan.asked_files(alloc) else {
+        return Err(Stop::Memory);
+    };
+    let mut visit = Visit::new(alloc);
+    search_levels(alloc, plan, asked.as_slice(), bound, &mut visit, found)
+}
+
+/// Visits one level after another, until a level has no states.
+fn search_levels(
+    alloc: Global,
+    plan: &Plan,
+    asked: &[Name],
+    bound: usize,
+    visit: &mut Visit,
+    found: &mut Found,
+) -> Result<(), Stop>
+    requires explorable { CanBeExplored plan.now }
+    requires asked { AreAsked plan.now asked.now }
+    requires empty { IsEmptyFound found.old }
+    ensures shown { IsTrue plan.now found.new }
+    ensures all { OnOk result (IsAll plan.now found.new) }
+{
     let mut level = first_level(alloc, plan, bound)?;
     for depth in 0..usize::MAX {
         if level.is_empty() {
             return Ok(());
         }
-        level = next_level(alloc, plan, depth, level.as_slice(), found, bound)?;
+        level = next_level(
+            alloc,
+            plan,
+            asked,
+            depth,
+            level.as_slice(),
+            visit,
+            found,
+            bound,
+        )?;
     }
     Err(Stop::Bound)
 }
@@ -87,10 +107,11 @@ fn first_level(alloc: Global, plan: &Plan, room: usize) -> Result<Vec<State>, St
     Ok(level)
 }
 
-fn first_state(alloc: Global, plan: &Plan) -> Result<State, Refusal>
+fn first_state(alloc: Global, plan: &Plan) -> Result<State, AllocError>
     ensures first { IfOk result (IsState plan.now 0) }
 {
-    let made = none_made(alloc, plan.clients.len())?;
+    let mut made = Vec::new(alloc);
+    clear_made(&mut made, plan.clients.len())?;
     Ok(State {
         schedule: Vec::new(alloc),
         made,
@@ -101,12 +122,15 @@ fn first_state(alloc: Global, plan: &Plan) -> Result<State, Refusal>
 fn next_level(
     alloc: Global,
     plan: &Plan,
+    asked: &[Name],
     depth: usize,
     states: &[State],
+    visit: &mut Visit,
     found: &mut Found,
     bound: usize,
 ) -> Result<Vec<State>, Stop>
     requires explorable { CanBeExplored plan.now }
+    requires asked { AreAsked plan.now asked.now }
     requires states { All (IsState plan.now depth) states.now }
     ensures grows { Grows plan.now depth found.old found.new }
     ensures next { IfOk result (λ next. All (IsState plan.now (depth + 1)) next.items) }
@@ -114,11 +138,14 @@ fn next_level(
 {
     count(found, states.len());
     let mut next = Level::new(alloc, bound.saturating_sub(found.states));
-    visit_all(alloc, plan, depth, states, found, &mut next)?;
+    let visited = visit_all(alloc, plan, asked, depth, states, visit, found, &mut next);
     let Ok(states) = next.into_states(alloc) else {
         return Err(Stop::Memory);
     };
-    Ok(states)
+    match visited {
+        Ok(()) => Ok(states),
+        Err(stop) => Err(stop),
+    }
 }
 
 fn count(found: &mut Found, states: usize)
@@ -131,12 +158,15 @@ fn count(found: &mut Found, states: usize)
 fn visit_all(
     alloc: Global,
     plan: &Plan,
+    asked: &[Name],
     depth: usize,
     states: &[State],
+    visit: &mut Visit,
     found: &mut Found,
     next: &mut Level,
 ) -> Result<(), Stop>
     requires explorable { CanBeExplored plan.now }
+    requires asked { AreAsked plan.now asked.now }
     requires states { All (IsState plan.now depth) states.now }
     requires next { All (IsSeen plan.now (depth + 1)) next.old }
     ensures grows { Grows plan.now depth found.old found.new }
@@ -144,28 +174,32 @@ fn visit_all(
     ensures visited { OnOk result (All (IsVisited plan.now found.new (states_of next.new)) states.now) }
 {
     for state in states {
-        visit(alloc, plan, depth, state, found, next)?;
+        visit_state(alloc, plan, asked, depth, state, visit, found, next)?;
     }
     Ok(())
 }
 
 /// Lists what each client's next line gives at the state, and keeps the states after it.
-fn visit(
+fn visit_state(
     alloc: Global,
     plan: &Plan,
+    asked: &[Name],
     depth: usize,
     state: &State,
+    visit: &mut Visit,
     found: &mut Found,
     next: &mut Level,
 ) -> Result<(), Stop>
     requires explorable { CanBeExplored plan.now }
+    requires asked { AreAsked plan.now asked.now }
     requires state { IsState plan.now depth state.now }
     requires next { All (IsSeen plan.now (depth + 1)) next.old }
     ensures grows { Grows plan.now depth found.old found.new }
     ensures extends { Extends plan.now (depth + 1) next.old next.new }
     ensures visited { OnOk result (IsVisited plan.now found.new (states_of next.new) state.now) }
 {
-    let moves = try_clients(alloc, plan, depth, state, found, next)?;
+    visit.leave();
+    let moves = try_each(alloc, plan, asked, depth, state, visit, found, next)?;
     match moves {
         Move::Goes => Ok(()),
         Move::Waits => {
@@ -173,39 +207,17 @@ fn visit(
             Ok(())
         }
         Move::Done => {
-            make_last(alloc, plan, depth, state, found)?;
+            make_last(plan, depth, state, &mut visit.position, found)?;
             Ok(())
         }
     }
-}
-
-/// Each client makes its next line at the state, if it can.
-fn try_clients(
-    alloc: Global,
-    plan: &Plan,
-    depth: usize,
-    state: &State,
-    found: &mut Found,
-    next: &mut Level,
-) -> Result<Move, Stop>
-    requires explorable { CanBeExplored plan.now }
-    requires state { IsState plan.now depth state.now }
-    requires next { All (IsSeen plan.now (depth + 1)) next.old }
-    ensures grows { Grows plan.now depth found.old found.new }
-    ensures extends { Extends plan.now (depth + 1) next.old next.new }
-    ensures tried { IfOk result (λ moves.
-        AreTried plan.now found.new (states_of next.new) state.now (length plan.now.clients) moves) }
-{
-    let Ok(mut visit) = Visit::at(alloc, plan, state.schedule.as_slice()) else {
-        return Err(Stop::Memory);
-    };
-    try_each(alloc, plan, depth, state, &mut visit, found, next)
 }
 
 /// Each client makes its next line on a visit of the state, if it can.
 fn try_each(
     alloc: Global,
     plan: &Plan,
+    asked: &[Name],
     depth: usize,
     state: &State,
     visit: &mut Visit,
@@ -213,6 +225,7 @@ fn try_each(
     next: &mut Level,
 ) -> Result<Move, Stop>
     requires explorable { CanBeExplored plan.now }
+    requires asked { AreAsked plan.now asked.now }
     requires state { IsState plan.now depth state.now }
     requires at { IsVisitOf visit.old (standing_at plan.now state.now) }
     requires next { All (IsSeen plan.now (depth + 1)) next.old }
@@ -223,7 +236,7 @@ fn try_each(
 {
     let mut moves = Move::Done;
     for client in 0..plan.clients.len() {
-        let one = try_client(alloc, plan, depth, state, client, visit, found, next)?;
+        let one = try_client(alloc, plan, asked, depth, state, client, visit, found, next)?;
         moves = together(moves, one);
     }
     Ok(moves)
@@ -246,6 +259,7 @@ fn together(some: Move, one: Move) -> Move
 fn try_client(
     alloc: Global,
     plan: &Plan,
+    asked: &[Name],
     depth: usize,
     state: &State,
     client: usize,
@@ -254,6 +268,7 @@ fn try_client(
     next: &mut Level,
 ) -> Result<Move, Stop>
     requires explorable { CanBeExplored plan.now }
+    requires asked { AreAsked plan.now asked.now }
     requires state { IsState plan.now depth state.now }
     requires at { IsVisitOf visit.old (standing_at plan.now state.now) }
     requires next { All (IsSeen plan.now (depth + 1)) next.old }
@@ -262,70 +277,31 @@ fn try_client(
     ensures tried { IfOk result (λ move. IsTried plan.now found.new (states_of next.new) state.now client move) }
     ensures at { OnOk result (IsVisitOf visit.new (standing_at plan.now state.now)) }
 {
-    let Ok(reached) = reach(alloc, plan, state, client, visit) else {
+    let place = place_of(state.made.as_slice(), client);
+    let Some(step) = line_at(plan, client, place) else {
+        return Ok(Move::Done);
+    };
+    let schedule = state.schedule.as_slice();
+    let Ok(()) = visit.come_back(plan, schedule) else {
         return Err(Stop::Memory);
     };
-    match reached {
-        Reached::Done => Ok(Move::Done),
-        Reached::Waits => Ok(Move::Waits),
-        Reached::Made(place, answer, later) => {
-            let schedule = state.schedule.as_slice();
-            let Ok(_done) = record(&mut found.given, client, place, answer, schedule) else {
-                return Err(Stop::Memory);
-            };
-            next.keep(alloc, later)?;
-            Ok(Move::Goes)
-        }
-    }
-}
-
-/// What the client does at the state.
-fn reach(
-    alloc: Global,
-    plan: &Plan,
-    state: &State,
-    client: usize,
-    visit: &mut Visit,
-) -> Result<Reached, Refusal>
-    requires comes { ComesTo plan.now state.now.schedule.items (standing_at plan.now state.now) }
-    requires made { state.now.made.items ≡ (standing_at plan.now state.now).made }
-    requires at { IsVisitOf visit.old (standing_at plan.now state.now) }
-    ensures reached { IfOk result (λ reached. IsReached plan.now state.now.schedule.items client reached) }
-    ensures at { OnOk result (IsVisitOf visit.new (standing_at plan.now state.now)) }
-    ensures memory { IfErr result (λ e. e ≡ Refusal.Memory) }
-{
-    if is_done(plan, state.made.as_slice(), client) {
-        return Ok(Reached::Done);
-    }
-    let schedule = state.schedule.as_slice();
-    visit.come_back(alloc, plan, schedule)?;
-    reach_from(alloc, plan, schedule, client, visit)
-}
-
-/// What the client does after the schedule, on a visit whose desk is there.
-fn reach_from(
-    alloc: Global,
-    plan: &Plan,
-    schedule: &[u16],
-    client: usize,
-    visit: &mut Visit,
-) -> Result<Reached, Refusal>
-    requires comes { ComesTo plan.now schedule.now (standing_of plan.now schedule.now) }
-    requires at { IsAt visit.old.position (standing_of plan.now schedule.now) }
-    ensures reached { IfOk result (λ reached. IsReached plan.now schedule.now client reached) }
-    ensures at { OnOk result (IsVisitOf visit.new (standing_of plan.now schedule.now)) }
-    ensures memory { IfErr result (λ e. e ≡ Refusal.Memory) }
-{
-    match visit.position.go(plan, client)? {
-        Turn::Done => Ok(Reached::Done),
-        Turn::Waits => Ok(Reached::Waits),
-        Turn::Made(place, answer) => {
-            let more = with_client(alloc, schedule, client)?;
-            let seen = Seen::of(alloc, plan, more, &visit.position)?;
-            visit.take_back(plan, client, place, &answer);
-            Ok(Reached::Made(place, answer, seen))
-        }
-    }
+    let Ok(made) = visit.position.go(client, place, &step) else {
+        return Err(Stop::Memory);
+    };
+    let Some(answer) = made else {
+        return Ok(Move::Waits);
+    };
+    visit.note(&step.command, &answer);
+    let Ok(_done) = record(&mut found.given, client, place, answer, schedule) else {
+        return Err(Stop::Memory);
+    };
+    let Ok(later) = Seen::of(alloc, asked, schedule, client, &visit.position) else {
+        return Err(Stop::Memory);
+    };
+    // If the line has changed nothing, the desk is at the state again.
+    visit.position.count_to(client, place);
+    next.keep(alloc, later)?;
+    Ok(Move::Goes)
 }
 
 /// Shows the schedule, which gets stuck, unless a schedule is shown already.
@@ -353,10 +329,10 @@ fn show_stuck(
 
 /// Makes the commands at the end, and lists their answers.
 fn make_last(
-    alloc: Global,
     plan: &Plan,
     depth: usize,
     state: &State,
+    position: &mut Position,
     found: &mut Found,
 ) -> Result<(), Stop>
     requires state { IsState plan.now depth state.now }
@@ -365,10 +341,10 @@ fn make_last(
     ensures ended { OnOk result (HasEnds plan.now found.new (standing_of plan.now state.now.schedule.items)) }
 {
     let schedule = state.schedule.as_slice();
-    let Ok(mut position) = Position::at(alloc, plan, schedule) else {
+    let Ok(()) = position.restart(plan, schedule) else {
         return Err(Stop::Memory);
     };
-    let Ok(()) = answer_last(plan, schedule, &mut position.desk, &mut found.ended) else {
+    let Ok(()) = answer_last(plan, schedule, position, &mut found.ended) else {
         return Err(Stop::Memory);
     };
     Ok(())
@@ -377,18 +353,17 @@ fn make_last(
 fn answer_last(
     plan: &Plan,
     schedule: &[u16],
-    desk: &mut Desk,
+    position: &mut Position,
     ended: &mut Vec<Given>,
-) -> Result<(), Refusal>
-    ensures records { (history : List Command) → HasHistory desk.old history →
+) -> Result<(), AllocError>
+    ensures records { (history : List Command) → HasHistory position.old.desk history →
         EndsAre plan.now history schedule.now ended.old.items ended.new.items }
-    ensures lists { OnOk result ((history : List Command) → HasHistory desk.old history →
+    ensures lists { OnOk result ((history : List Command) → HasHistory position.old.desk history →
         AreEndsListed plan.now history ended.new.items (length plan.now.last)) }
-    ensures memory { IfErr result (λ e. e ≡ Refusal.Memory) }
 {
     let commands = plan.last.as_slice();
     for (place, command) in commands.iter().enumerate() {
-        let answer = make(desk, *command)?;
+        let answer = make(&mut position.desk, *command)?;
         record(ended, plan.clients.len(), place, answer, schedule)?;
     }
     Ok(())

@@ -1,45 +1,46 @@
 //! `State`: the state of a plan after a schedule. `Seen`: a state with a look at its desk, by which the state is found again.
-ghost use Rattle.std.specs.Prelude.{◌≡◌, length, IfOk, IfErr};
-ghost use Rattle.explore_core.specs.Search.{IsAt, IsSeen, standing_of};
-ghost use Rattle.explore_core.specs.Schedule.{ComesTo};
+ghost use Rattle.std.specs.Prelude.{◌≡◌, ◌++◌, ◌∷◌, [], length, IfOk};
+ghost use Rattle.explore_core.specs.Search.{AreAsked, IsAt, IsSeen, standing_of};
+ghost use Rattle.explore_core.specs.Schedule.{Lines, ComesTo};
 
-use crate::look::{Look, mix};
-use crate::plan::Plan;
+use crate::list::with_client;
+use crate::look::Look;
 use crate::position::Position;
-use point_core::Refusal;
-use std::alloc::Global;
+use point_core::Name;
+use std::alloc::{AllocError, Global};
 
 /// The first schedule that leads to the state, and how many lines each client has made there.
-#[derive(Debug, Drop)]
+#[derive(Drop)]
 pub(crate) struct State {
     pub(crate) schedule: Vec<u16>,
     pub(crate) made: Vec<usize>,
 }
 
 /// A state, and what can be seen of its desk.
-#[derive(Debug, Drop)]
+#[derive(Drop)]
 pub(crate) struct Seen {
     pub(crate) state: State,
     pub(crate) look: Look,
 }
 
 impl Seen {
-    /// What is seen at the position after the schedule.
+    /// What is seen at the position after the schedule and the client's line. The plan asks what the files of the names list.
     pub(crate) fn of(
         alloc: Global,
-        plan: &Plan,
-        schedule: Vec<u16>,
+        asked: &[Name],
+        schedule: &[u16],
+        client: usize,
         position: &Position,
-    ) -> Result<Seen, Refusal>
-        ensures seen { IfOk result (λ seen.
-            ComesTo plan.now schedule.items (standing_of plan.now schedule.items) →
-            IsAt position.now (standing_of plan.now schedule.items) →
-            IsSeen plan.now (length schedule.items) seen) }
-        ensures schedule { IfOk result (λ seen. seen.state.schedule ≡ schedule) }
-        ensures memory { IfErr result (λ e. e ≡ Refusal.Memory) }
+    ) -> Result<Seen, AllocError>
+        ensures seen { IfOk result (λ seen. (plan : Lines) → AreAsked plan asked.now →
+            ComesTo plan (schedule.now ++ client ∷ []) (standing_of plan (schedule.now ++ client ∷ [])) →
+            IsAt position.now (standing_of plan (schedule.now ++ client ∷ [])) →
+            IsSeen plan (length (schedule.now ++ client ∷ [])) seen) }
+        ensures schedule { IfOk result (λ seen. seen.state.schedule.items ≡ schedule.now ++ client ∷ []) }
     {
+        let schedule = with_client(alloc, schedule, client)?;
         let made = Vec::from_slice(alloc, position.made.as_slice())?;
-        let look = Look::of(alloc, plan, &position.desk)?;
+        let look = Look::of(alloc, asked, &position.desk)?;
         let state = State { schedule, made };
         Ok(Seen { state, look })
     }

@@ -1,11 +1,10 @@
 //! `Table`: parts of looks by their places, each part once. The looks of a level have most parts in common. `Parts` has a table
 //! for each kind of part.
-ghost use Rattle.std.specs.Prelude.{◌≡◌, true, [], Some, slice_get, IfOk, IfErr, IfSome};
+ghost use Rattle.std.specs.Prelude.{◌≡◌, true, [], Some, slice_get, IfOk, IfSome};
 ghost use Rattle.explore_core.specs.Search.{Begins};
 
 use indexmap::IndexMap;
-use point_core::Refusal;
-use std::alloc::Global;
+use std::alloc::{AllocError, Global};
 use std::marker::Model;
 
 /// A part of a look.
@@ -44,24 +43,21 @@ impl<T: Part> Table<T> {
     }
 
     /// The place of the part. A part that has no place yet is put last.
-    ///
-    /// Fails with `Memory` only.
-    pub(crate) fn place_of(&mut self, part: T) -> Result<usize, Refusal>
+    pub(crate) fn place_of(&mut self, part: T) -> Result<usize, AllocError>
         ensures there { IfOk result (λ place. slice_get self.new place ≡ Some part) }
         ensures begins { Begins self.old self.new }
-        ensures memory { IfErr result (λ e. e ≡ Refusal.Memory) }
     {
         let hash = part.hash();
         if let Some(place) = self.find(hash, &part) {
+            drop(part);
             return Ok(place);
         }
         let place = self.parts.len();
         let Ok(_old) = self.by_hash.insert(hash, place) else {
-            return Err(Refusal::Memory);
+            drop(part);
+            return Err(AllocError);
         };
-        let Ok(_done) = self.parts.push(part) else {
-            return Err(Refusal::Memory);
-        };
+        self.parts.push(part)?;
         Ok(place)
     }
 

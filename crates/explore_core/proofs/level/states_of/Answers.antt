@@ -20,5 +20,7 @@ loop-one-preserved c =
           ∙ ap (λ states. states ++ states_kept (into_iter_items c.next.new.self)) (sym c.in_ok-put_state.ensures.put);
     }
 
-pub returns-clause-states : goal.returns-clause-states
-returns-clause-states c = sym (c.loop-one.invariant.states ∙ no-states c.loop-one.states.items (into_iter_items c.loop-one.one-iterator) (c.loop-one.invariant.count ∙ c.in-None.ensures.steps.0))
+pub returns : goal.returns
+returns c = record {
+  states = sym (c.loop-one.invariant.states ∙ no-states c.loop-one.states.items (into_iter_items c.loop-one.one-iterator) (c.loop-one.invariant.count ∙ c.in-None.ensures.steps.0));
+}

@@ -13,5 +13,7 @@ loop-point-preserved c =
     c.in_ok-put_to_come.ensures.put ∙ ap (λ ps. ps ++ filter test (c.point-item.result ∷ [])) c.loop-point.invariant
     ∙ sym (filter-append test (take i listed) (c.point-item.result ∷ [])) ∙ ap (filter test) (sym more)
 
-pub returns-clause-points : goal.returns-clause-points
-returns-clause-points c = c.loop-point.invariant ∙ ap (filter (is_to_come c.args.desk.now.timelines)) (take_all c.loop-point.point-index c.args.listed.now c.loop-point-test.false)
+pub returns : goal.returns
+returns c = record {
+  points = c.loop-point.invariant ∙ ap (filter (is_to_come c.args.desk.now.timelines)) (take_all c.loop-point.point-index c.args.listed.now c.loop-point-test.false);
+}

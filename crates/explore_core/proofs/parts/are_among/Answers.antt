@@ -5,16 +5,16 @@ use Rattle.std.proofs.lemmas.List.Elements.{All-nil}
 use Rattle.explore_core.proofs.Parting.{All-next-at}
 use Rattle.explore_core.proofs.parts.are_among.Goals as goal
 
-pub loop-file-init : goal.loop-file-init
-loop-file-init c = All-nil (Contains c.args.others.now)
+pub loop-place-init : goal.loop-place-init
+loop-place-init c = All-nil (Contains c.args.others.now)
 
-pub loop-file-preserved : goal.loop-file-preserved
-loop-file-preserved c =
-    All-next-at (Contains c.args.others.now) c.args.files.now c.loop-file.file-index _ c.loop-file-test.true c.loop-file.invariant (c.is_among.ensures c.if-not-is_among.false)
+pub loop-place-preserved : goal.loop-place-preserved
+loop-place-preserved c =
+    All-next-at (Contains c.args.others.now) c.args.files.now c.loop-place.place _ c.loop-place-test.true c.loop-place.invariant (c.is_among.ensures c.if-not-is_among.false)
 
 pub returns-then-not-is_among : goal.returns-then-not-is_among
 returns-then-not-is_among c = λ bad. absurd (false≢true bad)
 
 pub returns : goal.returns
 returns c = λ is.
-    subst (All (Contains c.args.others.now)) (take_all c.loop-file.file-index c.args.files.now c.loop-file-test.false) c.loop-file.invariant
+    subst (All (Contains c.args.others.now)) (take_all c.loop-place.place c.args.files.now c.loop-place-test.false) c.loop-place.invariant

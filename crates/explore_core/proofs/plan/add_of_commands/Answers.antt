@@ -12,6 +12,8 @@ pub loop-command-preserved : goal.loop-command-preserved
 loop-command-preserved c =
     Adds-next (λ (name : List ℕ). asks_for name) c.args.commands.now c.loop-command.command-index c.command-item.result _ _ _ c.loop-command-test.true c.command-item.is c.loop-command.invariant c.in_ok-add_of.ensures.adds
 
-pub returns-clause-adds : goal.returns-clause-adds
-returns-clause-adds c =
-    subst (λ xs. Adds (λ name. list_any (asks_for name) xs) c.args.asked.now.items c.loop-command.asked.items) (take_all c.loop-command.command-index c.args.commands.now c.loop-command-test.false) c.loop-command.invariant
+pub returns : goal.returns
+returns c = record {
+  adds =
+      subst (λ xs. Adds (λ name. list_any (asks_for name) xs) c.args.asked.now.items c.loop-command.asked.items) (take_all c.loop-command.command-index c.args.commands.now c.loop-command-test.false) c.loop-command.invariant;
+}

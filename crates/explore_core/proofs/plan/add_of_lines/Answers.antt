@@ -13,6 +13,8 @@ pub loop-line-preserved : goal.loop-line-preserved
 loop-line-preserved c =
     Adds-next (λ (name : List ℕ). λ (line : Step). asks_for name line.command) c.args.lines.now c.loop-line.line-index c.line-item.result _ _ _ c.loop-line-test.true c.line-item.is c.loop-line.invariant c.in_ok-add_of.ensures.adds
 
-pub returns-clause-adds : goal.returns-clause-adds
-returns-clause-adds c =
-    subst (λ xs. Adds (λ name. list_any (λ (line : Step). asks_for name line.command) xs) c.args.asked.now.items c.loop-line.asked.items) (take_all c.loop-line.line-index c.args.lines.now c.loop-line-test.false) c.loop-line.invariant
+pub returns : goal.returns
+returns c = record {
+  adds =
+      subst (λ xs. Adds (λ name. list_any (λ (line : Step). asks_for name line.command) xs) c.args.asked.now.items c.loop-line.asked.items) (take_all c.loop-line.line-index c.args.lines.now c.loop-line-test.false) c.loop-line.invariant;
+}

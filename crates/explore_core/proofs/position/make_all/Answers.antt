@@ -14,9 +14,11 @@ loop-command-preserved c = λ history stands.
     let i = c.loop-command.command-index in
     let more = take_more commands i c.command-item.result c.loop-command-test.true ∙ ap (λ d. take i commands ++ d ∷ []) (sym c.command-item.is) in
     let is = ap (history_along history) more ∙ history_along-push history (take i commands) c.command-item.result in
-    subst (HasHistory c.make.new.desk) (sym is) (c.in_ok-make.ensures.made (history_along history (take i commands)) (c.loop-command.invariant history stands)).1
+    subst (HasHistory c.make_again.new.desk) (sym is) (c.in_ok-make_again.ensures.along (history_along history (take i commands)) (c.loop-command.invariant history stands))
 
-pub returns-clause-along : goal.returns-clause-along
-returns-clause-along c = λ history stands.
-    let all = take_all c.loop-command.command-index c.args.commands.now c.loop-command-test.false in
-    subst (λ cs. HasHistory c.loop-command.desk (history_along history cs)) all (c.loop-command.invariant history stands)
+pub returns : goal.returns
+returns c = record {
+  along = λ history stands.
+      let all = take_all c.loop-command.command-index c.args.commands.now c.loop-command-test.false in
+      subst (λ cs. HasHistory c.loop-command.desk (history_along history cs)) all (c.loop-command.invariant history stands);
+}

@@ -7,7 +7,7 @@ use Rattle.explore_core.proofs.search.answer_last.Given as goal
 
 abbrev pub invariant-loop-place : goal.invariant-loop-place
 invariant-loop-place l = record {
-  along : (history : List Command) → HasHistory l.initial.desk history → HasHistory l.desk (history_along history (take l.place l.plan.last));
-  records : (history : List Command) → HasHistory l.initial.desk history → EndsAre l.plan history l.schedule l.initial.ended.items l.ended.items;
-  lists : (history : List Command) → HasHistory l.initial.desk history → AreEndsListed l.plan history l.ended.items l.place;
+  along : (history : List Command) → HasHistory l.initial.position.desk history → HasHistory l.position.desk (history_along history (take l.place l.plan.last));
+  records : (history : List Command) → HasHistory l.initial.position.desk history → EndsAre l.plan history l.schedule l.initial.ended.items l.ended.items;
+  lists : (history : List Command) → HasHistory l.initial.position.desk history → AreEndsListed l.plan history l.ended.items l.place;
 }

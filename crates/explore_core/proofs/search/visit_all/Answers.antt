@@ -6,17 +6,17 @@ use Rattle.explore_core.proofs.Levels.{Grows-refl, Grows-trans, Extends-refl, Ex
 use Rattle.explore_core.proofs.Finding.{All-item, All-next}
 use Rattle.explore_core.proofs.search.visit_all.Goals as goal
 
-pub visit-requires-clause-state : goal.visit-requires-clause-state
-visit-requires-clause-state c = All-item (IsState c.args.plan.now c.args.depth) c.args.states.now c.loop-state.state-index c.state-item.result c.loop-state-test.true c.state-item.is c.requires.states
+pub visit_state-requires-clause-state : goal.visit_state-requires-clause-state
+visit_state-requires-clause-state c = All-item (IsState c.args.plan.now c.args.depth) c.args.states.now c.loop-state.state-index c.state-item.result c.loop-state-test.true c.state-item.is c.requires.states
 
-pub visit-requires-clause-next : goal.visit-requires-clause-next
-visit-requires-clause-next c = c.loop-state.invariant.extends.seen c.requires.next
+pub visit_state-requires-clause-next : goal.visit_state-requires-clause-next
+visit_state-requires-clause-next c = c.loop-state.invariant.extends.seen c.requires.next
 
-pub returns-in_err-visit-clause-grows : goal.returns-in_err-visit-clause-grows
-returns-in_err-visit-clause-grows c = Grows-trans c.loop-state.invariant.grows c.visit.ensures.grows
+pub returns-in_err-visit_state-clause-grows : goal.returns-in_err-visit_state-clause-grows
+returns-in_err-visit_state-clause-grows c = Grows-trans c.loop-state.invariant.grows c.visit_state.ensures.grows
 
-pub returns-in_err-visit-clause-extends : goal.returns-in_err-visit-clause-extends
-returns-in_err-visit-clause-extends c = Extends-trans c.loop-state.invariant.extends c.visit.ensures.extends
+pub returns-in_err-visit_state-clause-extends : goal.returns-in_err-visit_state-clause-extends
+returns-in_err-visit_state-clause-extends c = Extends-trans c.loop-state.invariant.extends c.visit_state.ensures.extends
 
 pub loop-state-init : goal.loop-state-init
 loop-state-init c = record {
@@ -29,16 +29,16 @@ pub loop-state-preserved : goal.loop-state-preserved
 loop-state-preserved c =
     let plan = c.args.plan.now in
     let before = c.loop-state.invariant in
-    let visit = c.visit.ensures in
+    let visit = c.visit_state.ensures in
     let old = IsVisited plan c.loop-state.found (states_of c.loop-state.next) in
-    let new = IsVisited plan c.visit.new.found (states_of c.visit.new.next) in
+    let new = IsVisited plan c.visit_state.new.found (states_of c.visit_state.new.next) in
     let i = c.loop-state.state-index in
     record {
       grows = Grows-trans before.grows visit.grows;
       extends = Extends-trans before.extends visit.extends;
       visited = All-next new c.args.states.now i c.state-item.result c.loop-state-test.true c.state-item.is
           (All-weaker old new (λ s v. IsVisited-grows s visit.grows visit.extends v) (take i c.args.states.now) before.visited)
-          c.in_ok-visit.ensures.visited;
+          c.in_ok-visit_state.ensures.visited;
     }
 
 pub returns-clause-visited : goal.returns-clause-visited

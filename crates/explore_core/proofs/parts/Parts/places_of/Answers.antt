@@ -6,10 +6,10 @@ pub returns-in_err-timelines-clause-grown : goal.returns-in_err-timelines-clause
 returns-in_err-timelines-clause-grown c = record { timelines = c.place_of.ensures.begins; files = Begins-refl c.args.self.now.files; buffers = Begins-refl c.args.self.now.buffers }
 
 pub returns-in_err-files-clause-grown : goal.returns-in_err-files-clause-grown
-returns-in_err-files-clause-grown c = record { timelines = c.place_of.ensures.begins; files = c.file_places.ensures.begins; buffers = Begins-refl c.args.self.now.buffers }
+returns-in_err-files-clause-grown c = record { timelines = c.place_of.ensures.begins; files = c.file_places.ensures.begins; buffers = c.place_of-2.ensures.begins }
 
 pub returns-in_err-buffers-clause-grown : goal.returns-in_err-buffers-clause-grown
-returns-in_err-buffers-clause-grown c = record { timelines = c.place_of.ensures.begins; files = c.file_places.ensures.begins; buffers = c.place_of-2.ensures.begins }
+returns-in_err-buffers-clause-grown c = record { timelines = c.place_of.ensures.begins; files = Begins-refl c.args.self.now.files; buffers = c.place_of-2.ensures.begins }
 
 pub returns-clause-grown : goal.returns-clause-grown
 returns-clause-grown c = record { timelines = c.place_of.ensures.begins; files = c.file_places.ensures.begins; buffers = c.place_of-2.ensures.begins }

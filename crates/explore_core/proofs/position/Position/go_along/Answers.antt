@@ -19,7 +19,9 @@ loop-client-preserved c = λ from to at leads.
     let last : Leads plan split.0 (client ∷ []) to = split.2 in
     subst (IsAt c.go_again.new.self) last.2 (c.in_ok-go_again.ensures.after split.0 last.0 (c.loop-client.invariant from split.0 at split.1) last.1)
 
-pub returns-clause-along : goal.returns-clause-along
-returns-clause-along c = λ from to at leads.
-    let all = take_all c.loop-client.client-index c.args.schedule.now c.loop-client-test.false in
-    c.loop-client.invariant from to at (subst (λ s. Leads c.args.plan.now from s to) (sym all) leads)
+pub returns : goal.returns
+returns c = record {
+  along = λ from to at leads.
+      let all = take_all c.loop-client.client-index c.args.schedule.now c.loop-client-test.false in
+      c.loop-client.invariant from to at (subst (λ s. Leads c.args.plan.now from s to) (sym all) leads);
+}

@@ -1,7 +1,11 @@
 use Rattle.explore_core.proofs.visit.Visit.come_back.Goals as goal
 
-pub returns-then-not-self-clause-at : goal.returns-then-not-self-clause-at
-returns-then-not-self-clause-at c = λ of. of c.if-not-self.true
+pub returns-then-not-self : goal.returns-then-not-self
+returns-then-not-self c = record {
+  at = λ of. of c.if-not-self.true;
+}
 
-pub returns-clause-at : goal.returns-clause-at
-returns-clause-at c = λ of. c.in_ok-restart.ensures.at
+pub returns : goal.returns
+returns c = record {
+  at = λ of. c.in_ok-restart.ensures.at;
+}
