@@ -1,6 +1,6 @@
 //! `Device`: timelines, sync files and buffers by number, with the kernel's requests as calls. Each call finds its
 //! causes of refusal first, and changes nothing if one holds.
-ghost use Rattle.std.specs.Prelude.{◌≡◌, ◌⊎◌, ℕ, ◌+◌, ◌^◌, ◌≤◌, nat_eq, if◌then◌else◌, Some, None, is_some, option_map, ◌||◌, IsSome, IfSome, IfNone, OnOk, OnErr, IfOk, IfErr, MatchOption, Ok, Err, true, false, ◌<◌, ◌↔◌, Contains, length, ok_or, slice_get};
+ghost use Rattle.std.specs.Prelude.{◌≡◌, ◌⊎◌, ℕ, ◌+◌, ◌^◌, ◌≤◌, nat_eq, if◌then◌else◌, Some, None, is_some, ◌||◌, IsSome, IfSome, IfNone, OnOk, OnErr, IfOk, IfErr, MatchOption, Ok, Err, true, false, ◌<◌, ◌↔◌, Contains, length, ok_or, slice_get};
 ghost use Rattle.std.specs.List.Sorted.{IsStrictlyIncreasing};
 ghost use Rattle.device_core.specs.declared.errno.Errno.TheVariants.{Invalid, NoEntry, NoMemory, NoNumber, Overflow};
 ghost use Rattle.device_core.specs.declared.text.Text.{Text as Name};
@@ -10,7 +10,6 @@ ghost use Rattle.device_core.specs.theorem.Fences.{are_signalled, signal_at, sta
 ghost use Rattle.device_core.specs.theorem.Info.{IsInfo};
 ghost use Rattle.device_core.specs.theorem.Memory.{KeepsWhatIsAlive, table_sizes_of};
 ghost use Rattle.device_core.specs.Woken.{file_wakes};
-ghost use Rattle.device_core.specs.theorem.Wrapping.{unwrapped as unwrapped_of};
 ghost use Rattle.device_core.specs.theorem.State.{nothing, at, timeline_at, file_at, file_of, new_timeline, raised, merged_files, one_fence_file, missing_timeline, missing_file, buffer_at, objects_of, AreSignalled};
 ghost use Rattle.device_core.specs.declared.request.Request.TheVariants as request;
 ghost use Rattle.device_core.specs.theorem.Request.{AreWoken, IsCause, cause_of, closed, takes_memory};
@@ -19,13 +18,14 @@ mod buffers;
 
 use crate::buffer::Buffer;
 use crate::errno::Errno;
-use crate::fence::{Fence, Signal, Timeline, one_fence};
+use crate::fence::{Fence, Signal, Timeline, list_of_one};
 use crate::file::File;
 use crate::info::{FileInfo, info as info_of};
 use crate::merging::{merged, merged_time};
 use crate::room::give_room_back;
 use crate::text::Text;
 use crate::timelines::OpenTimelines;
+use crate::woken::{wakes_some, woken_by};
 use point_core::Status;
 use std::alloc::Global;
 use std::collections::HashMap;
@@ -128,7 +128,7 @@ impl Device {
         let _number = self.next_number()?;
         let known = self.timeline(timeline)?;
         let fence = Fence::at(timeline, &known, point, now)?;
-        let fences = one_fence(self.alloc, fence)?;
+        let fences = list_of_one(self.alloc, fence)?;
         self.add_file(Text::EMPTY, fences, 0)
     }
 
@@ -165,10 +165,8 @@ impl Device {
         let Some(value) = known.value.checked_add(u64::from(n)) else {
             return Err(Errno::Overflow);
         };
-        let Ok(woken) = self
-            .timelines
-            .woken_by(self.alloc, &self.files, timeline, value)
-        else {
+        let points = self.timelines.points();
+        let Ok(woken) = woken_by(self.alloc, points, &self.files, timeline, value) else {
             return Err(Errno::NoMemory);
         };
         let signal = Signal {
@@ -222,10 +220,8 @@ impl Device {
         ensures unchanged { OnErr result (self.new ≡ self.old) }
     {
         let _known = self.timeline(timeline)?;
-        let Ok(woken) = self
-            .timelines
-            .woken_by(self.alloc, &self.files, timeline, u64::MAX)
-        else {
+        let points = self.timelines.points();
+        let Ok(woken) = woken_by(self.alloc, points, &self.files, timeline, u64::MAX) else {
             return Err(Errno::NoMemory);
         };
         let signal = Signal {
@@ -428,7 +424,7 @@ impl Device {
         };
         // for the proof: no file has a number past the next one
         let _next = self.next;
-        if self.timelines.wakes_some(&self.files, timeline, value) {
+        if wakes_some(self.timelines.points(), &self.files, timeline, value) {
             return Err(Errno::NoMemory);
         }
         Ok(())
@@ -449,7 +445,7 @@ impl Device {
         }
         // for the proof: no file has a number past the next one
         let _next = self.next;
-        if self.timelines.wakes_some(&self.files, number, u64::MAX) {
+        if wakes_some(self.timelines.points(), &self.files, number, u64::MAX) {
             return Err(Errno::NoMemory);
         }
         Ok(())

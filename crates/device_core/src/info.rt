@@ -1,12 +1,12 @@
 //! Information on a file and its fences, as `SYNC_IOC_FILE_INFO` reports it.
-ghost use Rattle.std.specs.Prelude.{◌≡◌, ◌∷◌, [], map, IfErr, IfOk};
+ghost use Rattle.std.specs.Prelude.{◌≡◌, map, IfErr, IfOk};
 ghost use Rattle.device_core.specs.declared.errno.Errno.TheVariants.{NoMemory};
 ghost use Rattle.device_core.specs.theorem.Fences.{status_of};
 ghost use Rattle.device_core.specs.theorem.Info.{driver_name, fence_info as fence_info_of, fence_infos as fence_infos_of, stub_info as stub_info_of};
 ghost use Rattle.device_core.specs.theorem.Names.{as_text, file_name};
 
 use crate::errno::Errno;
-use crate::fence::Fence;
+use crate::fence::{Fence, list_of_one};
 use crate::file::File;
 use crate::naming::name_of;
 use crate::text::Text;
@@ -73,20 +73,9 @@ fn fence_infos(alloc: Global, file: &File) -> Result<Vec<FenceInfo>, Errno>
     ensures memory { IfErr result (λ e. e ≡ NoMemory) }
 {
     if file.fences.is_empty() {
-        return one(alloc, stub_info(file.stub_at));
+        return list_of_one(alloc, stub_info(file.stub_at));
     }
     each(alloc, file.fences.as_slice())
-}
-
-fn one(alloc: Global, info: FenceInfo) -> Result<Vec<FenceInfo>, Errno>
-    ensures one { IfOk result (λ infos. infos.items ≡ info ∷ []) }
-    ensures memory { IfErr result (λ e. e ≡ NoMemory) }
-{
-    let Ok(mut infos) = Vec::with_capacity(alloc, 1) else {
-        return Err(Errno::NoMemory);
-    };
-    infos.push_reserved(info);
-    Ok(infos)
 }
 
 fn each(alloc: Global, fences: &[Fence]) -> Result<Vec<FenceInfo>, Errno>

@@ -1,9 +1,8 @@
 //! `OpenTimelines`: the open timelines, and the index of the points for which files wait. Each timeline has a floor, at or
 //! below every point that is waited for, so most increments compare once.
-ghost use Rattle.std.specs.Prelude.{◌≡◌, ℕ, ◌+◌, ◌<◌, ◌≤◌, ◌^◌, ◌↔◌, not, ◌&&◌, ◌||◌, nat_eq, if◌then◌else◌, length, [], None, Some, is_some, option_copied, option_map, Contains, true, false, IfOk, IfErr, IfSome, OnOk, OnErr};
+ghost use Rattle.std.specs.Prelude.{◌≡◌, ℕ, ◌+◌, ◌<◌, ◌^◌, not, ◌&&◌, ◌||◌, nat_eq, if◌then◌else◌, length, [], None, Some, is_some, option_copied, option_map, true, false, IfErr, IfSome, OnOk, OnErr};
 ghost use Rattle.std.specs.Bool.{OnTrue, OnFalse};
 ghost use Rattle.std.specs.List.{IsDistinct};
-ghost use Rattle.std.specs.List.Sorted.{IsStrictlyIncreasing};
 ghost use Rattle.std.specs.Map.{keys_of};
 ghost use Rattle.point_core.specs.Reach.{GREATEST};
 ghost use Rattle.device_core.specs.declared.errno.Errno.TheVariants.{NoMemory};
@@ -11,16 +10,15 @@ ghost use Rattle.device_core.specs.declared.waiting_files.Waiter.{Waiter as Key}
 ghost use Rattle.device_core.specs.Due.{IsFirstHeld};
 ghost use Rattle.device_core.specs.Floors.{HasRisenQuietly, lowered, lowered_by, settled, timelines_in, timelines_state};
 ghost use Rattle.device_core.specs.theorem.State.{AreInOrder, AreSignalled, IsIndexed, at, holds, is_due_at, raised, waits_of};
-ghost use Rattle.device_core.specs.Woken.{WakesSome, file_wakes};
 
 use crate::errno::Errno;
 use crate::fence::{Fence, Signal, Timeline};
 use crate::file::File;
 use crate::room::give_room_back;
 use crate::signalling::signal_due;
-use crate::waiting_files::WaitingFiles;
+use crate::waiting_files::{Waiter, WaitingFiles};
 use std::alloc::Global;
-use std::collections::HashMap;
+use std::collections::{BTreeSet, HashMap};
 use std::marker::Model;
 
 /// An open timeline, and its floor: no file waits for a lower point. The floor of a new timeline is 0.
@@ -102,6 +100,13 @@ impl OpenTimelines {
         self.waiting.len()
     }
 
+    /// The points for which files wait, by timeline and value.
+    pub(crate) fn points(&self) -> &BTreeSet<Waiter>
+        ensures keys { result.now.keys ≡ self.now.index }
+    {
+        self.waiting.points()
+    }
+
     /// Whether an open timeline has this number.
     pub(crate) fn contains_key(&self, number: &u64) -> bool
         ensures { result ≡ is_some (at self.now.entries number.now) }
@@ -146,36 +151,6 @@ impl OpenTimelines {
             return false;
         };
         known.rise_below_floor(n)
-    }
-
-    /// The files that signal once a timeline signals up to the value, by rising number.
-    ///
-    /// Fails only with `NoMemory`.
-    pub(crate) fn woken_by(
-        &self,
-        alloc: Global,
-        files: &HashMap<u64, File>,
-        number: u64,
-        value: u64,
-    ) -> Result<Vec<u64>, Errno>
-        requires indexed { IsIndexed self.now.index files.now.entries }
-        requires below { (n : ℕ) → 2 ^ 64 ≤ n → at files.now.entries n ≡ None }
-        ensures woken { IfOk result (λ found. (n : ℕ) →
-            (Contains found.items n ↔ (file_wakes number value (at files.now.entries n) ≡ true))) }
-        ensures rising { IfOk result (λ found. IsStrictlyIncreasing found.items) }
-        ensures memory { IfErr result (λ e. (e ≡ NoMemory) × WakesSome number value (at files.now.entries)) }
-    {
-        self.waiting.woken_by(alloc, files, number, value)
-    }
-
-    /// Whether a file signals once a timeline signals up to the value. Does not allocate.
-    pub(crate) fn wakes_some(&self, files: &HashMap<u64, File>, number: u64, value: u64) -> bool
-        requires indexed { IsIndexed self.now.index files.now.entries }
-        requires below { (n : ℕ) → 2 ^ 64 ≤ n → at files.now.entries n ≡ None }
-        ensures some { result ≡ true → WakesSome number value (at files.now.entries) }
-        ensures none { result ≡ false → (n : ℕ) → file_wakes number value (at files.now.entries n) ≡ false }
-    {
-        self.waiting.wakes_some(files, number, value)
     }
 
     /// The least point at which a file waits for a timeline, up to the value. Below the timeline's floor none is looked

@@ -1,19 +1,15 @@
 //! `WaitingFiles`: the ordered index of the pending points of all files. It has a file at a point exactly if a fence of
 //! the file is pending there.
-ghost use Rattle.std.specs.Prelude.{◌≡◌, ℕ, ◌≤◌, None, IfOk, ◌+◌, ◌-◌, ◌^◌, length, not, ◌&&◌, ◌||◌, [], ◌∷◌, true, false, OnOk, OnErr, IfErr, IfSome, IfNone, ◌↔◌, Contains};
-ghost use Rattle.std.specs.List.Sorted.{IsStrictlyIncreasing};
+ghost use Rattle.std.specs.Prelude.{◌≡◌, ◌≤◌, None, ◌+◌, ◌-◌, ◌^◌, length, not, ◌&&◌, ◌||◌, [], ◌∷◌, true, false, OnOk, OnErr, IfErr, IfSome, IfNone};
 ghost use Rattle.device_core.specs.declared.waiting_files.Waiter.{Waiter as Key};
 ghost use Rattle.device_core.specs.declared.errno.Errno.TheVariants.{NoMemory};
-ghost use Rattle.device_core.specs.theorem.State.{AreInOrder, is_same, holds, is_due_at, waits_of, IsIndexed, at};
-ghost use Rattle.device_core.specs.Woken.{WakesSome, file_wakes};
+ghost use Rattle.device_core.specs.theorem.State.{AreInOrder, is_same, holds, is_due_at, waits_of};
 ghost use Rattle.device_core.specs.theorem.Fences.{waiter};
 
 use crate::errno::Errno;
 use crate::fence::Fence;
-use crate::file::File;
-use crate::woken::{wakes_some, woken_by};
 use std::alloc::Global;
-use std::collections::{BTreeSet, HashMap};
+use std::collections::BTreeSet;
 use std::marker::Model;
 
 /// A file, and a point for which it waits.
@@ -102,6 +98,13 @@ impl WaitingFiles {
         self.points.len()
     }
 
+    /// The points, by timeline and value.
+    pub(crate) fn points(&self) -> &BTreeSet<Waiter>
+        ensures keys { result.now.keys ≡ self.now }
+    {
+        &self.points
+    }
+
     /// Enters one point.
     ///
     /// Fails only with `NoMemory`, and then leaves everything as it was.
@@ -115,36 +118,6 @@ impl WaitingFiles {
             return Err(Errno::NoMemory);
         };
         Ok(())
-    }
-
-    /// The files that signal once a timeline signals up to the value, by rising number.
-    ///
-    /// Fails only with `NoMemory`.
-    pub(crate) fn woken_by(
-        &self,
-        alloc: Global,
-        files: &HashMap<u64, File>,
-        timeline: u64,
-        value: u64,
-    ) -> Result<Vec<u64>, Errno>
-        requires indexed { IsIndexed self.now files.now.entries }
-        requires below { (n : ℕ) → 2 ^ 64 ≤ n → at files.now.entries n ≡ None }
-        ensures woken { IfOk result (λ found. (n : ℕ) →
-            (Contains found.items n ↔ (file_wakes timeline value (at files.now.entries n) ≡ true))) }
-        ensures rising { IfOk result (λ found. IsStrictlyIncreasing found.items) }
-        ensures memory { IfErr result (λ e. (e ≡ NoMemory) × WakesSome timeline value (at files.now.entries)) }
-    {
-        woken_by(alloc, &self.points, files, timeline, value)
-    }
-
-    /// Whether a file signals once a timeline signals up to the value. Does not allocate.
-    pub(crate) fn wakes_some(&self, files: &HashMap<u64, File>, timeline: u64, value: u64) -> bool
-        requires indexed { IsIndexed self.now files.now.entries }
-        requires below { (n : ℕ) → 2 ^ 64 ≤ n → at files.now.entries n ≡ None }
-        ensures some { result ≡ true → WakesSome timeline value (at files.now.entries) }
-        ensures none { result ≡ false → (n : ℕ) → file_wakes timeline value (at files.now.entries n) ≡ false }
-    {
-        wakes_some(&self.points, files, timeline, value)
     }
 
     /// Enters a file at each of its pending fences.

@@ -31,7 +31,12 @@ pub(crate) fn woken_by(
     ensures rising { IfOk result (λ found. IsStrictlyIncreasing found.items) }
     ensures memory { IfErr result (λ e. (e ≡ NoMemory) × WakesSome timeline value (at files.now.entries)) }
 {
-    let mut woken = gathered(alloc, points, files, timeline, value)?;
+    let first = Waiter::first(timeline);
+    let last = Waiter::last(timeline, value);
+    let mut woken = Vec::new(alloc);
+    for due in points.range(first..=last) {
+        put_if_woken(&mut woken, files, due.file, timeline, value)?;
+    }
     put_in_order(&mut woken);
     Ok(woken)
 }
@@ -65,28 +70,6 @@ fn put_in_order(numbers: &mut Vec<u64>)
 {
     numbers.sort_unstable();
     numbers.dedup();
-}
-
-fn gathered(
-    alloc: Global,
-    points: &BTreeSet<Waiter>,
-    files: &HashMap<u64, File>,
-    timeline: u64,
-    value: u64,
-) -> Result<Vec<u64>, Errno>
-    requires indexed { IsIndexed points.now.keys files.now.entries }
-    requires below { (n : ℕ) → 2 ^ 64 ≤ n → at files.now.entries n ≡ None }
-    ensures woken { IfOk result (λ found. (n : ℕ) →
-        has found.items n ≡ file_wakes timeline value (at files.now.entries n)) }
-    ensures memory { IfErr result (λ e. (e ≡ NoMemory) × WakesSome timeline value (at files.now.entries)) }
-{
-    let first = Waiter::first(timeline);
-    let last = Waiter::last(timeline, value);
-    let mut woken = Vec::new(alloc);
-    for due in points.range(first..=last) {
-        put_if_woken(&mut woken, files, due.file, timeline, value)?;
-    }
-    Ok(woken)
 }
 
 fn put_if_woken(

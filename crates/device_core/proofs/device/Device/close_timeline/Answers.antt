@@ -1,11 +1,17 @@
-use Rattle.std.proofs.Common.{◌≡◌, ◌∙◌, true, refl, sym, ap, subst, Some, is_some}
+use Rattle.std.proofs.Common.{◌≡◌, ◌∙◌, true, refl, sym, ap, subst, Some, is_some, arith}
 use Rattle.std.specs.Prelude.{IfSome}
 use Rattle.device_core.specs.declared.errno.Errno.TheVariants.{NoMemory}
 use Rattle.device_core.specs.declared.request.Request.TheVariants as request
 use Rattle.device_core.specs.theorem.Request.{takes_memory}
-use Rattle.device_core.specs.theorem.State.{DeviceState, at, objects_of, timeline_at}
+use Rattle.device_core.specs.theorem.State.{DeviceState, at, objects_of, timeline_at, IsIndexed}
 use Rattle.device_core.proofs.Needing.{close-takes}
 use Rattle.device_core.proofs.device.Device.close_timeline.Goals as goal
+
+pub woken_by-requires : goal.woken_by-requires
+woken_by-requires c = record {
+  indexed = subst (λ index. IsIndexed index c.self.inside.files.entries) (sym c.points-points.ensures.keys) c.self.invariant.indexed;
+  below = λ n past. c.self.invariant.files_given n (omega (arith, past));
+}
 
 pub returns-in_default-clause-last : goal.returns-in_default-clause-last
 returns-in_default-clause-last c =

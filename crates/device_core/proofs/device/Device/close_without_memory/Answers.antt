@@ -1,10 +1,16 @@
-use Rattle.std.proofs.Common.{◌≡◌, ◌∙◌, true, false, is_some, refl, sym, subst}
+use Rattle.std.proofs.Common.{◌≡◌, ◌∙◌, true, false, is_some, refl, sym, subst, arith}
 use Rattle.device_core.specs.declared.errno.Errno.TheVariants.{NoMemory}
 use Rattle.device_core.specs.declared.request.Request.TheVariants as request
 use Rattle.device_core.specs.theorem.Request.{IsCause, cause_of, takes_memory}
-use Rattle.device_core.specs.theorem.State.{DeviceState, at, objects_of}
+use Rattle.device_core.specs.theorem.State.{DeviceState, at, objects_of, IsIndexed}
 use Rattle.device_core.proofs.Needing.{close-refused, close-spares, drop-spares}
 use Rattle.device_core.proofs.device.Device.close_without_memory.Goals as goal
+
+pub wakes_some-requires : goal.wakes_some-requires
+wakes_some-requires c = record {
+  indexed = subst (λ index. IsIndexed index c.self.inside.files.entries) (sym c.points.ensures.keys) c.self.invariant.indexed;
+  below = λ n past. c.self.invariant.files_given n (omega (arith, past));
+}
 
 pub returns-then-not-contains_key-clause-none : goal.returns-then-not-contains_key-clause-none
 returns-then-not-contains_key-clause-none c = λ now.

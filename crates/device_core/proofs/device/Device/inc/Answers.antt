@@ -1,17 +1,23 @@
-use Rattle.std.proofs.Common.{◌≡◌, ◌↔◌, ◌⊎◌, ◌^◌, ◌<◌, ◌≤◌, ℕ, ◌+◌, true, false, inl, refl, sym, subst, Contains, Option, Some, arith, rules}
+use Rattle.std.proofs.Common.{◌≡◌, ◌↔◌, ◌⊎◌, ◌^◌, ◌<◌, ◌≤◌, ℕ, ◌+◌, true, false, inl, refl, sym, subst, Contains, Option, Some, arith, rules, ap, ◌∙◌}
 use Rattle.std.specs.Prelude.{IfSome}
 use Rattle.device_core.specs.declared.fence.Timeline.{Timeline}
 use Rattle.device_core.specs.declared.errno.Errno.TheVariants.{NoMemory, Overflow}
 use Rattle.device_core.specs.declared.request.Request.TheVariants as request
 use Rattle.device_core.specs.theorem.Request.{takes_memory}
 use Rattle.device_core.specs.theorem.Fences.{signal_at}
-use Rattle.device_core.specs.Floors.{HasRisenQuietly}
-use Rattle.device_core.specs.theorem.State.{AreSignalled, DeviceState, at, file_at, objects_of, timeline_at}
+use Rattle.device_core.specs.Floors.{HasRisenQuietly, TimelinesState}
+use Rattle.device_core.specs.theorem.State.{AreSignalled, DeviceState, at, file_at, objects_of, timeline_at, IsIndexed}
 use Rattle.device_core.specs.Woken.{WakesSome, file_wakes}
 use Rattle.device_core.proofs.Needing.{inc-takes}
 use Rattle.device_core.proofs.Signalled.{quiet-signalled}
 use Rattle.device_core.proofs.Waking.{quiet-woken}
 use Rattle.device_core.proofs.device.Device.inc.Goals as goal
+
+pub woken_by-requires : goal.woken_by-requires
+woken_by-requires c = record {
+  indexed = subst (λ index. IsIndexed index c.self.inside.files.entries) (sym (c.points-points.ensures.keys ∙ ap (λ (t : TimelinesState). t.index) c.if-rise_quietly.ensures.unchanged)) c.self.invariant.indexed;
+  below = λ n past. c.self.invariant.files_given n (omega (arith, past));
+}
 
 pub returns-then-rise_quietly-clause-woken : goal.returns-then-rise_quietly-clause-woken
 returns-then-rise_quietly-clause-woken c =

@@ -1,11 +1,17 @@
-use Rattle.std.proofs.Common.{◌≡◌, ◌+◌, ◌∙◌, ℕ, false, refl, ap, subst, Some, arith}
+use Rattle.std.proofs.Common.{◌≡◌, ◌+◌, ◌∙◌, ℕ, false, refl, ap, subst, Some, arith, sym}
 use Rattle.device_core.specs.declared.errno.Errno.TheVariants.{NoMemory}
 use Rattle.device_core.specs.declared.request.Request.TheVariants as request
 use Rattle.device_core.specs.theorem.Request.{IsCause, cause_of, takes_memory}
-use Rattle.device_core.specs.theorem.State.{DeviceState, at, objects_of, timeline_at}
+use Rattle.device_core.specs.theorem.State.{DeviceState, at, objects_of, timeline_at, IsIndexed}
 use Rattle.device_core.specs.Woken.{WakesSome, file_wakes}
 use Rattle.device_core.proofs.Needing.{inc-refused, inc-spares}
 use Rattle.device_core.proofs.device.Device.inc_without_memory.Goals as goal
+
+pub wakes_some-requires : goal.wakes_some-requires
+wakes_some-requires c = record {
+  indexed = subst (λ index. IsIndexed index c.self.inside.files.entries) (sym c.points.ensures.keys) c.self.invariant.indexed;
+  below = λ n past. c.self.invariant.files_given n (omega (arith, past));
+}
 
 pub returns-then-wakes_some-clause-refused : goal.returns-then-wakes_some-clause-refused
 returns-then-wakes_some-clause-refused c = λ now.
