@@ -3,7 +3,7 @@ ghost use Rattle.std.specs.Prelude.{◌≡◌, ◌++◌, IfOk, IfErr, OnOk};
 ghost use Rattle.std.specs.Str.Lossy.{utf8_lossy};
 ghost use Rattle.point_core.specs.declared.refusal.Refusal.TheVariants.{Memory};
 ghost use Rattle.json_core.specs.Part.{Adds};
-ghost use Rattle.json_core.specs.Json.{answer_tokens, info_tokens, limit_of, line_text, line_tokens};
+ghost use Rattle.json_core.specs.Json.{accepted, answer_tokens, info_tokens, limit_of, line_text, line_tokens};
 ghost use Rattle.json_core.specs.Json.{limit_tokens, raised_tokens, refusal_tokens, report_tokens, said_tokens, show_tokens, value_tokens};
 
 use crate::array::put_array;
@@ -71,7 +71,7 @@ fn put_answer(writer: &mut Writer, answer: &Answer) -> Result<(), AllocError>
     ensures added { OnOk result (Adds writer.old writer.new (answer_tokens answer.now)) }
 {
     match answer {
-        Answer::Done => put_all(writer, &[AnswerPart::Key("ok"), AnswerPart::Bool(true)]),
+        Answer::Done => put_accepted(writer),
         Answer::Value(value) => put_value(writer, *value),
         Answer::Raised(value, fired) => put_raised(writer, *value, fired.as_slice()),
         Answer::Info(info) => put_info(writer, info),
@@ -81,16 +81,22 @@ fn put_answer(writer: &mut Writer, answer: &Answer) -> Result<(), AllocError>
     }
 }
 
+/// Writes the member of every answer that is no refusal.
+fn put_accepted(writer: &mut Writer) -> Result<(), AllocError>
+    ensures added { OnOk result (Adds writer.old writer.new accepted) }
+{
+    put_all(writer, &[AnswerPart::Key("ok"), AnswerPart::Bool(true)])
+}
+
 fn put_value(writer: &mut Writer, value: u64) -> Result<(), AllocError>
     ensures added { OnOk result (Adds writer.old writer.new (value_tokens value)) }
 {
-    let parts = [
-        AnswerPart::Key("ok"),
-        AnswerPart::Bool(true),
-        AnswerPart::Key("value"),
-        AnswerPart::Number(value),
-    ];
-    put_all(writer, &parts)
+    put_accepted(writer)?;
+    put_all(
+        writer,
+        &[AnswerPart::Key("value"), AnswerPart::Number(value)],
+    )?;
+    Ok(())
 }
 
 fn put_raised(writer: &mut Writer, value: u64, fired: &[u64]) -> Result<(), AllocError>
@@ -104,9 +110,8 @@ fn put_raised(writer: &mut Writer, value: u64, fired: &[u64]) -> Result<(), Allo
 fn put_info(writer: &mut Writer, info: &Info) -> Result<(), AllocError>
     ensures added { OnOk result (Adds writer.old writer.new (info_tokens info.now)) }
 {
+    put_accepted(writer)?;
     let file = [
-        AnswerPart::Key("ok"),
-        AnswerPart::Bool(true),
         AnswerPart::Key("file"),
         AnswerPart::Name(&info.name),
         AnswerPart::Key("status"),
@@ -120,7 +125,7 @@ fn put_info(writer: &mut Writer, info: &Info) -> Result<(), AllocError>
 fn put_show(writer: &mut Writer, rows: &[ShowRow]) -> Result<(), AllocError>
     ensures added { OnOk result (Adds writer.old writer.new (show_tokens rows.now)) }
 {
-    put_all(writer, &[AnswerPart::Key("ok"), AnswerPart::Bool(true)])?;
+    put_accepted(writer)?;
     put_array(writer, "rows", rows)?;
     Ok(())
 }
@@ -128,7 +133,7 @@ fn put_show(writer: &mut Writer, rows: &[ShowRow]) -> Result<(), AllocError>
 fn put_report(writer: &mut Writer, report: &Report) -> Result<(), AllocError>
     ensures added { OnOk result (Adds writer.old writer.new (report_tokens report.now)) }
 {
-    put_all(writer, &[AnswerPart::Key("ok"), AnswerPart::Bool(true)])?;
+    put_accepted(writer)?;
     put_array(writer, "timelines", report.timelines.as_slice())?;
     put_array(writer, "files", report.files.as_slice())?;
     put_array(writer, "buffers", report.buffers.as_slice())?;
