@@ -21,7 +21,7 @@ use Rattle.picture_core.specs.declared.graph.Edge.{Edge}
 use Rattle.picture_core.specs.declared.graph.Waiter.{Waiter}
 use Rattle.picture_core.specs.declared.graph.Waiter.TheVariants as waiter
 use Rattle.picture_core.specs.declared.history.WatchLane.{WatchLane}
-use Rattle.picture_core.specs.declared.waiting.Waiting.{Waiting}
+use Rattle.picture_core.specs.declared.graph.Waiting.{Waiting}
 use Rattle.draw_core.proofs.Active.{edges-active}
 use Rattle.draw_core.specs.Beside.{points_named}
 use Rattle.draw_core.specs.Drawn.{IsToGo, IsWaitingFor}

@@ -21,7 +21,7 @@ use Rattle.picture_core.specs.Bars.{goes_on}
 use Rattle.picture_core.specs.declared.bar.Bar.{Bar}
 use Rattle.picture_core.specs.declared.history.BarWait.{BarWait}
 use Rattle.picture_core.specs.declared.history.Column.{Column}
-use Rattle.picture_core.specs.declared.waiting.Waiting.{Waiting}
+use Rattle.picture_core.specs.declared.graph.Waiting.{Waiting}
 use Rattle.draw_core.specs.declared.window.Window.{Window}
 use Rattle.draw_core.specs.Beside.{all_waits, is_active_point, points_named, wait_at, waits_of}
 use Rattle.draw_core.specs.Drawn.{IsWaitingFor}

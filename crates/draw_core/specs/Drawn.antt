@@ -10,7 +10,7 @@ use Rattle.syncfile_core.specs.SyncFile.{File, file_at}
 use Rattle.desk_core.specs.theorem.Desk.{DeskState}
 use Rattle.picture_core.specs.Bars.{drawn_at}
 use Rattle.picture_core.specs.declared.bar.Bar.{Bar}
-use Rattle.picture_core.specs.declared.waiting.Waiting.{Waiting}
+use Rattle.picture_core.specs.declared.graph.Waiting.{Waiting}
 
 -- the status of a file on the desk, as its information shows it; none if no file has that name
 abbrev pub file_status : DeskState → List ℕ → Option Status

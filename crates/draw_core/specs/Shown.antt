@@ -19,7 +19,7 @@ use Rattle.picture_core.specs.Bars.{drawn_at, is_there}
 use Rattle.picture_core.specs.declared.bar.Bar.{Bar}
 use Rattle.picture_core.specs.declared.history.BarWait.{BarWait}
 use Rattle.picture_core.specs.declared.history.Column.{Column}
-use Rattle.picture_core.specs.declared.waiting.Waiting.{Waiting}
+use Rattle.picture_core.specs.declared.graph.Waiting.{Waiting}
 use Rattle.draw_core.specs.Beside.{all_waits}
 use Rattle.draw_core.specs.Columns.{lines_drawn}
 

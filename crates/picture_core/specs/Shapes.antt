@@ -30,7 +30,7 @@ use Rattle.picture_core.specs.declared.shapes.Spot.{Spot}
 use Rattle.picture_core.specs.declared.shapes.Stroke.{Stroke}
 use Rattle.picture_core.specs.declared.shapes.Stroke.TheVariants as stroke
 use Rattle.picture_core.specs.declared.shapes.Text.{Text}
-use Rattle.picture_core.specs.declared.waiting.Waiting.{Waiting}
+use Rattle.picture_core.specs.declared.graph.Waiting.{Waiting}
 use Rattle.picture_core.specs.Bars.{drawn_at, goes_on, is_there}
 
 abbrev pub is_bar_fill : Fill → Bool

@@ -1,7 +1,6 @@
 //! Writes a graph in DOT, the language of Graphviz.
 
-use crate::graph::{Edge, Graph, Node, Waiter};
-use crate::waiting::Waiting;
+use crate::graph::{Edge, Graph, Node, Waiter, Waiting};
 use command_core::FileRow;
 use point_core::{Name, Refusal, Status, TimelineRow, Usage};
 use std::alloc::{AllocError, Global};

@@ -4,11 +4,19 @@ ghost use Rattle.picture_core.specs.declared.graph.Node.TheVariants as kind;
 ghost use Rattle.picture_core.specs.Waits.{edge_to};
 
 use crate::list::push;
-use crate::waiting::Waiting;
 use command_core::FileRow;
 use point_core::{Name, Refusal, TimelineRow, Usage};
 use std::alloc::Global;
 use std::collections::HashSet;
+
+/// A point that is not reached, and how far its timeline has to go.
+#[derive(Clone, Copy)]
+pub struct Waiting {
+    pub timeline: Name,
+    pub point: u64,
+    /// How much the timeline's value has to grow.
+    pub to_go: u64,
+}
 
 /// A node of a graph.
 #[derive(Clone, Copy)]

@@ -5,8 +5,8 @@ ghost use Rattle.picture_core.specs.Timelines.{model_of, shut_if, stepped_if, st
 ghost use Rattle.picture_core.specs.Watches.{ended_if, is_pending};
 
 use crate::bar::Bar;
+use crate::graph::Waiting;
 use crate::list::push;
-use crate::waiting::Waiting;
 use point_core::{Name, Point, Refusal, Usage};
 use std::alloc::{AllocError, Global};
 

@@ -17,12 +17,11 @@ mod shapes;
 mod sheet;
 mod style;
 mod svg;
-mod waiting;
 mod word;
 
 pub use bar::{Bar, Settled};
 pub use dot::dot_text;
-pub use graph::{Edge, Graph, Node, Waiter};
+pub use graph::{Edge, Graph, Node, Waiter, Waiting};
 pub use history::{
     Access, BarWait, BufferLane, BufferMark, Column, History, Lane, Lanes, Link, TimelineLane,
     ValueStep, WatchEnd, WatchLane,
@@ -32,4 +31,3 @@ pub use shapes::{
     ColumnArea, Face, Fill, Heading, Label, Mark, Meaning, Picture, Shape, Spot, Stroke, Text,
 };
 pub use svg::svg_text;
-pub use waiting::Waiting;

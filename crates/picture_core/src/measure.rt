@@ -1,6 +1,6 @@
 //! The width of texts, which are drawn with characters of equal width.
 
-use crate::waiting::Waiting;
+use crate::graph::Waiting;
 use itoa::Buffer;
 use point_core::Name;
 

@@ -2,9 +2,9 @@
 ghost use Rattle.std.specs.Prelude.{◌≡◌, ◌∷◌, ◌++◌, [], true, false, OnOk, None, option_to_list};
 ghost use Rattle.picture_core.specs.Shapes.{is_bar_fill, is_link, is_told_mark, told_on, waiting_in, waits_on};
 
+use crate::graph::Waiting;
 use crate::history::Access;
 use crate::list::push;
-use crate::waiting::Waiting;
 use point_core::Name;
 use std::alloc::{AllocError, Global};
 

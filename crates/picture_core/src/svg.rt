@@ -1,10 +1,10 @@
 //! Writes a picture as an SVG document. Every text is escaped.
 
+use crate::graph::Waiting;
 use crate::history::{Column, History};
 use crate::measure::{digits, name_length, text_width, waiting_length};
 use crate::shapes::{ColumnArea, Face, Fill, Label, Mark, Picture, Shape, Spot, Stroke, Text};
 use crate::style::style;
-use crate::waiting::Waiting;
 use crate::word::{letter_of, word_of_heading, words_of};
 use point_core::{Name, Refusal};
 use std::alloc::{AllocError, Global};

@@ -1,5 +1,5 @@
 use Rattle.std.proofs.Common.{◌∙◌, ◌++◌, List, ap}
-use Rattle.picture_core.specs.declared.waiting.Waiting.{Waiting}
+use Rattle.picture_core.specs.declared.graph.Waiting.{Waiting}
 use Rattle.picture_core.specs.Shapes.{told_on, waitings}
 use Rattle.picture_core.proofs.Samples.{added-all, on_ok}
 use Rattle.picture_core.proofs.picture.push_all.Goals as goal
