@@ -30,7 +30,7 @@ use Rattle.desk_core.specs.Sound.{IsSound, WasMade}
 use Rattle.desk_core.proofs.Keeping.{AgreesAbove-listed_points, sync_file_at-points, file_named-All}
 use Rattle.desk_core.proofs.Signalling.{common_status-reported}
 use Rattle.picture_core.specs.declared.bar.Bar.{Bar}
-use Rattle.picture_core.specs.declared.bar.Settled.{Settled}
+use Rattle.picture_core.specs.declared.bar.BarSettled.{BarSettled}
 use Rattle.picture_core.specs.Bars.{bar_of, bars_after, closed_if, drawn_at, is_closed_by, is_open_of, is_there, settled_at, with_closed}
 use Rattle.draw_core.specs.Drawn.{AreAsked, IsAsked, file_status as desk_status}
 use Rattle.draw_core.specs.Shown.{IsShown, file_names, names_there, status_in}
@@ -62,7 +62,7 @@ there_later n column b more past =
     ap (λ c. c && not (is_closed_by column b.closed)) (le-leb b.made column (omega arith) ∙ sym (le-leb b.made n made))
     ∙ ap (λ c. nat_le b.made n && not c) (closed_later n column b.closed more past.closed)
 
-settled_later : (n column : ℕ) (o : Option Settled) → n ≤ column → IfSome o (λ s. (s.column ≤ n) × (is_signalled s.status ≡ true)) → IfSome o (λ s. (s.column ≤ column) × (is_signalled s.status ≡ true))
+settled_later : (n column : ℕ) (o : Option BarSettled) → n ≤ column → IfSome o (λ s. (s.column ≤ n) × (is_signalled s.status ≡ true)) → IfSome o (λ s. (s.column ≤ column) × (is_signalled s.status ≡ true))
 settled_later n column None more past = tt
 settled_later n column (Some s) more past = let low = past.0 in (omega arith, past.1)
 
@@ -339,7 +339,7 @@ abbrev pub IsCarried : World → ℕ → Bar → Type 0
 IsCarried w column b = is_there column b ≡ true → IfSome b.settled (λ s. status_in w b.name ≡ Some s.status)
 
 -- columns that were drawn before
-drawn_settled : (n : ℕ) (o : Option Settled) (found : Option Status) → IfSome o (λ s. (s.column ≤ n) × (is_signalled s.status ≡ true)) → found ≡ Some (settled_at o n) → IfSome o (λ s. found ≡ Some s.status)
+drawn_settled : (n : ℕ) (o : Option BarSettled) (found : Option Status) → IfSome o (λ s. (s.column ≤ n) × (is_signalled s.status ≡ true)) → found ≡ Some (settled_at o n) → IfSome o (λ s. found ≡ Some s.status)
 drawn_settled n None found past is = tt
 drawn_settled n (Some s) found past is = is ∙ ap (λ b. Some (if b then s.status else Active)) (le-leb s.column n past.0)
 
@@ -360,7 +360,7 @@ status-stays w c name s sound accepted stays signalled is = by (file_named w.fil
         ap (option_map (file_status (after w c))) (file_named-after w c name g stays at)
         ∙ ap Some (file_status-after w c sound accepted g (file_named-All (WasMade w.timelines) w.files name g sound.made at) reached ∙ here)
 
-carried-stays : (w : World) (c : Command) (name : List ℕ) (n : ℕ) (o : Option Settled) → IsSound w → first_of (causes w c) ≡ None → closes c name ≡ false → IfSome o (λ s. (s.column ≤ n) × (is_signalled s.status ≡ true)) → IfSome o (λ s. status_in w name ≡ Some s.status) → IfSome o (λ s. status_in (after w c) name ≡ Some s.status)
+carried-stays : (w : World) (c : Command) (name : List ℕ) (n : ℕ) (o : Option BarSettled) → IsSound w → first_of (causes w c) ≡ None → closes c name ≡ false → IfSome o (λ s. (s.column ≤ n) × (is_signalled s.status ≡ true)) → IfSome o (λ s. status_in w name ≡ Some s.status) → IfSome o (λ s. status_in (after w c) name ≡ Some s.status)
 carried-stays w c name n None sound accepted stays past is = tt
 carried-stays w c name n (Some s) sound accepted stays past is = status-stays w c name s.status sound accepted stays past.1 is
 
@@ -403,7 +403,7 @@ desk_status-world {desk} {w} keeps name =
 
 -- asking
 
-shown_settled : (column : ℕ) (o : Option Settled) (found : Option Status) → IfSome o (λ s. (s.column ≤ column) × (is_signalled s.status ≡ true)) → IfSome o (λ s. found ≡ Some s.status) → (o ≡ None → found ≡ Some (settled_at o column)) → found ≡ Some (settled_at o column)
+shown_settled : (column : ℕ) (o : Option BarSettled) (found : Option Status) → IfSome o (λ s. (s.column ≤ column) × (is_signalled s.status ≡ true)) → IfSome o (λ s. found ≡ Some s.status) → (o ≡ None → found ≡ Some (settled_at o column)) → found ≡ Some (settled_at o column)
 shown_settled column None found past carried none = none refl
 shown_settled column (Some s) found past carried none = carried ∙ ap (λ b. Some (if b then s.status else Active)) (sym (le-leb s.column column past.0))
 
@@ -443,7 +443,7 @@ module _ (desk : DeskState) (column : ℕ) (old new : List Bar) (asked : AreAske
       there : is_there column x ≡ true
       there = sym (there_asked column x y a) ∙ is
 
-      by : (o : Option Settled) → x.settled ≡ o → status_in w y.name ≡ Some (drawn_at y column)
+      by : (o : Option BarSettled) → x.settled ≡ o → status_in w y.name ≡ Some (drawn_at y column)
       by None at =
           ap (status_in w) a.name
           ∙ reported_status (desk_status desk x.name) (status_in w x.name) (drawn_at y column) (desk_status-world keeps x.name) (some_status (file_named w.files x.name) (kept there)) (a.here at (there_open column x past there))

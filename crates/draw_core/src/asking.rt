@@ -5,7 +5,7 @@ ghost use Rattle.timeline_core.specs.Timeline.{clocks_of};
 ghost use Rattle.draw_core.specs.Drawn.{AreAsked, IsAsked};
 
 use desk_core::Desk;
-use picture_core::{Bar, Settled};
+use picture_core::{Bar, BarSettled};
 use point_core::{Point, Status};
 
 /// Settles a bar if it is pending and its file is signalled, after the command of that column.
@@ -18,7 +18,7 @@ pub fn ask(bar: &mut Bar, desk: &Desk, column: usize)
     if let Some(points) = desk.file_points(&bar.name) {
         let status = status_of(desk, points);
         if status.is_signalled() {
-            bar.settled = Some(Settled { column, status });
+            bar.settled = Some(BarSettled { column, status });
         }
     }
 }

@@ -5,7 +5,7 @@ use Rattle.std.specs.List.{enumerate_from, cons_option}
 use Rattle.std.proofs.lemmas.Bool.Decides.{nat_tests}
 use Rattle.std.proofs.lemmas.List.Elements.{All-head, All-tail, filter_map-append}
 use Rattle.picture_core.specs.declared.bar.Bar.{Bar}
-use Rattle.picture_core.specs.declared.bar.Settled.{Settled}
+use Rattle.picture_core.specs.declared.bar.BarSettled.{BarSettled}
 use Rattle.picture_core.specs.declared.history.BufferMark.{BufferMark}
 use Rattle.picture_core.specs.declared.history.History.{History}
 use Rattle.picture_core.specs.declared.history.Lane.{Lane}
@@ -184,7 +184,7 @@ module _ (middle : ℕ → ℕ) (right c : ℕ) (under : (d : ℕ) → nat_le (m
   there-seen : (made : ℕ) (closed : Option ℕ) → is_between (middle made) (end_of middle right closed) (middle c) ≡ (nat_le made c && not (is_closed_by c closed))
   there-seen made closed = λ i. under made i && end-seen closed i
 
-  parts-seen : (made : ℕ) (closed : Option ℕ) (settled : Option Settled) (height : ℕ) → HALF_BAR ≤ height
+  parts-seen : (made : ℕ) (closed : Option ℕ) (settled : Option BarSettled) (height : ℕ) → HALF_BAR ≤ height
       → fills_at (middle c) height (parts_of middle (middle made) (end_of middle right closed) (height - HALF_BAR) settled)
       ≡ cond (nat_le made c && not (is_closed_by c closed)) (fill_of (settled_at settled c) ∷ []) []
   parts-seen made closed None height enough =
@@ -238,7 +238,7 @@ part-beside-if false f left right x y height enough beside =
 part-beside : (f : Fill) (left right x y height : ℕ) → HALF_BAR ≤ height → IsBeside y height → fills_at x y (part_of f left right (height - HALF_BAR)) ≡ []
 part-beside f left right x y height enough beside = part-beside-if (nat_le right left) f left right x y height enough beside
 
-parts-beside : (middle : ℕ → ℕ) (left right x y height : ℕ) (settled : Option Settled) → HALF_BAR ≤ height → IsBeside y height
+parts-beside : (middle : ℕ → ℕ) (left right x y height : ℕ) (settled : Option BarSettled) → HALF_BAR ≤ height → IsBeside y height
     → fills_at x y (parts_of middle left right (height - HALF_BAR) settled) ≡ []
 parts-beside middle left right x y height None enough beside = part-beside fill.Pending left right x y height enough beside
 parts-beside middle left right x y height (Some s) enough beside =

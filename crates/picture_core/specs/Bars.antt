@@ -6,7 +6,7 @@ use Rattle.point_core.specs.declared.status.Status.TheVariants.{Active}
 use Rattle.command_core.specs.declared.command.Command.{Command}
 use Rattle.command_core.specs.declared.command.Command.TheVariants as command
 use Rattle.picture_core.specs.declared.bar.Bar.{Bar}
-use Rattle.picture_core.specs.declared.bar.Settled.{Settled}
+use Rattle.picture_core.specs.declared.bar.BarSettled.{BarSettled}
 
 -- the bar of a file that was made in that column
 abbrev pub bar_of : List ℕ → ℕ → Bar
@@ -35,7 +35,7 @@ bars_after column (command.Close f) bars = with_closed column f bars
 bars_after column _ bars = bars
 
 -- a bar is drawn as pending up to the column in which it is settled
-abbrev pub settled_at : Option Settled → ℕ → Status
+abbrev pub settled_at : Option BarSettled → ℕ → Status
 settled_at None column = Active
 settled_at (Some s) column = if nat_le s.column column then s.status else Active
 

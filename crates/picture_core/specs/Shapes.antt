@@ -4,7 +4,7 @@ use Rattle.std.specs.List.{enumerate_from}
 use Rattle.point_core.specs.declared.status.Status.{Status}
 use Rattle.point_core.specs.declared.status.Status.TheVariants as status
 use Rattle.picture_core.specs.declared.bar.Bar.{Bar}
-use Rattle.picture_core.specs.declared.bar.Settled.{Settled}
+use Rattle.picture_core.specs.declared.bar.BarSettled.{BarSettled}
 use Rattle.picture_core.specs.declared.history.Access.{Access}
 use Rattle.picture_core.specs.declared.history.Access.TheVariants as access
 use Rattle.picture_core.specs.declared.history.BarWait.{BarWait}
@@ -29,7 +29,7 @@ use Rattle.picture_core.specs.declared.shapes.Shape.TheVariants as shape
 use Rattle.picture_core.specs.declared.shapes.Spot.{Spot}
 use Rattle.picture_core.specs.declared.shapes.Stroke.{Stroke}
 use Rattle.picture_core.specs.declared.shapes.Stroke.TheVariants as stroke
-use Rattle.picture_core.specs.declared.shapes.Text.{Text}
+use Rattle.picture_core.specs.declared.shapes.Caption.{Caption}
 use Rattle.picture_core.specs.declared.graph.Waiting.{Waiting}
 use Rattle.picture_core.specs.Bars.{drawn_at, goes_on, is_there}
 
@@ -92,8 +92,8 @@ waiting_in (label.Number number) = None
 waiting_in (label.Watch cookie) = None
 
 -- the points in such texts, in order
-abbrev pub waits_in : List Text → List Waiting
-waits_in texts = filter_map (λ (t : Text). waiting_in t.label) texts
+abbrev pub waits_in : List Caption → List Waiting
+waits_in texts = filter_map (λ (t : Caption). waiting_in t.label) texts
 
 abbrev pub waitings : List BarWait → List Waiting
 waitings waits = map (λ (w : BarWait). w.waiting) waits
@@ -118,7 +118,7 @@ end_of middle right None = right
 end_of middle right (Some column) = middle column
 
 -- the parts of a bar between two ends: pending up to the middle of the column in which it is settled
-abbrev pub parts_of : (ℕ → ℕ) → ℕ → ℕ → ℕ → Option Settled → List Shape
+abbrev pub parts_of : (ℕ → ℕ) → ℕ → ℕ → ℕ → Option BarSettled → List Shape
 parts_of middle left right y None = part_of fill.Pending left right y
 parts_of middle left right y (Some s) =
     let turn = min (max (middle s.column) left) right in

@@ -7,7 +7,7 @@ use point_core::{Name, Status};
 
 /// The column from which the file is signalled, and how.
 #[derive(Clone, Copy)]
-pub struct Settled {
+pub struct BarSettled {
     pub column: usize,
     /// Signalled, or cancelled.
     pub status: Status,
@@ -20,7 +20,7 @@ pub struct Bar {
     /// The column of the command that made it.
     pub made: usize,
     /// None while it is pending.
-    pub settled: Option<Settled>,
+    pub settled: Option<BarSettled>,
     /// The column of the command that closed it.
     pub closed: Option<usize>,
 }

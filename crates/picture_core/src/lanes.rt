@@ -3,7 +3,7 @@ ghost use Rattle.std.specs.Prelude.{◌≡◌, ◌++◌, ◌∷◌, [], true, fa
 ghost use Rattle.picture_core.specs.Shapes.{end_of, end_sign, fill_of, is_bar_fill, is_link, is_told_mark, mark_of, part_of, parts_of, registered_sign, shapes_of, shapes_of_all, sign_of, signs_of_all, told_on, waiting_in, waitings, waits_on, watch_signs, watch_signs_of_all};
 ghost use Rattle.picture_core.specs.Sheet.{height_of_bar, height_of_lane, middle_of};
 
-use crate::bar::{Bar, Settled};
+use crate::bar::{Bar, BarSettled};
 use crate::history::{
     Access, BarWait, BufferLane, BufferMark, History, Lane, TimelineLane, ValueStep, WatchEnd,
     WatchLane,
@@ -235,7 +235,7 @@ fn end_of(sheet: &Sheet, closed: Option<usize>) -> u64
 /// A bar's parts: pending, and, from the column where it is settled, with the fill of its status.
 fn push_parts(
     sheet: &Sheet,
-    settled: Option<Settled>,
+    settled: Option<BarSettled>,
     left: u64,
     right: u64,
     y: u64,

@@ -19,7 +19,7 @@ mod style;
 mod svg;
 mod word;
 
-pub use bar::{Bar, Settled};
+pub use bar::{Bar, BarSettled};
 pub use dot::dot_text;
 pub use graph::{Edge, Graph, Node, Waiter, Waiting};
 pub use history::{
@@ -28,6 +28,6 @@ pub use history::{
 };
 pub use picture::picture_of;
 pub use shapes::{
-    ColumnArea, Face, Fill, Heading, Label, Mark, Meaning, Picture, Shape, Spot, Stroke, Text,
+    Caption, ColumnArea, Face, Fill, Heading, Label, Mark, Meaning, Picture, Shape, Spot, Stroke,
 };
 pub use svg::svg_text;

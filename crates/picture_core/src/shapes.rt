@@ -1,4 +1,4 @@
-//! `Shape` and `Text`: the elements of a picture, in pixels, independent of SVG.
+//! `Shape` and `Caption`: the elements of a picture, in pixels, independent of SVG.
 ghost use Rattle.std.specs.Prelude.{◌≡◌, ◌∷◌, ◌++◌, [], true, false, OnOk, None, option_to_list};
 ghost use Rattle.picture_core.specs.Shapes.{is_bar_fill, is_link, is_told_mark, told_on, waiting_in, waits_on};
 
@@ -125,7 +125,7 @@ pub enum Label {
 
 /// A text at its place.
 #[derive(Clone, Copy)]
-pub struct Text {
+pub struct Caption {
     pub face: Face,
     pub at: Spot,
     pub label: Label,
@@ -162,7 +162,7 @@ pub enum Shape {
 #[derive(Drop)]
 pub(crate) struct Canvas {
     pub(crate) shapes: Vec<Shape>,
-    pub(crate) texts: Vec<Text>,
+    pub(crate) texts: Vec<Caption>,
 }
 
 impl Canvas {
@@ -264,7 +264,7 @@ impl Canvas {
     {
         push(
             &mut self.texts,
-            Text {
+            Caption {
                 face,
                 at: Spot { x, y },
                 label: *label,
@@ -289,6 +289,6 @@ pub struct Picture {
     pub height: u64,
     pub shapes: Vec<Shape>,
     /// They are drawn above the shapes.
-    pub texts: Vec<Text>,
+    pub texts: Vec<Caption>,
     pub columns: Vec<ColumnArea>,
 }

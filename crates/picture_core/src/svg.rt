@@ -3,7 +3,7 @@
 use crate::graph::Waiting;
 use crate::history::{Column, History};
 use crate::measure::{digits, name_length, text_width, waiting_length};
-use crate::shapes::{ColumnArea, Face, Fill, Label, Mark, Picture, Shape, Spot, Stroke, Text};
+use crate::shapes::{Caption, ColumnArea, Face, Fill, Label, Mark, Picture, Shape, Spot, Stroke};
 use crate::style::style;
 use crate::word::{letter_of, word_of_heading, words_of};
 use point_core::{Name, Refusal};
@@ -226,7 +226,7 @@ fn path_of(mark: Mark) -> (&'static str, &'static str) {
     }
 }
 
-fn push_text(history: &History, text: &Text, out: &mut Vec<u8>) -> Result<(), AllocError> {
+fn push_text(history: &History, text: &Caption, out: &mut Vec<u8>) -> Result<(), AllocError> {
     let parts = [
         Part::Text("<text "),
         Part::Text(face_words(text.face)),
