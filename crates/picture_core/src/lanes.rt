@@ -8,10 +8,9 @@ use crate::history::{
     Access, BarWait, BufferLane, BufferMark, History, Lane, TimelineLane, ValueStep, WatchEnd,
     WatchLane,
 };
-use crate::shapes::{Canvas, Face, Fill, Label, Mark, Spot, Stroke};
+use crate::shapes::{Canvas, Drawn, Face, Fill, Label, Mark, Spot, Stroke};
 use crate::sheet::{LINE, PAD, Sheet};
 use point_core::Status;
-use std::alloc::AllocError;
 
 /// The rise of a timeline's value, and its base in its lane. Above it is room for the mark of a closing, below it for
 /// the numbers.
@@ -26,13 +25,7 @@ pub(crate) const HALF_BAR: u64 = 7;
 const FOOT: u64 = 4;
 
 /// A line to the right.
-fn push_level(
-    stroke: Stroke,
-    left: u64,
-    right: u64,
-    y: u64,
-    canvas: &mut Canvas,
-) -> Result<(), AllocError>
+fn push_level(stroke: Stroke, left: u64, right: u64, y: u64, canvas: &mut Canvas) -> Drawn
     ensures told { is_link stroke ≡ false → told_on canvas.new ≡ told_on canvas.old }
     ensures waits { waits_on canvas.new ≡ waits_on canvas.old }
 {
@@ -40,12 +33,7 @@ fn push_level(
 }
 
 /// The name of a lane, vertically centred.
-fn push_name(
-    sheet: &Sheet,
-    lane: Lane,
-    label: &Label,
-    canvas: &mut Canvas,
-) -> Result<(), AllocError>
+fn push_name(sheet: &Sheet, lane: Lane, label: &Label, canvas: &mut Canvas) -> Drawn
     ensures told { told_on canvas.new ≡ told_on canvas.old }
     ensures waits { waiting_in label.now ≡ None → waits_on canvas.new ≡ waits_on canvas.old }
 {
@@ -53,11 +41,7 @@ fn push_name(
     canvas.text(Face::Name, PAD, y, label)
 }
 
-pub(crate) fn push_timelines(
-    history: &History,
-    sheet: &Sheet,
-    canvas: &mut Canvas,
-) -> Result<(), AllocError>
+pub(crate) fn push_timelines(history: &History, sheet: &Sheet, canvas: &mut Canvas) -> Drawn
     ensures told { told_on canvas.new ≡ told_on canvas.old }
     ensures waits { waits_on canvas.new ≡ waits_on canvas.old }
 {
@@ -71,12 +55,7 @@ pub(crate) fn push_timelines(
 }
 
 /// The axis at which links begin.
-fn push_axis(
-    sheet: &Sheet,
-    y: u64,
-    lane: &TimelineLane,
-    canvas: &mut Canvas,
-) -> Result<(), AllocError>
+fn push_axis(sheet: &Sheet, y: u64, lane: &TimelineLane, canvas: &mut Canvas) -> Drawn
     ensures told { told_on canvas.new ≡ told_on canvas.old }
     ensures waits { waits_on canvas.new ≡ waits_on canvas.old }
 {
@@ -93,12 +72,7 @@ fn push_axis(
 }
 
 /// The steps of a timeline's value, and its numbers.
-fn push_values(
-    sheet: &Sheet,
-    top: u64,
-    lane: &TimelineLane,
-    canvas: &mut Canvas,
-) -> Result<(), AllocError>
+fn push_values(sheet: &Sheet, top: u64, lane: &TimelineLane, canvas: &mut Canvas) -> Drawn
     ensures told { told_on canvas.new ≡ told_on canvas.old }
     ensures waits { waits_on canvas.new ≡ waits_on canvas.old }
 {
@@ -129,7 +103,7 @@ fn rise(value: u64, greatest: u64) -> u64 {
     u64::try_from(scaled).unwrap_or(RISE)
 }
 
-fn push_step(before: &Spot, next: &Spot, canvas: &mut Canvas) -> Result<(), AllocError>
+fn push_step(before: &Spot, next: &Spot, canvas: &mut Canvas) -> Drawn
     ensures told { told_on canvas.new ≡ told_on canvas.old }
     ensures waits { waits_on canvas.new ≡ waits_on canvas.old }
 {
@@ -141,12 +115,7 @@ fn push_step(before: &Spot, next: &Spot, canvas: &mut Canvas) -> Result<(), Allo
     canvas.line(Stroke::Value, &corner, next)
 }
 
-fn push_value(
-    sheet: &Sheet,
-    top: u64,
-    step: &ValueStep,
-    canvas: &mut Canvas,
-) -> Result<(), AllocError>
+fn push_value(sheet: &Sheet, top: u64, step: &ValueStep, canvas: &mut Canvas) -> Drawn
     ensures told { told_on canvas.new ≡ told_on canvas.old }
     ensures waits { waits_on canvas.new ≡ waits_on canvas.old }
 {
@@ -156,12 +125,7 @@ fn push_value(
 }
 
 /// The line from its last value on.
-fn push_end(
-    sheet: &Sheet,
-    lane: &TimelineLane,
-    last: &Spot,
-    canvas: &mut Canvas,
-) -> Result<(), AllocError>
+fn push_end(sheet: &Sheet, lane: &TimelineLane, last: &Spot, canvas: &mut Canvas) -> Drawn
     ensures told { told_on canvas.new ≡ told_on canvas.old }
     ensures waits { waits_on canvas.new ≡ waits_on canvas.old }
 {
@@ -174,11 +138,7 @@ fn push_end(
     canvas.mark(Mark::Shut, x, last.y)
 }
 
-pub(crate) fn push_bars(
-    history: &History,
-    sheet: &Sheet,
-    canvas: &mut Canvas,
-) -> Result<(), AllocError>
+pub(crate) fn push_bars(history: &History, sheet: &Sheet, canvas: &mut Canvas) -> Drawn
     ensures told { OnOk result (told_on canvas.new ≡ told_on canvas.old
         ++ shapes_of_all (middle_of sheet.now) sheet.now.end (height_of_bar sheet.now) history.now.bars.items) }
     ensures waits { OnOk result (waits_on canvas.new ≡ waits_on canvas.old ++ waitings history.now.waits.items) }
@@ -187,7 +147,7 @@ pub(crate) fn push_bars(
     push_waits(history.waits.as_slice(), sheet, canvas)
 }
 
-fn push_lanes(bars: &[Bar], sheet: &Sheet, canvas: &mut Canvas) -> Result<(), AllocError>
+fn push_lanes(bars: &[Bar], sheet: &Sheet, canvas: &mut Canvas) -> Drawn
     ensures told { OnOk result (told_on canvas.new ≡ told_on canvas.old
         ++ shapes_of_all (middle_of sheet.now) sheet.now.end (height_of_bar sheet.now) bars.now) }
     ensures waits { waits_on canvas.new ≡ waits_on canvas.old }
@@ -199,7 +159,7 @@ fn push_lanes(bars: &[Bar], sheet: &Sheet, canvas: &mut Canvas) -> Result<(), Al
 }
 
 /// The name of a file, and its bar.
-fn push_lane(sheet: &Sheet, place: usize, bar: &Bar, canvas: &mut Canvas) -> Result<(), AllocError>
+fn push_lane(sheet: &Sheet, place: usize, bar: &Bar, canvas: &mut Canvas) -> Drawn
     ensures told { OnOk result (told_on canvas.new ≡ told_on canvas.old
         ++ shapes_of (middle_of sheet.now) sheet.now.end (height_of_bar sheet.now place) bar.now) }
     ensures waits { waits_on canvas.new ≡ waits_on canvas.old }
@@ -208,7 +168,7 @@ fn push_lane(sheet: &Sheet, place: usize, bar: &Bar, canvas: &mut Canvas) -> Res
     push_bar(sheet, sheet.height_of_bar(place), bar, canvas)
 }
 
-fn push_bar(sheet: &Sheet, middle: u64, bar: &Bar, canvas: &mut Canvas) -> Result<(), AllocError>
+fn push_bar(sheet: &Sheet, middle: u64, bar: &Bar, canvas: &mut Canvas) -> Drawn
     ensures told { OnOk result (told_on canvas.new ≡ told_on canvas.old
         ++ shapes_of (middle_of sheet.now) sheet.now.end middle bar.now) }
     ensures waits { waits_on canvas.new ≡ waits_on canvas.old }
@@ -240,7 +200,7 @@ fn push_parts(
     right: u64,
     y: u64,
     canvas: &mut Canvas,
-) -> Result<(), AllocError>
+) -> Drawn
     ensures told { OnOk result (told_on canvas.new ≡ told_on canvas.old
         ++ parts_of (middle_of sheet.now) left right y settled) }
     ensures waits { waits_on canvas.new ≡ waits_on canvas.old }
@@ -253,13 +213,7 @@ fn push_parts(
     push_part(fill_of(settled.status), turn, right, y, canvas)
 }
 
-fn push_part(
-    fill: Fill,
-    left: u64,
-    right: u64,
-    y: u64,
-    canvas: &mut Canvas,
-) -> Result<(), AllocError>
+fn push_part(fill: Fill, left: u64, right: u64, y: u64, canvas: &mut Canvas) -> Drawn
     ensures told { is_bar_fill fill ≡ true →
         OnOk result (told_on canvas.new ≡ told_on canvas.old ++ part_of fill left right y) }
     ensures waits { waits_on canvas.new ≡ waits_on canvas.old }
@@ -282,7 +236,7 @@ fn fill_of(status: Status) -> Fill
     }
 }
 
-fn push_bar_end(bar: &Bar, right: u64, middle: u64, canvas: &mut Canvas) -> Result<(), AllocError>
+fn push_bar_end(bar: &Bar, right: u64, middle: u64, canvas: &mut Canvas) -> Drawn
     ensures told { told_on canvas.new ≡ told_on canvas.old }
     ensures waits { waits_on canvas.new ≡ waits_on canvas.old }
 {
@@ -296,7 +250,7 @@ fn push_bar_end(bar: &Bar, right: u64, middle: u64, canvas: &mut Canvas) -> Resu
 }
 
 /// The points for which bars wait, one line of text each, right of the columns.
-fn push_waits(waits: &[BarWait], sheet: &Sheet, canvas: &mut Canvas) -> Result<(), AllocError>
+fn push_waits(waits: &[BarWait], sheet: &Sheet, canvas: &mut Canvas) -> Drawn
     ensures told { told_on canvas.new ≡ told_on canvas.old }
     ensures waits { OnOk result (waits_on canvas.new ≡ waits_on canvas.old ++ waitings waits.now) }
 {
@@ -315,11 +269,7 @@ fn push_waits(waits: &[BarWait], sheet: &Sheet, canvas: &mut Canvas) -> Result<(
     Ok(())
 }
 
-pub(crate) fn push_buffers(
-    history: &History,
-    sheet: &Sheet,
-    canvas: &mut Canvas,
-) -> Result<(), AllocError>
+pub(crate) fn push_buffers(history: &History, sheet: &Sheet, canvas: &mut Canvas) -> Drawn
     ensures told { OnOk result (told_on canvas.new ≡ told_on canvas.old
         ++ signs_of_all (middle_of sheet.now) (height_of_lane sheet.now) history.now.lanes.marks.items) }
     ensures waits { waits_on canvas.new ≡ waits_on canvas.old }
@@ -328,11 +278,7 @@ pub(crate) fn push_buffers(
     push_accesses(history.lanes.marks.as_slice(), sheet, canvas)
 }
 
-fn push_buffer_lanes(
-    lanes: &[BufferLane],
-    sheet: &Sheet,
-    canvas: &mut Canvas,
-) -> Result<(), AllocError>
+fn push_buffer_lanes(lanes: &[BufferLane], sheet: &Sheet, canvas: &mut Canvas) -> Drawn
     ensures told { told_on canvas.new ≡ told_on canvas.old }
     ensures waits { waits_on canvas.new ≡ waits_on canvas.old }
 {
@@ -342,7 +288,7 @@ fn push_buffer_lanes(
     Ok(())
 }
 
-fn push_accesses(marks: &[BufferMark], sheet: &Sheet, canvas: &mut Canvas) -> Result<(), AllocError>
+fn push_accesses(marks: &[BufferMark], sheet: &Sheet, canvas: &mut Canvas) -> Drawn
     ensures told { OnOk result (told_on canvas.new ≡ told_on canvas.old
         ++ signs_of_all (middle_of sheet.now) (height_of_lane sheet.now) marks.now) }
     ensures waits { waits_on canvas.new ≡ waits_on canvas.old }
@@ -353,12 +299,7 @@ fn push_accesses(marks: &[BufferMark], sheet: &Sheet, canvas: &mut Canvas) -> Re
     Ok(())
 }
 
-fn push_buffer(
-    sheet: &Sheet,
-    here: Lane,
-    lane: &BufferLane,
-    canvas: &mut Canvas,
-) -> Result<(), AllocError>
+fn push_buffer(sheet: &Sheet, here: Lane, lane: &BufferLane, canvas: &mut Canvas) -> Drawn
     ensures told { told_on canvas.new ≡ told_on canvas.old }
     ensures waits { waits_on canvas.new ≡ waits_on canvas.old }
 {
@@ -368,7 +309,7 @@ fn push_buffer(
     push_level(Stroke::Lane, left, sheet.end, y, canvas)
 }
 
-fn push_access(sheet: &Sheet, access: &BufferMark, canvas: &mut Canvas) -> Result<(), AllocError>
+fn push_access(sheet: &Sheet, access: &BufferMark, canvas: &mut Canvas) -> Drawn
     ensures told { OnOk result (told_on canvas.new ≡ told_on canvas.old
         ++ sign_of (middle_of sheet.now) (height_of_lane sheet.now) access.now ∷ []) }
     ensures waits { waits_on canvas.new ≡ waits_on canvas.old }
@@ -392,11 +333,7 @@ fn mark_of(access: Access) -> Mark
     }
 }
 
-pub(crate) fn push_watches(
-    lanes: &[WatchLane],
-    sheet: &Sheet,
-    canvas: &mut Canvas,
-) -> Result<(), AllocError>
+pub(crate) fn push_watches(lanes: &[WatchLane], sheet: &Sheet, canvas: &mut Canvas) -> Drawn
     ensures told { OnOk result (told_on canvas.new ≡ told_on canvas.old
         ++ watch_signs_of_all (middle_of sheet.now) (height_of_lane sheet.now) lanes.now) }
     ensures waits { waits_on canvas.new ≡ waits_on canvas.old }
@@ -407,12 +344,7 @@ pub(crate) fn push_watches(
     Ok(())
 }
 
-fn push_watch(
-    sheet: &Sheet,
-    place: usize,
-    lane: &WatchLane,
-    canvas: &mut Canvas,
-) -> Result<(), AllocError>
+fn push_watch(sheet: &Sheet, place: usize, lane: &WatchLane, canvas: &mut Canvas) -> Drawn
     ensures told { OnOk result (told_on canvas.new ≡ told_on canvas.old
         ++ watch_signs (middle_of sheet.now) (height_of_lane sheet.now) (place, lane.now)) }
     ensures waits { waits_on canvas.new ≡ waits_on canvas.old }
@@ -441,7 +373,7 @@ fn end_of_watch(sheet: &Sheet, end: WatchEnd) -> u64 {
 }
 
 /// The mark of a registration; none for a watch that was there before the first column.
-fn push_registered(made: usize, x: u64, y: u64, canvas: &mut Canvas) -> Result<(), AllocError>
+fn push_registered(made: usize, x: u64, y: u64, canvas: &mut Canvas) -> Drawn
     ensures told { OnOk result (told_on canvas.new ≡ told_on canvas.old ++ registered_sign made x y) }
     ensures waits { waits_on canvas.new ≡ waits_on canvas.old }
 {
@@ -452,12 +384,7 @@ fn push_registered(made: usize, x: u64, y: u64, canvas: &mut Canvas) -> Result<(
 }
 
 /// The mark of a watch's end.
-fn push_watch_end(
-    sheet: &Sheet,
-    end: WatchEnd,
-    y: u64,
-    canvas: &mut Canvas,
-) -> Result<(), AllocError>
+fn push_watch_end(sheet: &Sheet, end: WatchEnd, y: u64, canvas: &mut Canvas) -> Drawn
     ensures told { OnOk result (told_on canvas.new ≡ told_on canvas.old ++ end_sign (middle_of sheet.now) y end) }
     ensures waits { waits_on canvas.new ≡ waits_on canvas.old }
 {

@@ -5,11 +5,10 @@ ghost use Rattle.picture_core.specs.Shapes.{told_on, is_bar_fill, waits_on};
 
 use crate::history::Access;
 use crate::measure::text_width;
-use crate::shapes::{Canvas, Face, Fill, Label, Mark, Meaning, Spot};
+use crate::shapes::{Canvas, Drawn, Face, Fill, Label, Mark, Meaning, Spot};
 use crate::sheet::PAD;
 use crate::word::words_of;
 use point_core::Usage;
-use std::alloc::AllocError;
 
 /// The width of the legend.
 pub(crate) const LEGEND_WIDTH: u64 = 860;
@@ -30,7 +29,7 @@ const MIDDLE: u64 = SIGN / 2 - 4;
 const BESIDE: u64 = 22;
 
 /// Places the legend under the drawing.
-pub(crate) fn push_legend(top: u64, canvas: &mut Canvas) -> Result<(), AllocError>
+pub(crate) fn push_legend(top: u64, canvas: &mut Canvas) -> Drawn
     ensures told { OnOk result (AddsSamples (top_of_samples top) fills_of_legend
         (told_on canvas.old) (told_on canvas.new)) }
     ensures waits { waits_on canvas.new ≡ waits_on canvas.old }
@@ -55,7 +54,7 @@ pub(crate) fn push_legend(top: u64, canvas: &mut Canvas) -> Result<(), AllocErro
     push_meanings(top.saturating_add(SECOND), &second, canvas)
 }
 
-fn push_meanings(y: u64, meanings: &[Meaning], canvas: &mut Canvas) -> Result<(), AllocError>
+fn push_meanings(y: u64, meanings: &[Meaning], canvas: &mut Canvas) -> Drawn
     ensures told { OnOk result (AddsSamples (y - HALF_SAMPLE) (flat_map sample_of meanings.now)
         (told_on canvas.old) (told_on canvas.new)) }
     ensures waits { waits_on canvas.new ≡ waits_on canvas.old }
@@ -76,7 +75,7 @@ fn push_meanings(y: u64, meanings: &[Meaning], canvas: &mut Canvas) -> Result<()
     Ok(())
 }
 
-fn push_sign(meaning: Meaning, x: u64, y: u64, canvas: &mut Canvas) -> Result<(), AllocError>
+fn push_sign(meaning: Meaning, x: u64, y: u64, canvas: &mut Canvas) -> Drawn
     ensures told { OnOk result (AddsSamples (y - HALF_SAMPLE) (sample_of meaning)
         (told_on canvas.old) (told_on canvas.new)) }
     ensures waits { waits_on canvas.new ≡ waits_on canvas.old }
@@ -97,7 +96,7 @@ fn push_sign(meaning: Meaning, x: u64, y: u64, canvas: &mut Canvas) -> Result<()
     }
 }
 
-fn push_mark(mark: Mark, x: u64, y: u64, canvas: &mut Canvas) -> Result<(), AllocError>
+fn push_mark(mark: Mark, x: u64, y: u64, canvas: &mut Canvas) -> Drawn
     ensures told { OnOk result (AddsSamples (y - HALF_SAMPLE) [] (told_on canvas.old) (told_on canvas.new)) }
     ensures waits { waits_on canvas.new ≡ waits_on canvas.old }
 {
@@ -105,7 +104,7 @@ fn push_mark(mark: Mark, x: u64, y: u64, canvas: &mut Canvas) -> Result<(), Allo
 }
 
 /// The letters in a mark: the usage or the access.
-fn push_letters(x: u64, y: u64, canvas: &mut Canvas) -> Result<(), AllocError>
+fn push_letters(x: u64, y: u64, canvas: &mut Canvas) -> Drawn
     ensures told { OnOk result (AddsSamples (y - HALF_SAMPLE) [] (told_on canvas.old) (told_on canvas.new)) }
     ensures waits { waits_on canvas.new ≡ waits_on canvas.old }
 {
@@ -119,7 +118,7 @@ fn push_letters(x: u64, y: u64, canvas: &mut Canvas) -> Result<(), AllocError>
     )
 }
 
-fn push_sample(fill: Fill, x: u64, y: u64, canvas: &mut Canvas) -> Result<(), AllocError>
+fn push_sample(fill: Fill, x: u64, y: u64, canvas: &mut Canvas) -> Drawn
     ensures told { is_bar_fill fill ≡ true →
         OnOk result (AddsSamples (y - HALF_SAMPLE) (fill ∷ []) (told_on canvas.old) (told_on canvas.new)) }
     ensures waits { waits_on canvas.new ≡ waits_on canvas.old }

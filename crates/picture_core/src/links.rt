@@ -5,20 +5,15 @@ ghost use Rattle.picture_core.specs.Sheet.{height_of_lane, middle_of};
 
 use crate::history::{Lane, Link};
 use crate::lanes::HALF_BAR;
-use crate::shapes::{Canvas, Mark, Spot, Stroke};
+use crate::shapes::{Canvas, Drawn, Mark, Spot, Stroke};
 use crate::sheet::Sheet;
-use std::alloc::AllocError;
 
 /// Half the height of a mark on a buffer's lane, and of a mark on a watch's.
 const HALF_SIGN: u64 = 10;
 
 const HALF_WATCH: u64 = 6;
 
-pub(crate) fn push_links(
-    links: &[Link],
-    sheet: &Sheet,
-    canvas: &mut Canvas,
-) -> Result<(), AllocError>
+pub(crate) fn push_links(links: &[Link], sheet: &Sheet, canvas: &mut Canvas) -> Drawn
     ensures told { OnOk result (told_on canvas.new ≡ told_on canvas.old
         ++ arrows_of_all (middle_of sheet.now) (height_of_lane sheet.now) links.now) }
     ensures waits { waits_on canvas.new ≡ waits_on canvas.old }
@@ -30,7 +25,7 @@ pub(crate) fn push_links(
 }
 
 /// An arrow from the middle of one lane to the edge of the mark on the other.
-fn push_link(sheet: &Sheet, link: &Link, canvas: &mut Canvas) -> Result<(), AllocError>
+fn push_link(sheet: &Sheet, link: &Link, canvas: &mut Canvas) -> Drawn
     ensures told { OnOk result (told_on canvas.new ≡ told_on canvas.old
         ++ arrow_of (middle_of sheet.now) (height_of_lane sheet.now) link.now) }
     ensures waits { waits_on canvas.new ≡ waits_on canvas.old }
@@ -42,13 +37,7 @@ fn push_link(sheet: &Sheet, link: &Link, canvas: &mut Canvas) -> Result<(), Allo
 }
 
 /// An arrow to a mark that reaches so far above and below its middle.
-fn push_arrow_to(
-    x: u64,
-    from: u64,
-    to: u64,
-    room: u64,
-    canvas: &mut Canvas,
-) -> Result<(), AllocError>
+fn push_arrow_to(x: u64, from: u64, to: u64, room: u64, canvas: &mut Canvas) -> Drawn
     ensures told { OnOk result (told_on canvas.new ≡ told_on canvas.old ++ arrow_to x from to room) }
     ensures waits { waits_on canvas.new ≡ waits_on canvas.old }
 {
@@ -59,13 +48,7 @@ fn push_arrow_to(
     }
 }
 
-fn push_arrow(
-    mark: Mark,
-    x: u64,
-    from: u64,
-    end: u64,
-    canvas: &mut Canvas,
-) -> Result<(), AllocError>
+fn push_arrow(mark: Mark, x: u64, from: u64, end: u64, canvas: &mut Canvas) -> Drawn
     ensures told { is_told_mark mark ≡ true →
         OnOk result (told_on canvas.new ≡ told_on canvas.old ++ arrow mark x from end) }
     ensures waits { waits_on canvas.new ≡ waits_on canvas.old }

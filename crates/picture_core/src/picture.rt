@@ -10,7 +10,7 @@ use crate::history::{Column, History, Lane};
 use crate::lanes::{push_bars, push_buffers, push_timelines, push_watches};
 use crate::legend::{LEGEND_HEIGHT, LEGEND_WIDTH, push_legend};
 use crate::links::push_links;
-use crate::shapes::{Canvas, ColumnArea, Face, Fill, Heading, Label, Mark, Picture, Spot};
+use crate::shapes::{Canvas, ColumnArea, Drawn, Face, Fill, Heading, Label, Mark, Picture, Spot};
 use crate::sheet::{HEADING, PAD, Sheet};
 use point_core::Refusal;
 use std::alloc::{AllocError, Global};
@@ -53,12 +53,7 @@ fn picture_on(alloc: Global, history: &History, sheet: &Sheet) -> Result<Picture
     })
 }
 
-fn push_all(
-    history: &History,
-    sheet: &Sheet,
-    width: u64,
-    canvas: &mut Canvas,
-) -> Result<(), AllocError>
+fn push_all(history: &History, sheet: &Sheet, width: u64, canvas: &mut Canvas) -> Drawn
     ensures ok { OnOk result (AddsAll sheet.now history.now canvas.old canvas.new) }
 {
     push_stripes(history, sheet, width, canvas)?;
@@ -92,12 +87,7 @@ fn lane_of(kind: Heading, place: usize) -> Lane {
 }
 
 /// A stripe for every other lane, counted from the first of its kind.
-fn push_stripes(
-    history: &History,
-    sheet: &Sheet,
-    width: u64,
-    canvas: &mut Canvas,
-) -> Result<(), AllocError>
+fn push_stripes(history: &History, sheet: &Sheet, width: u64, canvas: &mut Canvas) -> Drawn
     ensures told { told_on canvas.new ≡ told_on canvas.old }
     ensures waits { waits_on canvas.new ≡ waits_on canvas.old }
 {
@@ -113,7 +103,7 @@ fn push_stripes_of(
     kind: Heading,
     count: usize,
     canvas: &mut Canvas,
-) -> Result<(), AllocError>
+) -> Drawn
     ensures told { told_on canvas.new ≡ told_on canvas.old }
     ensures waits { waits_on canvas.new ≡ waits_on canvas.old }
 {
@@ -125,7 +115,7 @@ fn push_stripes_of(
     Ok(())
 }
 
-fn push_stripe(sheet: &Sheet, width: u64, lane: Lane, canvas: &mut Canvas) -> Result<(), AllocError>
+fn push_stripe(sheet: &Sheet, width: u64, lane: Lane, canvas: &mut Canvas) -> Drawn
     ensures told { told_on canvas.new ≡ told_on canvas.old }
     ensures waits { waits_on canvas.new ≡ waits_on canvas.old }
 {
@@ -136,7 +126,7 @@ fn push_stripe(sheet: &Sheet, width: u64, lane: Lane, canvas: &mut Canvas) -> Re
     canvas.area(Fill::Stripe, &at, width, sheet.lane_height(lane))
 }
 
-fn push_headings(history: &History, sheet: &Sheet, canvas: &mut Canvas) -> Result<(), AllocError>
+fn push_headings(history: &History, sheet: &Sheet, canvas: &mut Canvas) -> Drawn
     ensures told { told_on canvas.new ≡ told_on canvas.old }
     ensures waits { waits_on canvas.new ≡ waits_on canvas.old }
 {
@@ -148,7 +138,7 @@ fn push_headings(history: &History, sheet: &Sheet, canvas: &mut Canvas) -> Resul
     Ok(())
 }
 
-fn push_heading(sheet: &Sheet, kind: Heading, canvas: &mut Canvas) -> Result<(), AllocError>
+fn push_heading(sheet: &Sheet, kind: Heading, canvas: &mut Canvas) -> Drawn
     ensures told { told_on canvas.new ≡ told_on canvas.old }
     ensures waits { waits_on canvas.new ≡ waits_on canvas.old }
 {
@@ -157,7 +147,7 @@ fn push_heading(sheet: &Sheet, kind: Heading, canvas: &mut Canvas) -> Result<(),
 }
 
 /// The head of each column: its line's number and word, and a mark if it was refused.
-fn push_heads(history: &History, sheet: &Sheet, canvas: &mut Canvas) -> Result<(), AllocError>
+fn push_heads(history: &History, sheet: &Sheet, canvas: &mut Canvas) -> Drawn
     ensures told { told_on canvas.new ≡ told_on canvas.old }
     ensures waits { waits_on canvas.new ≡ waits_on canvas.old }
 {
@@ -167,12 +157,7 @@ fn push_heads(history: &History, sheet: &Sheet, canvas: &mut Canvas) -> Result<(
     Ok(())
 }
 
-fn push_head(
-    sheet: &Sheet,
-    place: usize,
-    column: &Column,
-    canvas: &mut Canvas,
-) -> Result<(), AllocError>
+fn push_head(sheet: &Sheet, place: usize, column: &Column, canvas: &mut Canvas) -> Drawn
     ensures told { told_on canvas.new ≡ told_on canvas.old }
     ensures waits { waits_on canvas.new ≡ waits_on canvas.old }
 {
@@ -191,7 +176,7 @@ fn push_head(
     canvas.text(face, x, WORDS, &Label::Command(place))
 }
 
-fn push_refusal(sheet: &Sheet, number: usize, canvas: &mut Canvas) -> Result<(), AllocError>
+fn push_refusal(sheet: &Sheet, number: usize, canvas: &mut Canvas) -> Drawn
     ensures told { told_on canvas.new ≡ told_on canvas.old }
     ensures waits { waits_on canvas.new ≡ waits_on canvas.old }
 {

@@ -131,6 +131,9 @@ pub struct Caption {
     pub label: Label,
 }
 
+/// The result of drawing, which fails only for memory.
+pub(crate) type Drawn = Result<(), AllocError>;
+
 /// A shape. Later shapes cover earlier ones.
 #[derive(Clone, Copy)]
 pub enum Shape {
