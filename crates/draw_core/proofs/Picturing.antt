@@ -20,9 +20,8 @@ seen-if true w column b shown = ap fills_of_status (sym (shown refl))
 seen-if false w column b shown = refl
 
 pub ShowsScript-drawn : (window : Window) (lines : List Line) (h : History) (p : Picture) → lines_drawn h.columns.items ≡ drawn_lines window lines
-    → ShowsRun window lines h.columns.items h.bars.items h.waits.items → ShowsHistory h p → ShowsScript window lines p
+    → ShowsRun window lines h.columns.items h.bars.items h.waits.items h.refused → ShowsHistory h p → ShowsScript window lines h p
 ShowsScript-drawn window lines h p columns run shown = record {
-  history = h;
   lines_are = columns;
   run = run;
   shown = shown;

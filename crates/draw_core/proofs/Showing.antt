@@ -1,6 +1,7 @@
 -- A run shows the files of its history, line by line.
 use Rattle.std.proofs.Common.{◌≡◌, ◌⊎◌, ℕ, zero, suc, ◌+◌, ◌<◌, ◌≤◌, Bool, true, false, nat_le, refl, sym, ap, subst, ◌∙◌, List, [], ◌∷◌, ◌++◌, length, None, inl, inr, All, arith}
-use Rattle.std.specs.Prelude.{if◌then◌else◌}
+use Rattle.std.specs.Prelude.{if◌then◌else◌, ◌||◌}
+use Rattle.std.specs.List.{list_any}
 use Rattle.std.proofs.lemmas.Bool.{leb-true, and_parts, and_left, and_right, lt-leb, cases_lt}
 use Rattle.std.proofs.lemmas.List.{length-map}
 use Rattle.std.proofs.lemmas.List.Elements.{All-push, All-weaker}
@@ -86,14 +87,30 @@ Keeps-line history body given reported = by_line Keeps Keeps-none Keeps-one hist
 abbrev one_line : ℕ → Body → Line
 one_line number body = record { number = number; body = body }
 
+-- one more answer, refused or not
+any-push : (given : Answer) (refused : Bool) (earlier : List Answer) → refused ≡ list_any is_refused earlier
+    → (is_refused given || refused) ≡ list_any is_refused (earlier ++ given ∷ [])
+any-push given refused [] is = ap (λ (b : Bool). is_refused given || b) is
+any-push given refused (a ∷ earlier) is =
+    ap (λ (b : Bool). is_refused given || b) is
+    ∙ swapped (is_refused given) (is_refused a) (list_any is_refused earlier)
+    ∙ ap (λ (b : Bool). is_refused a || b) (any-push given (list_any is_refused earlier) earlier refl)
+  where
+    swapped : (b d e : Bool) → (b || (d || e)) ≡ (d || (b || e))
+    swapped true true e = refl
+    swapped true false e = refl
+    swapped false true e = refl
+    swapped false false e = refl
+
 none_there : names_there 0 [] ≡ []
 none_there = refl
 
-pub HasDrawn-none : (window : Window) (desk : DeskState) → HasHistory desk [] → HasDrawn window [] desk [] []
+pub HasDrawn-none : (window : Window) (desk : DeskState) → HasHistory desk [] → HasDrawn window [] desk [] [] false
 HasDrawn-none window desk stands = record {
   given = [];
   answers = tt;
   stands = stands;
+  refusals = refl;
   lines = refl;
   kept = record { past = λ k d low. absurd (omega arith); kept = λ k d low. absurd (omega arith); names = refl };
   early = λ _ k d low. absurd (omega arith);
@@ -103,14 +120,15 @@ HasDrawn-none window desk stands = record {
 }
 
 -- a line past the window
-pub HasDrawn-past : (window : Window) (done : List Line) (desk : DeskState) (columns : List Column) (bars : List Bar) (l : Line) → window.last < l.number → HasDrawn window done desk columns bars → HasDrawn window (done ++ l ∷ []) desk columns bars
-HasDrawn-past window done desk columns bars l past h =
+pub HasDrawn-past : (window : Window) (done : List Line) (desk : DeskState) (columns : List Column) (bars : List Bar) (refused : Bool) (l : Line) → window.last < l.number → HasDrawn window done desk columns bars refused → HasDrawn window (done ++ l ∷ []) desk columns bars refused
+HasDrawn-past window done desk columns bars refused l past h =
     let same = lines_run-past window done l past in
     let out = and_right (nat_le window.first l.number) (nat_le l.number window.last) (lt-leb l.number window.last past) in
     record {
       given = h.given;
       answers = rw same h.answers;
       stands = rw same h.stands;
+      refusals = h.refusals;
       lines = h.lines ∙ sym (drawn_lines-out window done l out);
       kept = rw same h.kept;
       early = rw same h.early;
@@ -119,11 +137,11 @@ HasDrawn-past window done desk columns bars l past h =
       shown = rw same h.shown;
     }
 
-module _ (window : Window) (done : List Line) (desk later : DeskState) (columns : List Column) (bars : List Bar) (l : Line) (given : Answer)
+module _ (window : Window) (done : List Line) (desk later : DeskState) (columns : List Column) (bars : List Bar) (refused : Bool) (l : Line) (given : Answer)
     (low : l.number ≤ window.last)
     (reported : (history : List Command) → HasHistory desk history → IsLineAnswer history l.body given)
     (stands : (history : List Command) → HasHistory desk history → HasHistory later (history_after_line history l.body given))
-    (h : HasDrawn window done desk columns bars) where
+    (h : HasDrawn window done desk columns bars refused) where
   abbrev now : List Command
   now = history_along [] (lines_run window done) h.given
 
@@ -146,7 +164,7 @@ module _ (window : Window) (done : List Line) (desk later : DeskState) (columns 
   keeps = Keeps-line now l.body given (reported now h.stands)
 
   -- a line before the window
-  pub HasDrawn-undrawn : All (IsBelow l.number) done → l.number < window.first → HasDrawn window (done ++ l ∷ []) later columns (bars_after_line 0 l.body given bars)
+  pub HasDrawn-undrawn : All (IsBelow l.number) done → l.number < window.first → HasDrawn window (done ++ l ∷ []) later columns (bars_after_line 0 l.body given bars) (is_refused given || refused)
   HasDrawn-undrawn below first =
       let none : length columns ≡ 0 = sym (length-map columns (λ (c : Column). c.line)) ∙ ap length (h.lines ∙ drawn_lines-early window l.number done first below) in
       let did = keeps 0 bars desk h.stands (subst (λ n. AreBarsOf (world_of now) n bars) none h.kept) in
@@ -154,6 +172,7 @@ module _ (window : Window) (done : List Line) (desk later : DeskState) (columns 
         given = h.given ++ given ∷ [];
         answers = answers';
         stands = stands';
+        refusals = any-push given refused h.given h.refusals;
         lines = h.lines ∙ sym (drawn_lines-out window done l (and_left (nat_le window.first l.number) (nat_le l.number window.last) (lt-leb window.first l.number first)));
         kept = rw (along, none) did.0;
         early = λ _. rw pushed (All-push (IsBelow window.first) (lines_run window done) l (h.early none) first);
@@ -163,10 +182,11 @@ module _ (window : Window) (done : List Line) (desk later : DeskState) (columns 
       }
 
 -- before the first column the bars are asked, and then each column is shown
-pub record HasShown (window : Window) (done : List Line) (desk : DeskState) (columns : List Column) (bars : List Bar) : Type 0 where
+pub record HasShown (window : Window) (done : List Line) (desk : DeskState) (columns : List Column) (bars : List Bar) (refused : Bool) : Type 0 where
   pub given : List Answer
   pub answers : AreLineAnswers [] (lines_run window done) given
   pub stands : HasHistory desk (history_along [] (lines_run window done) given)
+  pub refusals : refused ≡ list_any is_refused given
   pub lines : lines_drawn columns ≡ drawn_lines window done
   pub kept : AreBarsOf (last_world window done given) (length columns) bars
   pub last : world_shown window done given columns (length columns) ≡ last_world window done given
@@ -181,8 +201,8 @@ only_zero : (window : Window) (done : List Line) (given : List Answer) (columns 
 only_zero window done given columns bars none shown zero low = shown
 only_zero window done given columns bars none shown (suc k) low = absurd (omega arith)
 
-HasShown-none : (window : Window) (done : List Line) (desk : DeskState) (columns : List Column) (bars asked : List Bar) → length columns ≡ 0 → AreAsked desk 0 bars asked → HasDrawn window done desk columns bars → HasShown window done desk columns asked
-HasShown-none window done desk columns bars asked none by h =
+HasShown-none : (window : Window) (done : List Line) (desk : DeskState) (columns : List Column) (bars asked : List Bar) (refused : Bool) → length columns ≡ 0 → AreAsked desk 0 bars asked → HasDrawn window done desk columns bars refused → HasShown window done desk columns asked refused
+HasShown-none window done desk columns bars asked refused none by h =
     let last = history_before-all window.first [] (lines_run window done) h.given h.answers (h.early none) in
     let w = last_world window done h.given in
     let kept = subst (λ n. AreBarsOf w n bars) none h.kept in
@@ -192,18 +212,19 @@ HasShown-none window done desk columns bars asked none by h =
       given = h.given;
       answers = h.answers;
       stands = h.stands;
+      refusals = h.refusals;
       lines = h.lines;
       kept = rw none kept';
       last = rw none (ap world_of last);
       shown = only_zero window done h.given columns asked none (rw last (record { names = kept'.names; each = each }));
     }
 
-pub HasShown-asked : (window : Window) (done : List Line) (desk : DeskState) (columns : List Column) (bars asked : List Bar) → AreAskedFirst columns desk bars asked → HasDrawn window done desk columns bars → HasShown window done desk columns asked
-HasShown-asked window done desk columns bars asked first h = elim (zero_or (length columns)) [
-  | inl none ↦ HasShown-none window done desk columns bars asked none (first.none none) h
+pub HasShown-asked : (window : Window) (done : List Line) (desk : DeskState) (columns : List Column) (bars asked : List Bar) (refused : Bool) → AreAskedFirst columns desk bars asked → HasDrawn window done desk columns bars refused → HasShown window done desk columns asked refused
+HasShown-asked window done desk columns bars asked refused first h = elim (zero_or (length columns)) [
+  | inl none ↦ HasShown-none window done desk columns bars asked refused none (first.none none) h
   | inr some ↦
       let same = first.some some in
-      rw same (record { given = h.given; answers = h.answers; stands = h.stands; lines = h.lines; kept = h.kept; last = h.last some; shown = h.shown some })
+      rw same (record { given = h.given; answers = h.answers; stands = h.stands; refusals = h.refusals; lines = h.lines; kept = h.kept; last = h.last some; shown = h.shown some })
 ]
 
 -- another column
@@ -213,13 +234,13 @@ column_or column n low = elim (cases_lt n column) [
   | inr less ↦ inl less
 ]
 
-module _ (window : Window) (done : List Line) (desk later : DeskState) (old new : List Column) (bars asked : List Bar) (l : Line) (given : Answer)
+module _ (window : Window) (done : List Line) (desk later : DeskState) (old new : List Column) (bars asked : List Bar) (refused : Bool) (l : Line) (given : Answer)
     (in' : is_in_window window l.number ≡ true) (below : All (IsBelow l.number) done)
     (reported : (history : List Command) → HasHistory desk history → IsLineAnswer history l.body given)
     (stands : (history : List Command) → HasHistory desk history → HasHistory later (history_after_line history l.body given))
     (lines : lines_drawn new ≡ lines_drawn old ++ l.number ∷ [])
     (by : AreAsked later (length old + 1) (bars_after_line (length old + 1) l.body given bars) asked)
-    (h : HasShown window done desk old bars) where
+    (h : HasShown window done desk old bars refused) where
   abbrev here : List Command
   here = history_along [] (lines_run window done) h.given
 
@@ -307,11 +328,12 @@ module _ (window : Window) (done : List Line) (desk later : DeskState) (old new 
       ap (world_shown window (done ++ l ∷ []) (h.given ++ given ∷ []) new) same ∙ new_world ∙ ap world_of (sym all_along)
 
   -- a line in the window
-  pub HasDrawn-drawn : HasDrawn window (done ++ l ∷ []) later new asked
+  pub HasDrawn-drawn : HasDrawn window (done ++ l ∷ []) later new asked (is_refused given || refused)
   HasDrawn-drawn = record {
     given = h.given ++ given ∷ [];
     answers = all_reported;
     stands = rw all_along now_stands;
+    refusals = any-push given refused h.given h.refusals;
     lines = lines ∙ ap (λ ns. ns ++ l.number ∷ []) h.lines ∙ sym (drawn_lines-in window done l in');
     kept = rw (all_along, long) kept';
     early = λ none. absurd (omega (arith, long));
@@ -321,7 +343,7 @@ module _ (window : Window) (done : List Line) (desk later : DeskState) (old new 
   }
 
 -- all that is drawn of the run
-pub ShowsRun-shown : (window : Window) (lines : List Line) (desk : DeskState) (columns : List Column) (bars : List Bar) (waits : List BarWait) → (h : HasShown window lines desk columns bars) → All (IsWaitIn (last_world window lines h.given) bars) waits
-    → waits ≡ all_waits (last_world window lines h.given) bars → ShowsRun window lines columns bars waits
-ShowsRun-shown window lines desk columns bars waits h all told =
-    record { given = h.given; answers = h.answers; files = h.shown; waited = all; told = told }
+pub ShowsRun-shown : (window : Window) (lines : List Line) (desk : DeskState) (columns : List Column) (bars : List Bar) (waits : List BarWait) (refused : Bool) → (h : HasShown window lines desk columns bars refused) → All (IsWaitIn (last_world window lines h.given) bars) waits
+    → waits ≡ all_waits (last_world window lines h.given) bars → ShowsRun window lines columns bars waits refused
+ShowsRun-shown window lines desk columns bars waits refused h all told =
+    record { given = h.given; answers = h.answers; files = h.shown; refusals = h.refusals; waited = all; told = told }

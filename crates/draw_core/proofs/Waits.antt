@@ -163,11 +163,11 @@ module _ (desk : DeskState) (w : World) (keeps : Keeps desk w) where
   all_waits-in bars = λ j. flat_map (λ (place : ℕ). waits-in place (slice_get bars place) j) (range_with_len 0 (length bars))
 
 -- the run as a whole
-pub ShowsRun-finished : (window : Window) (lines : List Line) (desk : DeskState) (columns : List Column) (bars asked : List Bar) (waits : List BarWait) → HasDrawn window lines desk columns bars → AreAskedFirst columns desk bars asked → All (IsWaitBy desk asked) waits
-    → waits ≡ waits_to desk asked (length asked) → ShowsRun window lines columns asked waits
-ShowsRun-finished window lines desk columns bars asked waits drawn first all told =
-    let h = HasShown-asked window lines desk columns bars asked first drawn in
-    ShowsRun-shown window lines desk columns asked waits h (All-weaker (IsWaitBy desk asked) (IsWaitIn _ asked) (λ wait by. IsWaitIn-by desk _ asked (Keeps-stands h.stands) wait by) waits all)
+pub ShowsRun-finished : (window : Window) (lines : List Line) (desk : DeskState) (columns : List Column) (bars asked : List Bar) (waits : List BarWait) (refused : Bool) → HasDrawn window lines desk columns bars refused → AreAskedFirst columns desk bars asked → All (IsWaitBy desk asked) waits
+    → waits ≡ waits_to desk asked (length asked) → ShowsRun window lines columns asked waits refused
+ShowsRun-finished window lines desk columns bars asked waits refused drawn first all told =
+    let h = HasShown-asked window lines desk columns bars asked refused first drawn in
+    ShowsRun-shown window lines desk columns asked waits refused h (All-weaker (IsWaitBy desk asked) (IsWaitIn _ asked) (λ wait by. IsWaitIn-by desk _ asked (Keeps-stands h.stands) wait by) waits all)
     (told ∙ all_waits-in desk _ (Keeps-stands h.stands) asked)
 
 -- the contract of a call by its Result

@@ -23,13 +23,13 @@ fills_of_status (Some s) = fill_of s ∷ []
 abbrev pub fills_in : World → ℕ → Bar → List Fill
 fills_in w column b = if is_there column b then fills_of_status (status_in w b.name) else []
 
--- A picture shows the run of a script: it has a column for each line in the window that has an answer; the bars that are
--- there in a column are the files of the history up to its line; and if the middle of the column crosses the middle of a
--- bar, the shapes show the bar as pending, signalled or cancelled as its file is then, and nothing if it isn't there.
-pub record ShowsScript (window : Window) (lines : List Line) (picture : Picture) : Type 0 where
-  pub history : History
+-- A picture and its history show the run of a script: they have a column for each line in the window that has an answer;
+-- the bars that are there in a column are the files of the history up to its line; and if the middle of the column crosses
+-- the middle of a bar, the shapes show the bar as pending, signalled or cancelled as its file is then, and nothing if it
+-- isn't there.
+pub record ShowsScript (window : Window) (lines : List Line) (history : History) (picture : Picture) : Type 0 where
   pub lines_are : lines_drawn history.columns.items ≡ drawn_lines window lines
-  pub run : ShowsRun window lines history.columns.items history.bars.items history.waits.items
+  pub run : ShowsRun window lines history.columns.items history.bars.items history.waits.items history.refused
   pub shown : ShowsHistory history picture
   pub seen : (column k : ℕ) (b : Bar) → column ≤ length history.columns.items
       → k < length history.bars.items → get_or history.bars.items k b ≡ b

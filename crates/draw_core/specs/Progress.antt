@@ -1,5 +1,6 @@
 -- The state of a run after its first lines, and its bars then.
-use Rattle.std.specs.Prelude.{◌≡◌, ◌<◌, ◌≤◌, ℕ, true, if◌then◌else◌, List, [], All, length, None, is_some, IfSome}
+use Rattle.std.specs.Prelude.{◌≡◌, ◌<◌, ◌≤◌, ℕ, Bool, true, if◌then◌else◌, List, [], All, length, None, is_some, IfSome}
+use Rattle.std.specs.List.{list_any}
 use Rattle.command_core.specs.declared.answer.Answer.{Answer}
 use Rattle.line_core.specs.declared.line.Body.{Body}
 use Rattle.line_core.specs.declared.line.Body.TheVariants.{Cmd, Bad}
@@ -50,10 +51,11 @@ pub record AreBarsOf (w : World) (column : ℕ) (bars : List Bar) : Type 0 where
 -- The lines `done` are run: each has its answer, and each that is in the window its column. Before the first column the bars are
 -- not yet asked, and no line of the window was run.
 pub record HasDrawn (window : Window) (done : List Line) (desk : DeskState) (columns : List Column)
-    (bars : List Bar) : Type 0 where
+    (bars : List Bar) (refused : Bool) : Type 0 where
   pub given : List Answer
   pub answers : AreLineAnswers [] (lines_run window done) given
   pub stands : HasHistory desk (history_along [] (lines_run window done) given)
+  pub refusals : refused ≡ list_any is_refused given
   pub lines : lines_drawn columns ≡ drawn_lines window done
   pub kept : AreBarsOf (last_world window done given) (length columns) bars
   pub early : length columns ≡ 0 → All (λ (l : Line). l.number < window.first) (lines_run window done)

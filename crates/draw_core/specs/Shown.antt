@@ -1,6 +1,7 @@
 -- What a picture shows of a run: in each column the files of the history so far, and at the end the points for which
 -- they wait.
-use Rattle.std.specs.Prelude.{◌≡◌, ◌<◌, ◌≤◌, ◌-◌, ◌+◌, ℕ, zero, suc, nat_le, nat_lt, true, if◌then◌else◌, List, [], ◌∷◌, All, Contains, filter, map, length, get_or, Option, None, Some, option_map, ⊤}
+use Rattle.std.specs.Prelude.{◌≡◌, ◌<◌, ◌≤◌, ◌-◌, ◌+◌, ℕ, Bool, zero, suc, nat_le, nat_lt, true, if◌then◌else◌, List, [], ◌∷◌, All, Contains, filter, map, length, get_or, Option, None, Some, option_map, ⊤}
+use Rattle.std.specs.List.{list_any}
 use Rattle.point_core.specs.declared.entry.Point.{Point}
 use Rattle.point_core.specs.declared.status.Status.{Status}
 use Rattle.point_core.specs.declared.status.Status.TheVariants.{Active}
@@ -10,7 +11,7 @@ use Rattle.command_core.specs.declared.answer.Answer.{Answer}
 use Rattle.line_core.specs.declared.line.Line.{Line}
 use Rattle.timeline_core.specs.Timeline.{Timeline, clocks_of, name_at, value_of}
 use Rattle.desk_core.specs.theorem.World.{World, MadeFile, file_named}
-use Rattle.desk_core.specs.theorem.Answer.{file_status, listed_points}
+use Rattle.desk_core.specs.theorem.Answer.{file_status, is_refused, listed_points}
 use Rattle.desk_core.specs.theorem.History.{world_of}
 use Rattle.script_core.specs.Output.{AreLineAnswers, history_after_line}
 use Rattle.script_core.specs.Answering.{history_along}
@@ -95,10 +96,12 @@ pub record IsWaitIn (w : World) (bars : List Bar) (wait : BarWait) : Type 0 wher
 
 -- A picture shows the run of the lines: they have answers so that each column shows the files of the history up to its
 -- line, and the texts at the end give the distance of each point for which a file waits after the last line that was run.
+-- The history also says whether one of these lines was refused.
 pub record ShowsRun (window : Window) (lines : List Line) (columns : List Column) (bars : List Bar)
-    (waits : List BarWait) : Type 0 where
+    (waits : List BarWait) (refused : Bool) : Type 0 where
   pub given : List Answer
   pub answers : AreLineAnswers [] (lines_run window lines) given
   pub files : (column : ℕ) → column ≤ length columns → ShowFiles (world_shown window lines given columns column) column bars
   pub waited : All (IsWaitIn (last_world window lines given) bars) waits
+  pub refusals : refused ≡ list_any is_refused given
   pub told : waits ≡ all_waits (last_world window lines given) bars

@@ -28,7 +28,7 @@ impl Drawing {
         window: &Window,
         reasons: &mut X,
     ) -> Result<Drawing, Refusal>
-        ensures { IfOk result (λ drawing. ShowsScript window.now (script_of script.now) drawing.picture) }
+        ensures { IfOk result (λ drawing. ShowsScript window.now (script_of script.now) drawing.run.history drawing.picture) }
     {
         let run = Run::of(alloc, script, window, reasons)?;
         let picture = picture_of(alloc, run.history())?;

@@ -1,5 +1,5 @@
 //! `Run`: a script's run, recorded as a history. Lines before the window only change the desk.
-ghost use Rattle.std.specs.Prelude.{◌≡◌, ◌<◌, ◌≤◌, ◌+◌, ◌∷◌, ◌++◌, [], List, All, length, true, IfOk, OnOk};
+ghost use Rattle.std.specs.Prelude.{◌≡◌, ◌<◌, ◌≤◌, ◌+◌, ◌∷◌, ◌++◌, ◌||◌, [], List, All, length, true, IfOk, OnOk};
 ghost use Rattle.desk_core.specs.theorem.Answer.{is_refused};
 ghost use Rattle.desk_core.specs.theorem.Desk.{HasHistory};
 ghost use Rattle.desk_core.specs.theorem.History.{world_of};
@@ -64,7 +64,7 @@ impl Run {
         ensures columns { IfOk result (λ run.
             lines_drawn run.history.columns.items ≡ drawn_lines window.now (script_of script.now)) }
         ensures shown { IfOk result (λ run. ShowsRun window.now (script_of script.now)
-            run.history.columns.items run.history.bars.items run.history.waits.items) }
+            run.history.columns.items run.history.bars.items run.history.waits.items run.history.refused) }
         ensures stands { IfOk result (λ run. StandsAfter window.now (script_of script.now) run.desk) }
     {
         let lines = read_script(alloc, script)?;
@@ -111,7 +111,7 @@ impl Run {
 
     fn new(alloc: Global, window: &Window) -> Result<Run, Refusal>
         ensures drawn { IfOk result (λ run.
-            HasDrawn window.now [] run.desk run.history.columns.items run.history.bars.items) }
+            HasDrawn window.now [] run.desk run.history.columns.items run.history.bars.items run.history.refused) }
         ensures window { IfOk result (λ run. run.window ≡ window.now) }
         ensures waits { IfOk result (λ run. run.history.waits.items ≡ []) }
     {
@@ -130,9 +130,10 @@ impl Run {
         reasons: &mut X,
     ) -> Result<(), Refusal>
         requires rising { AreRising 1 lines.now }
-        requires none { HasDrawn self.old.window [] self.old.desk self.old.history.columns.items self.old.history.bars.items }
+        requires none { HasDrawn self.old.window [] self.old.desk self.old.history.columns.items self.old.history.bars.items
+            self.old.history.refused }
         ensures drawn { OnOk result (HasDrawn self.old.window lines.now
-            self.new.desk self.new.history.columns.items self.new.history.bars.items) }
+            self.new.desk self.new.history.columns.items self.new.history.bars.items self.new.history.refused) }
         ensures waits { self.new.history.waits ≡ self.old.history.waits }
     {
         let mut texts = Texts::of(script);
@@ -153,9 +154,10 @@ impl Run {
         reasons: &mut X,
     ) -> Result<(), Refusal>
         ensures drawn { OnOk result ((done : List LineModel) → All (λ (l : LineModel). l.number < line.now.number) done →
-            HasDrawn self.old.window done self.old.desk self.old.history.columns.items self.old.history.bars.items →
+            HasDrawn self.old.window done self.old.desk self.old.history.columns.items self.old.history.bars.items
+            self.old.history.refused →
             HasDrawn self.old.window (done ++ record { number = line.now.number; body = body.now } ∷ [])
-            self.new.desk self.new.history.columns.items self.new.history.bars.items) }
+            self.new.desk self.new.history.columns.items self.new.history.bars.items self.new.history.refused) }
         ensures window { self.new.window ≡ self.old.window }
         ensures waits { self.new.history.waits ≡ self.old.history.waits }
     {
@@ -177,9 +179,10 @@ impl Run {
         requires before { line < self.old.window.first }
         requires within { line ≤ self.old.window.last }
         ensures drawn { OnOk result ((done : List LineModel) → All (λ (l : LineModel). l.number < line) done →
-            HasDrawn self.old.window done self.old.desk self.old.history.columns.items self.old.history.bars.items →
+            HasDrawn self.old.window done self.old.desk self.old.history.columns.items self.old.history.bars.items
+            self.old.history.refused →
             HasDrawn self.old.window (done ++ record { number = line; body = body.now } ∷ [])
-            self.new.desk self.new.history.columns.items self.new.history.bars.items) }
+            self.new.desk self.new.history.columns.items self.new.history.bars.items self.new.history.refused) }
         ensures window { self.new.window ≡ self.old.window }
         ensures waits { self.new.history.waits ≡ self.old.history.waits }
     {
@@ -195,9 +198,10 @@ impl Run {
     ) -> Result<(), Refusal>
         requires within { is_in_window self.old.window line.now.number ≡ true }
         ensures drawn { OnOk result ((done : List LineModel) → All (λ (l : LineModel). l.number < line.now.number) done →
-            HasDrawn self.old.window done self.old.desk self.old.history.columns.items self.old.history.bars.items →
+            HasDrawn self.old.window done self.old.desk self.old.history.columns.items self.old.history.bars.items
+            self.old.history.refused →
             HasDrawn self.old.window (done ++ record { number = line.now.number; body = body.now } ∷ [])
-            self.new.desk self.new.history.columns.items self.new.history.bars.items) }
+            self.new.desk self.new.history.columns.items self.new.history.bars.items self.new.history.refused) }
         ensures window { self.new.window ≡ self.old.window }
         ensures waits { self.new.history.waits ≡ self.old.history.waits }
     {
@@ -214,6 +218,7 @@ impl Run {
         ensures desk { self.new.desk ≡ self.old.desk }
         ensures window { self.new.window ≡ self.old.window }
         ensures waits { self.new.history.waits ≡ self.old.history.waits }
+        ensures refused { self.new.history.refused ≡ self.old.history.refused }
     {
         if self.history.columns.is_empty() {
             ask_all(self.history.bars.as_mut_slice(), &self.desk, 0);
@@ -236,6 +241,7 @@ impl Run {
         ensures desk { self.new.desk ≡ self.old.desk }
         ensures window { self.new.window ≡ self.old.window }
         ensures waits { self.new.history.waits ≡ self.old.history.waits }
+        ensures refused { self.new.history.refused ≡ (is_refused answer.now || self.old.history.refused) }
     {
         let column = self.history.columns.len() + 1;
         self.enter(column, line.number, body, answer, reasons)?;
@@ -265,6 +271,7 @@ impl Run {
         ensures desk { self.new.desk ≡ self.old.desk }
         ensures window { self.new.window ≡ self.old.window }
         ensures waits { self.new.history.waits ≡ self.old.history.waits }
+        ensures refused { self.new.history.refused ≡ (is_refused answer.now || self.old.history.refused) }
     {
         if is_refused(answer) {
             self.history.refused = true;
@@ -290,6 +297,7 @@ impl Run {
         ensures desk { self.new.desk ≡ self.old.desk }
         ensures window { self.new.window ≡ self.old.window }
         ensures waits { self.new.history.waits ≡ self.old.history.waits }
+        ensures refused { self.new.history.refused ≡ self.old.history.refused }
     {
         reasons.accept(line, command, &self.desk)?;
         let points = points_of(&self.desk, command);
@@ -323,6 +331,7 @@ impl Run {
             ≡ waits_to self.old.desk self.new.history.bars.items (length self.new.history.bars.items)) }
         ensures columns { self.new.history.columns ≡ self.old.history.columns }
         ensures desk { self.new.desk ≡ self.old.desk }
+        ensures refused { self.new.history.refused ≡ self.old.history.refused }
     {
         self.ask_first();
         self.wait_for_all()
@@ -336,6 +345,7 @@ impl Run {
         ensures columns { self.new.history.columns ≡ self.old.history.columns }
         ensures bars { self.new.history.bars ≡ self.old.history.bars }
         ensures desk { self.new.desk ≡ self.old.desk }
+        ensures refused { self.new.history.refused ≡ self.old.history.refused }
     {
         for place in 0..self.history.bars.len() {
             self.wait_for(place)?;
@@ -351,6 +361,7 @@ impl Run {
         ensures columns { self.new.history.columns ≡ self.old.history.columns }
         ensures bars { self.new.history.bars ≡ self.old.history.bars }
         ensures desk { self.new.desk ≡ self.old.desk }
+        ensures refused { self.new.history.refused ≡ self.old.history.refused }
     {
         let Some(bar) = self.history.bars.get(place) else {
             return Ok(());
@@ -407,6 +418,7 @@ fn push_waits(
         ≡ history.old.waits.items ++ waits_for desk.now.timelines bar points.now) }
     ensures columns { history.new.columns ≡ history.old.columns }
     ensures bars { history.new.bars ≡ history.old.bars }
+    ensures refused { history.new.refused ≡ history.old.refused }
 {
     for point in points {
         if let Some(waiting) = waiting_for(desk, point) {

@@ -24,11 +24,13 @@ loop-point-preserved c =
             (wait-point desk c.args.bar point w.in-Some.waiting w.in-Some.ensures.waits) before.told w.in_ok-add_wait.ensures.waits;
         columns = w.in_ok-add_wait.ensures.columns ∙ before.columns;
         bars = w.in_ok-add_wait.ensures.bars ∙ before.bars;
+        refused = w.in_ok-add_wait.ensures.refused ∙ before.refused;
       })
       | in_default w ↦ rw w.history-is (record {
         waits = before.waits;
         told = kept-out wanted wait old points i point low c.point-item.is (sym w.in_default.ensures.some) before.told;
         columns = before.columns;
         bars = before.bars;
+        refused = before.refused;
       })
     ]

@@ -9,4 +9,5 @@ invariant-loop-point l = record {
   told : l.history.waits.items ≡ l.fn.history.waits.items ++ waits_for l.desk.timelines l.bar (take l.point-index l.points);
   columns : l.history.columns ≡ l.fn.history.columns;
   bars : l.history.bars ≡ l.fn.history.bars;
+  refused : l.history.refused ≡ l.fn.history.refused;
 }

@@ -8,8 +8,8 @@ take_all-requires-clause-rising g c = rw (c.as_slice.ensures.value, c.in_ok-line
 
 pub returns-clause-shown : goal.returns-clause-shown
 returns-clause-shown g c =
-    rw c.finish.ensures.columns
-    (ShowsRun-finished c.args.window.now (script_of c.args.script.now) c.take_all.new.self.desk c.take_all.new.self.history.columns.items c.take_all.new.self.history.bars.items c.finish.new.self.history.bars.items c.finish.new.self.history.waits.items
+    rw (c.finish.ensures.columns, c.finish.ensures.refused)
+    (ShowsRun-finished c.args.window.now (script_of c.args.script.now) c.take_all.new.self.desk c.take_all.new.self.history.columns.items c.take_all.new.self.history.bars.items c.finish.new.self.history.bars.items c.finish.new.self.history.waits.items c.take_all.new.self.history.refused
     (rw (c.in_ok-run.ensures.window, c.as_slice.ensures.value, c.in_ok-lines.ensures.ok) at c.in_ok-take_all.ensures.drawn)
     c.in_ok-finish.ensures.asked c.in_ok-finish.ensures.waits c.in_ok-finish.ensures.told)
 

@@ -4,7 +4,7 @@ use Rattle.draw_core.proofs.run.Run.take_all.Given as goal
 
 abbrev pub invariant-loop-line : goal.invariant-loop-line
 invariant-loop-line g l = record {
-  drawn : HasDrawn l.self.window (take l.line-index l.lines) l.self.desk l.self.history.columns.items l.self.history.bars.items;
+  drawn : HasDrawn l.self.window (take l.line-index l.lines) l.self.desk l.self.history.columns.items l.self.history.bars.items l.self.history.refused;
   window : l.self.window ≡ l.fn.self.window;
   waits : l.self.history.waits ≡ l.fn.self.history.waits;
 }

@@ -13,4 +13,5 @@ loop-place-preserved c =
       columns = c.wait_for.ensures.columns ∙ before.columns;
       bars = c.wait_for.ensures.bars ∙ before.bars;
       desk = c.wait_for.ensures.desk ∙ before.desk;
+      refused = c.wait_for.ensures.refused ∙ before.refused;
     }

@@ -10,4 +10,5 @@ invariant-loop-place l = record {
   columns : l.self.history.columns ≡ l.fn.self.history.columns;
   bars : l.self.history.bars ≡ l.fn.self.history.bars;
   desk : l.self.desk ≡ l.fn.self.desk;
+  refused : l.self.history.refused ≡ l.fn.self.history.refused;
 }
