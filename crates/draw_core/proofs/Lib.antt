@@ -4,5 +4,6 @@ mod Entering
 mod Lines
 mod Picturing
 mod Showing
+mod Spelling
 mod Staying
 mod Waits

@@ -1,6 +1,6 @@
 -- The lines that have a column.
-use Rattle.std.specs.Prelude.{◌≡◌, ℕ, Bool, ◌&&◌, nat_le, List, ◌++◌, map, filter, codes}
-use Rattle.std.specs.Str.Parse.{digits_value, without_leading_plus}
+use Rattle.std.specs.Prelude.{◌≡◌, ◌<◌, ◌≤◌, ◌^◌, ℕ, Bool, ◌&&◌, nat_le, List, ◌++◌, map, filter, codes}
+use Rattle.std.specs.Str.Parse.{IsNumeral, digits_value, without_leading_plus}
 use Rattle.line_core.specs.declared.line.Line.{Line}
 use Rattle.draw_core.specs.declared.window.Window.{Window}
 use Rattle.picture_core.specs.declared.history.Column.{Column}
@@ -16,14 +16,29 @@ drawn_lines window lines = filter (is_in_window window) (map (λ (l : Line). l.n
 abbrev pub lines_drawn : List Column → List ℕ
 lines_drawn columns = map (λ (c : Column). c.line) columns
 
--- the number that decimal digits spell, behind a plus or not
+-- the number that decimal digits spell, after a plus or not
 abbrev pub spelled : List ℕ → ℕ
 spelled digits = digits_value 10 (without_leading_plus digits)
+
+-- the text is decimal digits, after a plus or not, and they spell that number, which fits 32 bits
+pub record SpellsNumber (text : List ℕ) (number : ℕ) : Type 0 where
+  pub digits : IsNumeral 10 (without_leading_plus text)
+  pub value : number ≡ spelled text
+  pub fits : number < 2 ^ 32
+
+-- the window has a line: its first line is line 1 or a later one, and its last is not before the first
+pub record HasLines (window : Window) : Type 0 where
+  pub from_one : 1 ≤ window.first
+  pub rising : window.first ≤ window.last
+
+-- two texts spell the numbers of the window's first and last line
+pub record SpellsLines (first_text last_text : List ℕ) (window : Window) : Type 0 where
+  pub first : SpellsNumber first_text window.first
+  pub last : SpellsNumber last_text window.last
 
 -- the text is the numbers of the window's first and last line, with `..` between
 pub record Spells (text : List ℕ) (window : Window) : Type 0 where
   pub first_text : List ℕ
   pub last_text : List ℕ
   pub parts : text ≡ first_text ++ (codes ".." ++ last_text)
-  pub first : window.first ≡ spelled first_text
-  pub last : window.last ≡ spelled last_text
+  pub lines : SpellsLines first_text last_text window

@@ -1,6 +1,7 @@
 //! `Window`: the range of lines that are drawn.
-ghost use Rattle.std.specs.Prelude.{◌≡◌, ◌≤◌, ◌+◌, ◌-◌, ◌^◌, min, IfSome};
-ghost use Rattle.draw_core.specs.Columns.{Spells, is_in_window};
+ghost use Rattle.std.specs.Prelude.{◌≡◌, ℕ, ◌+◌, ◌-◌, ◌++◌, ◌^◌, min, List, codes, IfSome, MatchOption, Some};
+ghost use Rattle.draw_core.specs.declared.window.Window.{Window as WindowModel};
+ghost use Rattle.draw_core.specs.Columns.{HasLines, Spells, SpellsLines, SpellsNumber, is_in_window};
 
 /// The lines from `first` to `last`, both included.
 #[derive(Clone, Copy)]
@@ -34,16 +35,14 @@ impl Window {
 
     /// Reads `A..B`, two line numbers, the first not above the second.
     pub fn read(text: &str) -> Option<Window>
-        ensures lines { IfSome result (λ window. (1 ≤ window.first) × (window.first ≤ window.last)) }
+        ensures lines { IfSome result HasLines }
         ensures spelled { IfSome result (Spells text.now) }
+        ensures read { (window : WindowModel) → HasLines window → Spells text.now window → result ≡ Some window }
     {
-        let (first, last) = text.split_once("..")?;
-        let first: u32 = first.parse().ok()?;
-        let last: u32 = last.parse().ok()?;
-        if first == 0 || first > last {
-            return None;
+        match parts_of(text) {
+            Some(parts) => read_lines(parts.0, parts.1),
+            None => None,
         }
-        Some(Window { first, last })
     }
 
     /// Whether it contains the line with this number.
@@ -51,5 +50,67 @@ impl Window {
         ensures { result ≡ is_in_window self.now line }
     {
         self.first <= line && line <= self.last
+    }
+}
+
+/// The texts before and after `..`.
+fn parts_of(text: &str) -> Option<(&str, &str)>
+    ensures parts { MatchOption result
+        ((first last : List ℕ) → text.now ≡ first ++ (codes ".." ++ last) → ⊥)
+        (λ parts. text.now ≡ parts.0.now ++ (codes ".." ++ parts.1.now)) }
+{
+    text.split_once("..")
+}
+
+/// The window between two line numbers.
+fn read_lines(first: &str, last: &str) -> Option<Window>
+    ensures lines { IfSome result HasLines }
+    ensures spelled { IfSome result (SpellsLines first.now last.now) }
+    ensures read { (window : WindowModel) → HasLines window → SpellsLines first.now last.now window → result ≡ Some window }
+{
+    match number_of(first) {
+        Some(number) => read_last(number, last),
+        None => None,
+    }
+}
+
+/// The window from that line to a line number.
+fn read_last(first: u32, last: &str) -> Option<Window>
+    ensures lines { IfSome result HasLines }
+    ensures first { IfSome result (λ window. window.first ≡ first) }
+    ensures last { IfSome result (λ window. SpellsNumber last.now window.last) }
+    ensures read { (window : WindowModel) → HasLines window → window.first ≡ first → SpellsNumber last.now window.last →
+        result ≡ Some window }
+{
+    match number_of(last) {
+        Some(number) => window_between(first, number),
+        None => None,
+    }
+}
+
+/// The window between two lines; none if it would have no line.
+fn window_between(first: u32, last: u32) -> Option<Window>
+    ensures lines { IfSome result HasLines }
+    ensures first { IfSome result (λ window. window.first ≡ first) }
+    ensures last { IfSome result (λ window. window.last ≡ last) }
+    ensures read { (window : WindowModel) → HasLines window → window.first ≡ first → window.last ≡ last →
+        result ≡ Some window }
+{
+    if first == 0 {
+        return None;
+    }
+    if first > last {
+        return None;
+    }
+    Some(Window { first, last })
+}
+
+/// The number that decimal digits spell, after a plus or not.
+fn number_of(text: &str) -> Option<u32>
+    ensures number { MatchOption result ((number : ℕ) → SpellsNumber text.now number → ⊥) (SpellsNumber text.now) }
+{
+    match text.parse::<u32>() {
+        Ok(number) => Some(number),
+        Err(_) => None,
     }
 }
