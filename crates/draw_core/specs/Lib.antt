@@ -4,5 +4,6 @@ pub mod Drawn
 pub mod Found
 pub mod Pictured
 pub mod Progress
+pub mod Refused
 pub mod Shown
 pub mod Waiting

@@ -2,6 +2,7 @@
 ghost use Rattle.std.specs.Prelude.{◌≡◌, IfOk};
 ghost use Rattle.line_core.specs.Script.{script_of};
 ghost use Rattle.draw_core.specs.Pictured.{ShowsScript};
+ghost use Rattle.draw_core.specs.Refused.{HasRefused, drawing_refused};
 
 use crate::note::Explain;
 use crate::run::Run;
@@ -28,7 +29,8 @@ impl Drawing {
         window: &Window,
         reasons: &mut X,
     ) -> Result<Drawing, Refusal>
-        ensures { IfOk result (λ drawing. ShowsScript window.now (script_of script.now) drawing.run.history drawing.picture) }
+        ensures shown { IfOk result (λ drawing. ShowsScript window.now (script_of script.now) drawing.run.history drawing.picture) }
+        ensures refused { IfOk result (λ drawing. HasRefused window.now (script_of script.now) (drawing_refused drawing)) }
     {
         let run = Run::of(alloc, script, window, reasons)?;
         let picture = picture_of(alloc, run.history())?;

@@ -10,6 +10,7 @@ ghost use Rattle.picture_core.specs.Bars.{bars_after};
 ghost use Rattle.draw_core.specs.Columns.{drawn_lines, is_in_window, lines_drawn};
 ghost use Rattle.draw_core.specs.Progress.{AddsWaits, AreAskedFirst, HasDrawn, IsWaitBy, bars_after_line};
 ghost use Rattle.draw_core.specs.Drawn.{AreAsked};
+ghost use Rattle.draw_core.specs.Refused.{HasRefused, run_refused};
 ghost use Rattle.draw_core.specs.Shown.{AreRising, ShowsRun};
 ghost use Rattle.draw_core.specs.Found.{IsReportOf, edges_by, waits_by, waits_for, waits_to};
 ghost use Rattle.draw_core.specs.Waiting.{StandsAfter, edges_in};
@@ -66,6 +67,7 @@ impl Run {
         ensures shown { IfOk result (λ run. ShowsRun window.now (script_of script.now)
             run.history.columns.items run.history.bars.items run.history.waits.items run.history.refused) }
         ensures stands { IfOk result (λ run. StandsAfter window.now (script_of script.now) run.desk) }
+        ensures refused { IfOk result (λ run. HasRefused window.now (script_of script.now) (run_refused run)) }
     {
         let lines = read_script(alloc, script)?;
         let mut run = Run::new(alloc, window)?;

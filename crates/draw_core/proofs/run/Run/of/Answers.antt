@@ -17,3 +17,8 @@ pub returns-clause-stands : goal.returns-clause-stands
 returns-clause-stands g c =
     let drawn = rw (c.in_ok-run.ensures.window, c.as_slice.ensures.value, c.in_ok-lines.ensures.ok) at c.in_ok-take_all.ensures.drawn in
     rw c.finish.ensures.desk (record { given = drawn.given; answers = drawn.answers; stands = drawn.stands })
+
+pub returns-clause-refused : goal.returns-clause-refused
+returns-clause-refused g c =
+    let drawn = rw (c.in_ok-run.ensures.window, c.as_slice.ensures.value, c.in_ok-lines.ensures.ok) at c.in_ok-take_all.ensures.drawn in
+    rw c.finish.ensures.refused (record { given = drawn.given; answers = drawn.answers; is = drawn.refusals })
