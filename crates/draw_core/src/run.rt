@@ -6,7 +6,6 @@ ghost use Rattle.desk_core.specs.theorem.History.{world_of};
 ghost use Rattle.command_core.specs.declared.command.Command.{Command as CommandModel};
 ghost use Rattle.line_core.specs.declared.line.Line.{Line as LineModel};
 ghost use Rattle.line_core.specs.Script.{script_of};
-ghost use Rattle.picture_core.specs.Bars.{bars_after};
 ghost use Rattle.draw_core.specs.Columns.{drawn_lines, is_in_window, lines_drawn};
 ghost use Rattle.draw_core.specs.Progress.{AddsWaits, AreAskedFirst, HasDrawn, IsWaitBy, bars_after_line};
 ghost use Rattle.draw_core.specs.Drawn.{AreAsked};
@@ -279,28 +278,9 @@ impl Run {
             self.history.refused = true;
             return Ok(());
         }
-        match body {
-            Body::Cmd(command) => self.enter_command(column, line, command, answer, reasons),
-            Body::Bad(_) => Ok(()),
-        }
-    }
-
-    fn enter_command<X: Explain>(
-        &mut self,
-        column: usize,
-        line: u32,
-        command: &Command,
-        answer: &Answer,
-        reasons: &mut X,
-    ) -> Result<(), Refusal>
-        ensures columns { self.new.history.columns ≡ self.old.history.columns }
-        ensures bars { OnOk result (self.new.history.bars.items
-            ≡ bars_after column command.now self.old.history.bars.items) }
-        ensures desk { self.new.desk ≡ self.old.desk }
-        ensures window { self.new.window ≡ self.old.window }
-        ensures waits { self.new.history.waits ≡ self.old.history.waits }
-        ensures refused { self.new.history.refused ≡ self.old.history.refused }
-    {
+        let Body::Cmd(command) = body else {
+            return Ok(());
+        };
         reasons.accept(line, command, &self.desk)?;
         let points = points_of(&self.desk, command);
         self.history
