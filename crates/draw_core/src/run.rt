@@ -6,7 +6,7 @@ ghost use Rattle.desk_core.specs.theorem.History.{world_of};
 ghost use Rattle.command_core.specs.declared.command.Command.{Command as CommandModel};
 ghost use Rattle.line_core.specs.declared.line.Line.{Line as LineModel};
 ghost use Rattle.line_core.specs.Script.{script_of};
-ghost use Rattle.draw_core.specs.Columns.{drawn_lines, is_in_window, lines_drawn};
+ghost use Rattle.draw_core.specs.Columns.{drawn_lines, lines_drawn};
 ghost use Rattle.draw_core.specs.Progress.{AddsWaits, AreAskedFirst, HasDrawn, IsWaitBy, bars_after_line};
 ghost use Rattle.draw_core.specs.Drawn.{AreAsked};
 ghost use Rattle.draw_core.specs.Refused.{HasRefused, run_refused};
@@ -163,7 +163,9 @@ impl Run {
         ensures waits { self.new.history.waits ≡ self.old.history.waits }
     {
         if self.window.has(line.number) {
-            self.take_drawn(line, body, reasons)
+            self.ask_first();
+            let answer = answer_line(&mut self.desk, *body);
+            self.record(line, body, &answer, reasons)
         } else if line.number <= self.window.last {
             self.take_undrawn(line.number, body, reasons)
         } else {
@@ -189,26 +191,6 @@ impl Run {
     {
         let answer = answer_line(&mut self.desk, *body);
         self.enter(0, line, body, &answer, reasons)
-    }
-
-    fn take_drawn<X: Explain>(
-        &mut self,
-        line: &RawLine<'_>,
-        body: &Body,
-        reasons: &mut X,
-    ) -> Result<(), Refusal>
-        requires within { is_in_window self.old.window line.now.number ≡ true }
-        ensures drawn { OnOk result ((done : List LineModel) → All (λ (l : LineModel). l.number < line.now.number) done →
-            HasDrawn self.old.window done self.old.desk self.old.history.columns.items self.old.history.bars.items
-            self.old.history.refused →
-            HasDrawn self.old.window (done ++ record { number = line.now.number; body = body.now } ∷ [])
-            self.new.desk self.new.history.columns.items self.new.history.bars.items self.new.history.refused) }
-        ensures window { self.new.window ≡ self.old.window }
-        ensures waits { self.new.history.waits ≡ self.old.history.waits }
-    {
-        self.ask_first();
-        let answer = answer_line(&mut self.desk, *body);
-        self.record(line, body, &answer, reasons)
     }
 
     /// Before the first column, settles the bars of open files that are signalled.

@@ -1,12 +1,13 @@
+use Rattle.std.proofs.Common.{sym, ◌∙◌}
 use Rattle.draw_core.proofs.Showing.{HasDrawn-drawn, HasShown-asked}
 use Rattle.draw_core.proofs.Waits.{on_both}
-use Rattle.draw_core.proofs.run.Run.take_drawn.Goals as goal
+use Rattle.draw_core.proofs.run.Run.take.Goals as goal
 
-pub returns-clause-drawn : goal.returns-clause-drawn
-returns-clause-drawn g c = on_both c.record.result _ _ _ c.record.ensures.columns c.record.ensures.bars (λ lines by done below drawn.
+pub returns-then-has-clause-drawn : goal.returns-then-has-clause-drawn
+returns-then-has-clause-drawn g c = on_both c.record.result _ _ _ c.record.ensures.columns c.record.ensures.bars (λ lines by done below drawn.
     rw (c.record.ensures.desk, c.record.ensures.refused, c.ask_first.ensures.refused)
     (HasDrawn-drawn c.args.self.now.window done c.args.self.now.desk c.answer_line-answer.new.desk c.args.self.now.history.columns.items c.record.new.self.history.columns.items c.ask_first.new.self.history.bars.items c.record.new.self.history.bars.items c.args.self.now.history.refused
-    (record { number = c.args.line.now.number; body = c.args.body.now }) c.answer_line-answer.result c.requires.within below
+    (record { number = c.args.line.now.number; body = c.args.body.now }) c.answer_line-answer.result (sym c.has.ensures ∙ c.if-has.true) below
     (rw c.ask_first.ensures.desk at c.answer_line-answer.ensures.answer)
     (rw c.ask_first.ensures.desk at c.answer_line-answer.ensures.stands)
     (rw c.ask_first.ensures.columns at lines)
