@@ -46,10 +46,7 @@ impl FenceKey {
     pub fn timeline_key(&self) -> TimelineKey
         ensures { result ≡ timeline_of self.now }
     {
-        TimelineKey {
-            driver: self.driver,
-            timeline: self.timeline,
-        }
+        self.context_key().timeline_key()
     }
 
     /// The context of the fence.
