@@ -53,21 +53,8 @@ pub fn script_of_trace<R: Read>(
     ensures refusals { IfErr result (λ e. (e ≡ ReadFault) ⊎ (e ≡ Memory)) }
 {
     let mut tracker = Tracker::new(alloc);
-    script_by(alloc, span, &mut tracker, reader)
-}
-
-fn script_by<R: Read>(
-    alloc: Global,
-    span: Span,
-    tracker: &mut Tracker,
-    reader: &mut R,
-) -> Result<Scripted, Refusal>
-    requires fresh { Tracks tracker.old [] [] }
-    ensures scripted { IfOk result (ScriptsTrace span (R.remaining reader.old) (R.remaining reader.new)) }
-    ensures refusals { IfErr result (λ e. (e ≡ ReadFault) ⊎ (e ≡ Memory)) }
-{
     let mut acts = Acts::new(alloc);
-    script_of(alloc, span, tracker, &mut acts, reader)
+    script_of(alloc, span, &mut tracker, &mut acts, reader)
 }
 
 fn script_of<R: Read>(
