@@ -122,6 +122,13 @@ fn see(alloc: Global, tracker: &Tracker, acts: &mut Acts, seen: &Seen) -> Result
     }
 }
 
+/// What was recorded up to the end of the window.
+#[derive(Clone, Copy)]
+struct Recorded<'a> {
+    tracker: &'a Tracker,
+    acts: &'a Acts,
+}
+
 /// A script that is being written.
 #[derive(Drop)]
 struct Text {
@@ -145,7 +152,7 @@ fn written(alloc: Global, tracker: &Tracker, acts: &Acts) -> Result<Scripted, Al
         files: 0,
         is_crowded: acts.are_too_many(),
     };
-    text.acts(tracker, acts)?;
+    text.acts(&Recorded { tracker, acts })?;
     if text.is_too_long() {
         return Ok(Scripted::TooLong);
     }
@@ -163,37 +170,36 @@ impl Text {
     }
 
     /// Adds what happened, up to where it is too long.
-    fn acts(&mut self, tracker: &Tracker, acts: &Acts) -> Result<(), AllocError>
+    fn acts(&mut self, recorded: &Recorded<'_>) -> Result<(), AllocError>
         ensures lines { OnOk result (AreLines self.old.bytes.items → AreLines self.new.bytes.items) }
     {
-        for act in acts.acts.as_slice() {
+        for act in recorded.acts.acts.as_slice() {
             if !self.is_too_long() {
-                self.act(tracker, acts, act)?;
+                self.act(recorded, act)?;
             }
         }
         Ok(())
     }
 
-    fn act(&mut self, tracker: &Tracker, acts: &Acts, act: &Act) -> Result<(), AllocError>
+    fn act(&mut self, recorded: &Recorded<'_>, act: &Act) -> Result<(), AllocError>
         ensures lines { OnOk result (AreLines self.old.bytes.items → AreLines self.new.bytes.items) }
     {
-        let Some(fence) = acts.fences.get(act.fence()) else {
+        let Some(fence) = recorded.acts.fences.get(act.fence()) else {
             return Ok(());
         };
-        if tracker.ledger.is_unnumbered(&fence.key) {
+        if recorded.tracker.ledger.is_unnumbered(&fence.key) {
             return Ok(());
         }
-        let Some(file) = file_of(self.alloc, acts, fence)? else {
+        let Some(file) = file_of(self.alloc, recorded.acts, fence)? else {
             self.is_crowded = true;
             return Ok(());
         };
-        self.act_of(tracker, acts, act, fence, file)
+        self.act_of(recorded, act, fence, file)
     }
 
     fn act_of(
         &mut self,
-        tracker: &Tracker,
-        acts: &Acts,
+        recorded: &Recorded<'_>,
         act: &Act,
         fence: &Fence,
         file: File<'_>,
@@ -201,7 +207,7 @@ impl Text {
         ensures lines { OnOk result (IsNamedFile file.entry → AreLines self.old.bytes.items → AreLines self.new.bytes.items) }
     {
         match act {
-            Act::Make(_) => self.make(tracker, acts, fence, file),
+            Act::Make(_) => self.make(recorded, fence, file),
             Act::Signal(_) => self.add(&Line::Signal(file.timeline)),
             Act::Close(_) => {
                 self.files = self.files.saturating_sub(1);
@@ -224,8 +230,7 @@ impl Text {
     /// Makes the fence, and its timeline before it where there is none yet.
     fn make(
         &mut self,
-        tracker: &Tracker,
-        acts: &Acts,
+        recorded: &Recorded<'_>,
         fence: &Fence,
         file: File<'_>,
     ) -> Result<(), AllocError>
@@ -233,7 +238,7 @@ impl Text {
     {
         let timelines = fence.timeline.saturating_add(1);
         for place in self.timelines..timelines {
-            self.timeline(tracker, acts, place)?;
+            self.timeline(recorded, place)?;
         }
         self.timelines = self.timelines.max(timelines);
         self.files = self.files.saturating_add(1);
@@ -241,16 +246,17 @@ impl Text {
         self.add(&Line::Fence(file, fence.point))
     }
 
-    fn timeline(&mut self, tracker: &Tracker, acts: &Acts, place: usize) -> Result<(), AllocError>
+    fn timeline(&mut self, recorded: &Recorded<'_>, place: usize) -> Result<(), AllocError>
         ensures lines { OnOk result (AreLines self.old.bytes.items → AreLines self.new.bytes.items) }
     {
-        let Some(key) = acts.names.key(place) else {
+        let names = &recorded.acts.names;
+        let Some(key) = names.key(place) else {
             return Ok(());
         };
-        let Some(name) = acts.names.name(place) else {
+        let Some(name) = names.name(place) else {
             return Ok(());
         };
-        let (driver, raw) = tracker.names(key);
+        let (driver, raw) = recorded.tracker.names(key);
         self.add(&Line::Timeline { driver, raw, name })
     }
 
