@@ -4,9 +4,9 @@ use Rattle.std.specs.List.{flat_map}
 use Rattle.point_core.specs.Name.{IsName}
 use Rattle.text_core.specs.Escape.{noted}
 use Rattle.text_core.specs.Number.{seconds}
-use Rattle.trace_script.specs.declared.line.File.{File}
-use Rattle.trace_script.specs.declared.line.Line.{Line}
-use Rattle.trace_script.specs.declared.line.Line.TheVariants as line
+use Rattle.trace_script.specs.declared.line.FenceFile.{FenceFile}
+use Rattle.trace_script.specs.declared.line.TraceLine.{TraceLine}
+use Rattle.trace_script.specs.declared.line.TraceLine.TheVariants as line
 use Rattle.trace_script.specs.declared.line.TheConstants.{NOTED_BYTES}
 
 -- what a line says, with the bytes of its names
@@ -17,7 +17,7 @@ pub data Said : Type 0 where
   Close : List ℕ → ℕ → ℕ → Said
   Wait : List ℕ → ℕ → ℕ → List ℕ → ℕ → ℕ → Said
 
-abbrev pub said : Line → Said
+abbrev pub said : TraceLine → Said
 said (line.Timeline driver raw name) = Timeline driver.now raw.now name.now
 said (line.Fence file point) = Fence file.timeline.now file.context file.seqno point
 said (line.Signal name) = Signal name.now
@@ -28,7 +28,7 @@ said (line.Wait file task pid time) = Wait file.timeline.now file.context file.s
 abbrev pub file_name : List ℕ → ℕ → ℕ → List ℕ
 file_name timeline context seqno = timeline ++ 46 ∷ (decimal context ++ 46 ∷ decimal seqno)
 
-abbrev pub file_text : File → List ℕ
+abbrev pub file_text : FenceFile → List ℕ
 file_text file = file_name file.timeline.now file.context file.seqno
 
 -- the first bytes of a name of the trace, in a note
@@ -56,7 +56,7 @@ line_text (Wait name context seqno task pid time) =
 abbrev pub AreNames : List ℕ → ℕ → ℕ → Type 0
 AreNames timeline context seqno = IsName timeline × IsName (file_name timeline context seqno)
 
-abbrev pub IsNamedFile : File → Type 0
+abbrev pub IsNamedFile : FenceFile → Type 0
 IsNamedFile file = AreNames file.timeline.now file.context file.seqno
 
 -- the names in a line are such names, so that the line is a command, or a note

@@ -20,7 +20,7 @@ const ACTS: usize = SCRIPT_BYTES / SHORTEST_LINE;
 
 /// A fence of the script.
 #[derive(Clone, Copy)]
-pub(crate) struct Fence {
+pub(crate) struct ScriptFence {
     pub(crate) key: FenceKey,
     /// The place of its timeline.
     pub(crate) timeline: usize,
@@ -30,7 +30,7 @@ pub(crate) struct Fence {
 
 /// What happened. A fence is named by its place.
 #[derive(Clone, Copy)]
-pub(crate) enum Act {
+pub(crate) enum TraceAct {
     Make(usize),
     Signal(usize),
     Close(usize),
@@ -43,14 +43,14 @@ pub(crate) enum Act {
     },
 }
 
-impl Act {
+impl TraceAct {
     /// The place of its fence.
     pub(crate) fn fence(&self) -> usize {
         match self {
-            Act::Make(place) => *place,
-            Act::Signal(place) => *place,
-            Act::Close(place) => *place,
-            Act::Wait {
+            TraceAct::Make(place) => *place,
+            TraceAct::Signal(place) => *place,
+            TraceAct::Close(place) => *place,
+            TraceAct::Wait {
                 fence,
                 task: _,
                 pid: _,
@@ -64,8 +64,8 @@ impl Act {
 #[derive(Drop)]
 pub(crate) struct Acts {
     pub(crate) names: SafeNames,
-    pub(crate) fences: Vec<Fence>,
-    pub(crate) acts: Vec<Act>,
+    pub(crate) fences: Vec<ScriptFence>,
+    pub(crate) acts: Vec<TraceAct>,
     // the places of the fences that are alive
     open: IndexMap<FenceKey, usize>,
     // how many fences of each timeline were signalled
@@ -120,7 +120,7 @@ impl Acts {
         }
         if life.is_over() {
             self.open.swap_remove(&key);
-            return self.push(Act::Close(place));
+            return self.push(TraceAct::Close(place));
         }
         Ok(())
     }
@@ -128,7 +128,7 @@ impl Acts {
     /// Takes in that a wait began.
     pub(crate) fn wait(&mut self, wait: &Wait) -> Result<(), AllocError> {
         match self.place(&wait.key) {
-            Some(fence) => self.push(Act::Wait {
+            Some(fence) => self.push(TraceAct::Wait {
                 fence,
                 task: wait.task,
                 pid: wait.pid,
@@ -163,7 +163,7 @@ impl Acts {
             self.signalled.push(0)?;
         }
         let place = self.fences.len();
-        let fence = Fence {
+        let fence = ScriptFence {
             key,
             timeline,
             point: 0,
@@ -172,7 +172,7 @@ impl Acts {
         if self.open.insert(key, place).is_err() {
             return Err(AllocError);
         }
-        self.push(Act::Make(place))
+        self.push(TraceAct::Make(place))
     }
 
     fn signal(&mut self, place: usize) -> Result<(), AllocError> {
@@ -186,10 +186,10 @@ impl Acts {
             *count = count.saturating_add(1);
             fence.point = *count;
         }
-        self.push(Act::Signal(place))
+        self.push(TraceAct::Signal(place))
     }
 
-    fn push(&mut self, act: Act) -> Result<(), AllocError> {
+    fn push(&mut self, act: TraceAct) -> Result<(), AllocError> {
         if self.are_too_many() {
             return Ok(());
         }

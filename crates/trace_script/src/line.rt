@@ -1,4 +1,4 @@
-//! `Line`: a line of the script, with its text by `specs/Line.antt`. `Text` adds the lines in the order of the acts.
+//! `TraceLine`: a line of the script, with its text by `specs/Line.antt`. `ScriptDraft` adds the lines in the order of the acts.
 ghost use Rattle.std.specs.Prelude.{◌≡◌, ◌++◌, true, IfOk, OnOk, take};
 ghost use Rattle.point_core.specs.Name.{IsName};
 ghost use Rattle.text_core.specs.Part.{text_of};
@@ -13,13 +13,13 @@ const NOTED_BYTES: usize = 64;
 
 /// A fence's file. Its name is made of its timeline's name in the script, its context and its seqno.
 #[derive(Clone, Copy)]
-pub(crate) struct File<'a> {
+pub(crate) struct FenceFile<'a> {
     pub(crate) timeline: &'a [u8],
     pub(crate) context: u32,
     pub(crate) seqno: u32,
 }
 
-impl File<'_> {
+impl FenceFile<'_> {
     /// Whether the file's name is one that a script may have.
     pub(crate) fn is_named(&self, alloc: Global) -> Result<bool, AllocError>
         ensures named { IfOk result (λ named. named ≡ true → IsName (file_text self.now)) }
@@ -32,7 +32,7 @@ impl File<'_> {
 
 /// A line of a script.
 #[derive(Clone, Copy)]
-pub(crate) enum Line<'a> {
+pub(crate) enum TraceLine<'a> {
     /// A note with the names of a driver and a timeline, and the timeline of the script for it.
     Timeline {
         driver: &'a [u8],
@@ -40,14 +40,14 @@ pub(crate) enum Line<'a> {
         name: &'a [u8],
     },
     /// A fence of its timeline at that point.
-    Fence(File<'a>, u64),
+    Fence(FenceFile<'a>, u64),
     /// One more fence of the timeline of that name is signalled.
     Signal(&'a [u8]),
     /// A fence is destroyed.
-    Close(File<'a>),
+    Close(FenceFile<'a>),
     /// A note: a task began to wait at that time, in microseconds.
     Wait {
-        file: File<'a>,
+        file: FenceFile<'a>,
         task: &'a [u8],
         pid: u32,
         time: u64,
@@ -55,11 +55,11 @@ pub(crate) enum Line<'a> {
 }
 
 /// Adds the line.
-pub(crate) fn push_line(text: &mut Vec<u8>, line: &Line<'_>) -> Result<(), AllocError>
+pub(crate) fn push_line(text: &mut Vec<u8>, line: &TraceLine<'_>) -> Result<(), AllocError>
     ensures added { OnOk result (text.new.items ≡ text.old.items ++ line_text (said line.now)) }
 {
     match line {
-        Line::Timeline { driver, raw, name } => push_parts(
+        TraceLine::Timeline { driver, raw, name } => push_parts(
             text,
             &[
                 Part::Text("# "),
@@ -71,7 +71,7 @@ pub(crate) fn push_line(text: &mut Vec<u8>, line: &Line<'_>) -> Result<(), Alloc
                 Part::Text("\n"),
             ],
         ),
-        Line::Fence(file, point) => push_around(
+        TraceLine::Fence(file, point) => push_around(
             text,
             &[Part::Text("fence ")],
             file,
@@ -83,12 +83,17 @@ pub(crate) fn push_line(text: &mut Vec<u8>, line: &Line<'_>) -> Result<(), Alloc
                 Part::Text("\n"),
             ],
         ),
-        Line::Signal(name) => push_parts(
+        TraceLine::Signal(name) => push_parts(
             text,
             &[Part::Text("inc "), Part::Bytes(name), Part::Text(" 1\n")],
         ),
-        Line::Close(file) => push_around(text, &[Part::Text("close ")], file, &[Part::Text("\n")]),
-        Line::Wait {
+        TraceLine::Close(file) => push_around(
+            text,
+            &[Part::Text("close ")],
+            file,
+            &[Part::Text("\n")],
+        ),
+        TraceLine::Wait {
             file,
             task,
             pid,
@@ -114,7 +119,7 @@ pub(crate) fn push_line(text: &mut Vec<u8>, line: &Line<'_>) -> Result<(), Alloc
 fn push_around(
     text: &mut Vec<u8>,
     before: &[Part<'_>],
-    file: &File<'_>,
+    file: &FenceFile<'_>,
     after: &[Part<'_>],
 ) -> Result<(), AllocError>
     ensures added { OnOk result (text.new.items ≡
@@ -126,7 +131,7 @@ fn push_around(
     Ok(())
 }
 
-fn push_file(text: &mut Vec<u8>, file: &File<'_>) -> Result<(), AllocError>
+fn push_file(text: &mut Vec<u8>, file: &FenceFile<'_>) -> Result<(), AllocError>
     ensures added { OnOk result (text.new.items ≡ text.old.items ++ file_text file.now) }
 {
     let parts = [

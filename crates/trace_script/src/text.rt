@@ -13,8 +13,8 @@ ghost use Rattle.point_core.specs.Name.{IsName};
 ghost use Rattle.trace_script.specs.Line.{AreLines, IsNamed, IsNamedFile, said};
 ghost use Rattle.trace_script.specs.Scripted.{IsWritten, ScriptsTrace};
 
-use crate::acts::{Act, Acts, Fence};
-use crate::line::{File, Line, push_line};
+use crate::acts::{Acts, ScriptFence, TraceAct};
+use crate::line::{FenceFile, TraceLine, push_line};
 use line_core::SCRIPT_BYTES;
 use point_core::{CONTEXTS, Refusal};
 use std::alloc::{AllocError, Global};
@@ -131,7 +131,7 @@ struct Recorded<'a> {
 
 /// A script that is being written.
 #[derive(Drop)]
-struct Text {
+struct ScriptDraft {
     alloc: Global,
     bytes: Vec<u8>,
     // how many timelines it has, which come in their order
@@ -145,21 +145,22 @@ struct Text {
 fn written(alloc: Global, tracker: &Tracker, acts: &Acts) -> Result<Scripted, AllocError>
     ensures written { IfOk result IsWritten }
 {
-    let mut text = Text {
+    let mut draft = ScriptDraft {
         alloc,
         bytes: Vec::new(alloc),
         timelines: 0,
         files: 0,
         is_crowded: acts.are_too_many(),
     };
-    text.acts(&Recorded { tracker, acts })?;
-    if text.is_too_long() {
+    let recorded = Recorded { tracker, acts };
+    draft.acts(&recorded)?;
+    if draft.is_too_long() {
         return Ok(Scripted::TooLong);
     }
-    Ok(Scripted::Script(text.bytes))
+    Ok(Scripted::Script(draft.bytes))
 }
 
-impl Text {
+impl ScriptDraft {
     /// Whether it has more than a script may have.
     fn is_too_long(&self) -> bool
         ensures exceeds { result ≡ (self.now.is_crowded || nat_lt CONTEXTS self.now.timelines
@@ -181,7 +182,7 @@ impl Text {
         Ok(())
     }
 
-    fn act(&mut self, recorded: &Recorded<'_>, act: &Act) -> Result<(), AllocError>
+    fn act(&mut self, recorded: &Recorded<'_>, act: &TraceAct) -> Result<(), AllocError>
         ensures lines { OnOk result (AreLines self.old.bytes.items → AreLines self.new.bytes.items) }
     {
         let Some(fence) = recorded.acts.fences.get(act.fence()) else {
@@ -200,25 +201,25 @@ impl Text {
     fn act_of(
         &mut self,
         recorded: &Recorded<'_>,
-        act: &Act,
-        fence: &Fence,
-        file: File<'_>,
+        act: &TraceAct,
+        fence: &ScriptFence,
+        file: FenceFile<'_>,
     ) -> Result<(), AllocError>
         ensures lines { OnOk result (IsNamedFile file.entry → AreLines self.old.bytes.items → AreLines self.new.bytes.items) }
     {
         match act {
-            Act::Make(_) => self.make(recorded, fence, file),
-            Act::Signal(_) => self.add(&Line::Signal(file.timeline)),
-            Act::Close(_) => {
+            TraceAct::Make(_) => self.make(recorded, fence, file),
+            TraceAct::Signal(_) => self.add(&TraceLine::Signal(file.timeline)),
+            TraceAct::Close(_) => {
                 self.files = self.files.saturating_sub(1);
-                self.add(&Line::Close(file))
+                self.add(&TraceLine::Close(file))
             }
-            Act::Wait {
+            TraceAct::Wait {
                 fence: _,
                 task,
                 pid,
                 time,
-            } => self.add(&Line::Wait {
+            } => self.add(&TraceLine::Wait {
                 file,
                 task: task.as_bytes(),
                 pid: *pid,
@@ -231,8 +232,8 @@ impl Text {
     fn make(
         &mut self,
         recorded: &Recorded<'_>,
-        fence: &Fence,
-        file: File<'_>,
+        fence: &ScriptFence,
+        file: FenceFile<'_>,
     ) -> Result<(), AllocError>
         ensures lines { OnOk result (IsNamedFile file.entry → AreLines self.old.bytes.items → AreLines self.new.bytes.items) }
     {
@@ -243,7 +244,7 @@ impl Text {
         self.timelines = self.timelines.max(timelines);
         self.files = self.files.saturating_add(1);
         self.is_crowded = self.is_crowded || self.files > FILES;
-        self.add(&Line::Fence(file, fence.point))
+        self.add(&TraceLine::Fence(file, fence.point))
     }
 
     fn timeline(&mut self, recorded: &Recorded<'_>, place: usize) -> Result<(), AllocError>
@@ -257,10 +258,10 @@ impl Text {
             return Ok(());
         };
         let (driver, raw) = recorded.tracker.names(key);
-        self.add(&Line::Timeline { driver, raw, name })
+        self.add(&TraceLine::Timeline { driver, raw, name })
     }
 
-    fn add(&mut self, line: &Line<'_>) -> Result<(), AllocError>
+    fn add(&mut self, line: &TraceLine<'_>) -> Result<(), AllocError>
         ensures lines { OnOk result (IsNamed (said line.now) → AreLines self.old.bytes.items → AreLines self.new.bytes.items) }
     {
         push_line(&mut self.bytes, line)
@@ -268,13 +269,17 @@ impl Text {
 }
 
 /// The file of a fence, if its name is one that a script may have.
-fn file_of<'a>(alloc: Global, acts: &'a Acts, fence: &Fence) -> Result<Option<File<'a>>, AllocError>
+fn file_of<'a>(
+    alloc: Global,
+    acts: &'a Acts,
+    fence: &ScriptFence,
+) -> Result<Option<FenceFile<'a>>, AllocError>
     ensures named { IfOk result (λ file. IfSome file IsNamedFile) }
 {
     let Some(timeline) = acts.names.name(fence.timeline) else {
         return Ok(None);
     };
-    let file = File {
+    let file = FenceFile {
         timeline,
         context: fence.key.context,
         seqno: fence.key.seqno,
