@@ -22,6 +22,7 @@ pub mod Contexts
 pub mod Timelines
 pub mod History
 pub mod Names
+pub mod Task
 pub mod Waits
 pub mod Pending
 pub mod Tracker

@@ -1,2 +1,4 @@
+pub mod Acts
 pub mod Line
+pub mod Names
 pub mod Scripted

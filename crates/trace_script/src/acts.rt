@@ -2,8 +2,10 @@
 //! timeline are signalled before it, so the lines are written only when the window is over.
 //!
 //! Only memory can be refused, so the error is `AllocError` where no list of the tracker is asked for.
-ghost use Rattle.std.specs.Prelude.{◌≡◌, IfErr};
+ghost use Rattle.std.specs.Prelude.{◌≡◌, IfErr, nat_lt, vec_len};
 ghost use Rattle.point_core.specs.declared.refusal.Refusal.TheVariants.{Memory};
+ghost use Rattle.trace_script.specs.Acts.{place_of};
+ghost use Rattle.trace_script.specs.declared.acts.TheConstants.{ACTS};
 
 use crate::safe_names::SafeNames;
 use indexmap::IndexMap;
@@ -45,7 +47,9 @@ pub(crate) enum TraceAct {
 
 impl TraceAct {
     /// The place of its fence.
-    pub(crate) fn fence(&self) -> usize {
+    pub(crate) fn fence(&self) -> usize
+        ensures place { result ≡ place_of self.now }
+    {
         match self {
             TraceAct::Make(place) => *place,
             TraceAct::Signal(place) => *place,
@@ -85,7 +89,9 @@ impl Acts {
     }
 
     /// Whether there are more than go into a script.
-    pub(crate) fn are_too_many(&self) -> bool {
+    pub(crate) fn are_too_many(&self) -> bool
+        ensures { result ≡ nat_lt ACTS (vec_len self.now.acts) }
+    {
         self.acts.len() > ACTS
     }
 

@@ -1,6 +1,7 @@
 //! `SafeNames`: a name of the script for each timeline of the trace. No two timelines have the same name, and each name is valid.
-ghost use Rattle.std.specs.Prelude.{IfSome};
+ghost use Rattle.std.specs.Prelude.{◌≡◌, IfSome, option_map};
 ghost use Rattle.point_core.specs.Name.{IsName};
+ghost use Rattle.trace_script.specs.Names.{key_at, name_at};
 
 use indexmap::{IndexMap, IndexSet};
 use point_core::Name;
@@ -30,16 +31,24 @@ impl SafeNames {
     }
 
     /// The timeline at `place`.
-    pub(crate) fn key(&self, place: usize) -> Option<&TimelineKey> {
-        let (key, _) = self.by_key.get_index(place)?;
-        Some(key)
+    pub(crate) fn key(&self, place: usize) -> Option<&TimelineKey>
+        ensures key { option_map (λ key. key.now) result ≡ key_at self.now place }
+    {
+        match self.by_key.get_index(place) {
+            Some(entry) => Some(entry.0),
+            None => None,
+        }
     }
 
     /// The name at `place`.
     pub(crate) fn name(&self, place: usize) -> Option<&[u8]>
-        ensures name { IfSome result (λ name. IsName name.now) }
+        ensures name { option_map (λ name. name.now) result ≡ name_at self.now place }
+        ensures valid { IfSome result (λ name. IsName name.now) }
     {
-        Some(self.names.get_index(place)?.as_bytes())
+        match self.names.get_index(place) {
+            Some(name) => Some(name.as_bytes()),
+            None => None,
+        }
     }
 
     /// The timeline's place, which gets one with a name if it has none.
