@@ -17,7 +17,7 @@ use point_core::Refusal;
 use std::alloc::Global;
 use text_core::JsonPart;
 use timelines::{add_contexts, add_timelines};
-use trace_core::{FenceKey, Tracker};
+use trace_core::{FenceKey, TimelineKey, Tracker};
 use waits::add_waits;
 use writing::Document;
 
@@ -48,15 +48,20 @@ fn add_members(document: &mut Document, content: Content<'_>) {
 
 /// The members that name a fence.
 fn add_fence(document: &mut Document, tracker: &Tracker, key: &FenceKey) {
-    let (driver, timeline) = tracker.names(&key.timeline_key());
+    add_names(document, tracker, &key.timeline_key());
+    document.add_numbers(
+        "context seqno",
+        &[u64::from(key.context), u64::from(key.seqno)],
+    );
+}
+
+/// The members that name a timeline.
+fn add_names(document: &mut Document, tracker: &Tracker, key: &TimelineKey) {
+    let (driver, timeline) = tracker.names(key);
     document.add(&[
         JsonPart::Key("driver"),
         JsonPart::Name(driver),
         JsonPart::Key("timeline"),
         JsonPart::Name(timeline),
     ]);
-    document.add_numbers(
-        "context seqno",
-        &[u64::from(key.context), u64::from(key.seqno)],
-    );
 }

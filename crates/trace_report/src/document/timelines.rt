@@ -1,5 +1,6 @@
 //! The members on what each timeline and each context did.
 
+use crate::document::add_names;
 use crate::document::counts::add_faults;
 use crate::document::writing::Document;
 use crate::table::Content;
@@ -50,15 +51,9 @@ pub(crate) fn add_contexts(document: &mut Document, tracker: &Tracker) {
 }
 
 fn add_context(document: &mut Document, tracker: &Tracker, key: &ContextKey, context: &Context) {
-    let (driver, timeline) = tracker.names(&key.timeline_key());
     let events = context.tally.events;
-    document.add(&[
-        JsonPart::BeginObject,
-        JsonPart::Key("driver"),
-        JsonPart::Name(driver),
-        JsonPart::Key("timeline"),
-        JsonPart::Name(timeline),
-    ]);
+    document.add(&[JsonPart::BeginObject]);
+    add_names(document, tracker, &key.timeline_key());
     document.add_numbers(
         "context inits emits enable_signal signalled destroyed",
         &[
