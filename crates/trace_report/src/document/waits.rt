@@ -10,11 +10,10 @@ pub(crate) fn add_waits(document: &mut Document, tracker: &Tracker) {
     let waits = &tracker.waits;
     let events = tracker.ledger.total().events;
     document.add(&[JsonPart::Key("waits"), JsonPart::BeginObject]);
+    document.add_numbers("started ended", &[events.wait_start, events.wait_end]);
     document.add_numbers(
-        "started ended matched total_us longest_us unsignalled_ends ends_without_start",
+        "matched total_us longest_us unsignalled_ends ends_without_start",
         &[
-            events.wait_start,
-            events.wait_end,
             waits.ended().count,
             waits.ended().total,
             waits.ended().longest,
