@@ -1,4 +1,4 @@
--- The fences that hang among those that are pending.
+-- The fences of a kind among those that are pending.
 use Rattle.std.proofs.Common.{◌≡◌, ◌≢◌, Bool, true, false, not, ◌&&◌, cond, List, [], ◌∷◌, map, ◌++◌, Option, None, Some, append-nil, refl, sym, ap, subst, ◌∙◌, inl, inr, ◌⊎◌}
 use Rattle.std.specs.Prelude.{OnOk, Result, Ok, Err, Contains, IsSome, unwrap_or}
 use Rattle.std.specs.List.{IsDistinct, filter}
@@ -17,13 +17,13 @@ use Rattle.trace_core.specs.declared.pending.Pending.{Pending}
 use Rattle.trace_core.specs.declared.pending.PendingKind.{PendingKind}
 use Rattle.trace_core.specs.declared.pending.PendingKind.TheVariants.{Hang, Unknown, Unnumbered}
 use Rattle.trace_core.specs.declared.sighting.FenceKey.{FenceKey}
-use Rattle.trace_core.specs.History.{Step, IsLedgerOf, hangs, is_sure, is_unnumbered, life_in}
+use Rattle.trace_core.specs.History.{Step, IsLedgerOf, is_sure, is_unnumbered}
 use Rattle.trace_core.specs.Keys.{same_key}
 use Rattle.trace_core.specs.Life.{is_pending, unborn}
 use Rattle.trace_core.specs.Pending.{is_pending_in, pending_among, pending_at}
 use Rattle.trace_core.proofs.Same.{same_key-decides, same_key-is, same_key-laws}
 use Rattle.trace_report.specs.declared.found.Listed.{Listed}
-use Rattle.trace_report.specs.Found.{AreHangs, hanging, hangs_by, is_hang, is_reported, key_of, listed_key}
+use Rattle.trace_report.specs.Found.{AreHangs, AreListed, AreUnknown, hanging, hangs_by, is_hang, is_reported, is_unknown, key_of, listed_key, may_be_signalled, not_known, unknown_by}
 
 pub hanging-is : (fence : Pending) (kind : PendingKind) → fence.kind ≡ kind → hanging fence ≡ cond (hangs_by kind) (fence ∷ []) []
 hanging-is fence kind is = ap (λ k. cond (hangs_by k) (fence ∷ []) []) is
@@ -31,6 +31,9 @@ hanging-is fence kind is = ap (λ k. cond (hangs_by k) (fence ∷ []) []) is
 pub put-none : {X T E : Type 0} (r : Result T E) (xs : List X) → OnOk r (xs ≡ xs ++ [])
 put-none (Ok v) xs = sym (append-nil xs)
 put-none (Err e) xs = tt
+
+pub unknown-is : (fence : Pending) (kind : PendingKind) → fence.kind ≡ kind → not_known fence ≡ cond (unknown_by kind) (fence ∷ []) []
+unknown-is fence kind is = ap (λ k. cond (unknown_by k) (fence ∷ []) []) is
 
 -- one key, by whether it is pending, sure and unnumbered
 chosen : {X : Type 0} (pending sure unnumbered : Bool) (x : X) (xs ys : List X) → xs ≡ ys → cond pending (cond (hangs_by (cond unnumbered Unnumbered (cond (pending && sure) Hang Unknown))) (x ∷ xs) xs) xs ≡ cond ((pending && sure) && not unnumbered) (x ∷ ys) ys
@@ -40,19 +43,32 @@ chosen true false true x xs ys is = is
 chosen true false false x xs ys is = is
 chosen false sure unnumbered x xs ys is = is
 
-spread : (steps : List Step) (key : FenceKey) (keys : List FenceKey) (pending : Bool) → map key_of (filter is_hang (map (pending_at steps) (cond pending (key ∷ filter (is_pending_in steps) keys) (filter (is_pending_in steps) keys)))) ≡ cond pending (cond (is_hang (pending_at steps key)) (key ∷ map key_of (filter is_hang (pending_among steps keys))) (map key_of (filter is_hang (pending_among steps keys)))) (map key_of (filter is_hang (pending_among steps keys)))
-spread steps key keys false = refl
-spread steps key keys true = kept (is_hang (pending_at steps key))
+chosen-unknown : {X : Type 0} (pending sure unnumbered : Bool) (x : X) (xs ys : List X) → xs ≡ ys → cond pending (cond (unknown_by (cond unnumbered Unnumbered (cond (pending && sure) Hang Unknown))) (x ∷ xs) xs) xs ≡ cond ((pending && not sure) && not unnumbered) (x ∷ ys) ys
+chosen-unknown true true true x xs ys is = is
+chosen-unknown true true false x xs ys is = is
+chosen-unknown true false true x xs ys is = is
+chosen-unknown true false false x xs ys is = ap (λ zs. x ∷ zs) is
+chosen-unknown false sure unnumbered x xs ys is = is
+
+spread : (test : Pending → Bool) (steps : List Step) (key : FenceKey) (keys : List FenceKey) (pending : Bool) → map key_of (filter test (map (pending_at steps) (cond pending (key ∷ filter (is_pending_in steps) keys) (filter (is_pending_in steps) keys)))) ≡ cond pending (cond (test (pending_at steps key)) (key ∷ map key_of (filter test (pending_among steps keys))) (map key_of (filter test (pending_among steps keys)))) (map key_of (filter test (pending_among steps keys)))
+spread test steps key keys false = refl
+spread test steps key keys true = kept (test (pending_at steps key))
   where
-    kept : (hang : Bool) → map key_of (cond hang (pending_at steps key ∷ filter is_hang (pending_among steps keys)) (filter is_hang (pending_among steps keys))) ≡ cond hang (key ∷ map key_of (filter is_hang (pending_among steps keys))) (map key_of (filter is_hang (pending_among steps keys)))
+    kept : (passes : Bool) → map key_of (cond passes (pending_at steps key ∷ filter test (pending_among steps keys)) (filter test (pending_among steps keys))) ≡ cond passes (key ∷ map key_of (filter test (pending_among steps keys))) (map key_of (filter test (pending_among steps keys)))
     kept true = refl
     kept false = refl
 
 pub hangs-among : (steps : List Step) (keys : List FenceKey) → map key_of (filter is_hang (pending_among steps keys)) ≡ filter (is_reported steps) keys
 hangs-among steps [] = refl
 hangs-among steps (key ∷ keys) =
-    spread steps key keys (is_pending_in steps key)
+    spread is_hang steps key keys (is_pending_in steps key)
     ∙ chosen (is_pending_in steps key) (is_sure steps key) (is_unnumbered steps key) key (map key_of (filter is_hang (pending_among steps keys))) (filter (is_reported steps) keys) (hangs-among steps keys)
+
+pub unknown-among : (steps : List Step) (keys : List FenceKey) → map key_of (filter is_unknown (pending_among steps keys)) ≡ filter (may_be_signalled steps) keys
+unknown-among steps [] = refl
+unknown-among steps (key ∷ keys) =
+    spread is_unknown steps key keys (is_pending_in steps key)
+    ∙ chosen-unknown (is_pending_in steps key) (is_sure steps key) (is_unnumbered steps key) key (map key_of (filter is_unknown (pending_among steps keys))) (filter (may_be_signalled steps) keys) (unknown-among steps keys)
 
 found-alive : (key : FenceKey) (es : List (FenceKey × Life)) (o : Option Life) → lookup (same_key key) es ≡ o → is_pending (unwrap_or o unborn) ≡ true → Contains (keys_of es) key
 found-alive key es (Some life) is pending = Contains-keys_from_lookup same_key-is key es (subst IsSome (sym is) refl)
@@ -78,17 +94,26 @@ distinct-kept : (test : FenceKey → Bool) (keys : List FenceKey) → IsDistinct
 distinct-kept test keys once =
     IsDistinct-from_AllPairs same_key-decides (filter test keys) (AllPairs-filter (λ x y. x ≢ y) test keys (AllPairs-from_IsDistinct same_key-decides keys once))
 
-pub are-hangs : (ledger : Ledger) (steps : List Step) (found : List Listed) → IsLedgerOf ledger steps → IsDistinct same_key (keys_of ledger.lives.by_key.entries) → IsPermutation (filter (is_reported steps) (keys_of ledger.lives.by_key.entries)) (map listed_key found) → AreHangs steps found
-are-hangs ledger steps found h once same =
-    let keys = keys_of ledger.lives.by_key.entries in
-    let kept = filter (is_reported steps) keys in
+are-listed : (test : FenceKey → Bool) (keys : List FenceKey) (found : List Listed) → ((key : FenceKey) → test key ≡ true → Contains keys key) → IsDistinct same_key keys → IsPermutation (filter test keys) (map listed_key found) → AreListed test found
+are-listed test keys found all once same =
+    let kept = filter test keys in
     record {
       are = λ key. (
-        λ there. All-contains (λ k. is_reported steps k ≡ true) kept key (filter_passes (is_reported steps) keys) (Contains-permutation (map listed_key found) kept key (IsPermutation-sym kept (map listed_key found) same) there),
-        λ reported.
-            let hang = and_parts (hangs steps key) (not (is_unnumbered steps key)) reported in
-            let pending = and_parts (is_pending (life_in steps key)) (is_sure steps key) hang.0 in
-            Contains-permutation kept (map listed_key found) key same (contains-kept (is_reported steps) keys key (is-alive ledger steps h key pending.0) reported),
+        λ there. All-contains (λ k. test k ≡ true) kept key (filter_passes test keys) (Contains-permutation (map listed_key found) kept key (IsPermutation-sym kept (map listed_key found) same) there),
+        λ passes. Contains-permutation kept (map listed_key found) key same (contains-kept test keys key (all key passes) passes),
       );
-      once = IsDistinct-IsPermutation same_key same_key-laws.symm kept (map listed_key found) same (distinct-kept (is_reported steps) keys once);
+      once = IsDistinct-IsPermutation same_key same_key-laws.symm kept (map listed_key found) same (distinct-kept test keys once);
     }
+
+-- both tests begin with the key being pending
+pending-first : (pending sure numbered : Bool) → ((pending && sure) && numbered) ≡ true → pending ≡ true
+pending-first pending sure numbered is = (and_parts pending sure (and_parts (pending && sure) numbered is).0).0
+
+module _ (ledger : Ledger) (steps : List Step) (found : List Listed) (h : IsLedgerOf ledger steps) (once : IsDistinct same_key (keys_of ledger.lives.by_key.entries)) where
+  pub are-hangs : IsPermutation (filter (is_reported steps) (keys_of ledger.lives.by_key.entries)) (map listed_key found) → AreHangs steps found
+  are-hangs same =
+      are-listed (is_reported steps) (keys_of ledger.lives.by_key.entries) found (λ key is. is-alive ledger steps h key (pending-first (is_pending_in steps key) (is_sure steps key) (not (is_unnumbered steps key)) is)) once same
+
+  pub are-unknown : IsPermutation (filter (may_be_signalled steps) (keys_of ledger.lives.by_key.entries)) (map listed_key found) → AreUnknown steps found
+  are-unknown same =
+      are-listed (may_be_signalled steps) (keys_of ledger.lives.by_key.entries) found (λ key is. is-alive ledger steps h key (pending-first (is_pending_in steps key) (not (is_sure steps key)) (not (is_unnumbered steps key)) is)) once same

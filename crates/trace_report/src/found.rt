@@ -1,11 +1,12 @@
-//! `Found`: the fences that are pending at the end of a trace, grouped by timeline. It is proved that `hangs` has exactly the fences
-//! that hang (`AreHangs`); the order, `unknown` and `unnumbered` are tested (`tests/traces`). `report_trace` makes it.
+//! `Found`: the fences that are pending at the end of a trace, grouped by timeline. It is proved that `hangs` has exactly
+//! the fences that hang (`AreHangs`), and `unknown` those whose signals may have been lost (`AreUnknown`); the order and
+//! `unnumbered` are tested (`tests/traces`). `report_trace` makes it.
 ghost use Rattle.std.specs.Prelude.{◌≡◌, ◌++◌, [], ◌∷◌, List, map, IfOk, IfErr, OnOk};
 ghost use Rattle.std.specs.List.{filter};
 ghost use Rattle.std.specs.List.Sorted.{IsPermutation};
 ghost use Rattle.point_core.specs.declared.refusal.Refusal.TheVariants.{Memory};
 ghost use Rattle.trace_core.specs.History.{Step, IsLedgerOf};
-ghost use Rattle.trace_report.specs.Found.{AreHangs, hanging, is_hang, key_of, listed_key};
+ghost use Rattle.trace_report.specs.Found.{AreHangs, AreUnknown, hanging, is_hang, is_unknown, key_of, listed_key, not_known};
 
 use indexmap::IndexMap;
 use point_core::Refusal;
@@ -36,6 +37,8 @@ impl Found {
     pub(crate) fn new(alloc: Global, ledger: &Ledger) -> Result<Found, Refusal>
         ensures hangs { IfOk result (λ f. (steps : List Step) →
             IsLedgerOf ledger.now steps → AreHangs steps f.hangs.items) }
+        ensures unknown { IfOk result (λ f. (steps : List Step) →
+            IsLedgerOf ledger.now steps → AreUnknown steps f.unknown.items) }
         ensures memory { IfErr result (λ e. e ≡ Memory) }
     {
         let pending = pending_of(alloc, ledger)?;
@@ -59,6 +62,7 @@ fn split(
     unknown: &mut Vec<Pending>,
 ) -> Result<u64, AllocError>
     ensures hangs { OnOk result (hangs.new.items ≡ hangs.old.items ++ filter is_hang pending.now) }
+    ensures unknown { OnOk result (unknown.new.items ≡ unknown.old.items ++ filter is_unknown pending.now) }
 {
     let mut unnumbered: u64 = 0;
     for fence in pending {
@@ -76,6 +80,7 @@ fn put(
     unknown: &mut Vec<Pending>,
 ) -> Result<bool, AllocError>
     ensures hangs { OnOk result (hangs.new.items ≡ hangs.old.items ++ hanging fence.now) }
+    ensures unknown { OnOk result (unknown.new.items ≡ unknown.old.items ++ not_known fence.now) }
 {
     match fence.kind {
         PendingKind::Hang => push(hangs, fence),
