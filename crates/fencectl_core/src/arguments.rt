@@ -89,8 +89,10 @@ Exit status:
      of a report of a trace: nothing hangs, and no rule is broken; of a plan: nothing is found
   1  a line was refused; of a check: an answer differs, or a script expects nothing;
      of a report of a trace: a fence hangs, or a rule is broken; of a plan: something is found
-  2  wrong usage, no plan, a plan of too many states, or a fault of reading, writing, memory or
-     threads
+  2  wrong usage, or a fault of reading, writing, memory or threads; of a check: a script can't be
+     read or updated, or is too long; of a drawing: its options don't fit, or a long script lacks
+     --lines; of a trace: no event, or too many; of a plan: it is none, it has too many states, or
+     a schedule's file exists already
 
 Examples:
   printf 'timeline gpu\\nfence frame gpu 5\\ninfo frame\\n' | fencectl
@@ -99,6 +101,12 @@ Examples:
   fencectl draw --output first.svg examples/first.fence
   fencectl clients 2 3
   fencectl explore examples/plans/compositor.plan
+";
+
+/// What every command takes besides its own options. `HELP` says it too.
+const EVERY_COMMAND: &str = "\
+Options of every command:
+  --color <WHEN>  Colours help, checks and explanations: auto, always or never [default: auto]
 ";
 
 /// Parses the words of the command line; the first is the program's name. A failed allocation is an error of its own kind.
@@ -141,11 +149,18 @@ fn help() -> &'static str {
     HELP
 }
 
+/// The help text after a subcommand's options.
+fn subcommand_help() -> &'static str {
+    EVERY_COMMAND
+}
+
 /// A subcommand with its arguments.
 fn subcommand<'a>(alloc: Global, form: &Subcommand) -> Result<Command<'a>, AllocError>
     ensures { IfOk result (IsApp (app_by form.now)) }
 {
-    let mut command = Command::new(alloc, form.word).about(form.about);
+    let mut command = Command::new(alloc, form.word)
+        .about(form.about)
+        .after_help(subcommand_help());
     for argument in form.arguments {
         command = command.arg(argument_of(alloc, argument))?;
     }
