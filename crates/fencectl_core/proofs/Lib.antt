@@ -1,5 +1,6 @@
 mod Adding
 mod Alone
+mod Drawn
 mod Fronts
 mod Instead
 mod Matched

@@ -1,5 +1,8 @@
 //! `fencectl draw` and `trace --draw`: write a picture or a graph of a script's run.
 ghost use Rattle.std.specs.Prelude.{◌≡◌, ◌⊎◌, IfOk, if◌then◌else◌};
+ghost use Rattle.line_core.specs.Script.{script_of};
+ghost use Rattle.draw_core.specs.Refused.{HasRefused, drawing_refused, run_refused};
+ghost use Rattle.fencectl_core.specs.Drawing.{IsDrawStatus, IsRunStatus, is_too_long};
 
 use crate::action::Draw;
 use crate::fault::FAULT;
@@ -35,10 +38,24 @@ fn draw_script(
     asked: &Draw<'_>,
     window: &Window,
     script: &[u8],
-) -> Result<u8, Refusal> {
-    if is_too_long(rt, asked, script)? {
+) -> Result<u8, Refusal>
+    ensures status { IfOk result (IsDrawStatus asked.now window.now script.now) }
+{
+    let long = is_too_long(rt, asked, script)?;
+    if long {
         return report_mistake(rt, TOO_LONG);
     }
+    draw_run(rt, asked, window, script)
+}
+
+fn draw_run(
+    rt: &HostRuntime,
+    asked: &Draw<'_>,
+    window: &Window,
+    script: &[u8],
+) -> Result<u8, Refusal>
+    ensures status { IfOk result (IsRunStatus window.now script.now) }
+{
     if asked.graph {
         draw_graph(rt, asked.output, window, script)
     } else {
@@ -51,20 +68,32 @@ fn draw_graph(
     output: Option<&str>,
     window: &Window,
     script: &[u8],
-) -> Result<u8, Refusal> {
+) -> Result<u8, Refusal>
+    ensures status { IfOk result (IsRunStatus window.now script.now) }
+{
     let mut run = run_of(rt, window, script)?;
-    write_graph(rt, output, &mut run)
+    let status = status_of(run.history());
+    write_graph(rt, output, &mut run, status)
 }
 
 /// A script's run, recorded and explained.
-fn run_of(rt: &HostRuntime, window: &Window, script: &[u8]) -> Result<Run, Refusal> {
+fn run_of(rt: &HostRuntime, window: &Window, script: &[u8]) -> Result<Run, Refusal>
+    ensures refused { IfOk result (λ run. HasRefused window.now (script_of script.now) (run_refused run)) }
+{
     let mut reasons = Reasons::new(rt.alloc());
     Run::of(rt.alloc(), script, window, &mut reasons)
 }
 
-fn write_graph(rt: &HostRuntime, output: Option<&str>, run: &mut Run) -> Result<u8, Refusal> {
+fn write_graph(
+    rt: &HostRuntime,
+    output: Option<&str>,
+    run: &mut Run,
+    status: u8,
+) -> Result<u8, Refusal>
+    ensures status { IfOk result (λ given. given ≡ status) }
+{
     let document = graph_of(rt, run)?;
-    write_document(rt, output, document.as_slice(), status_of(run.history()))
+    write_document(rt, output, document.as_slice(), status)
 }
 
 fn graph_of(rt: &HostRuntime, run: &mut Run) -> Result<Vec<u8>, Refusal> {
@@ -77,13 +106,18 @@ fn draw_picture(
     output: Option<&str>,
     window: &Window,
     script: &[u8],
-) -> Result<u8, Refusal> {
+) -> Result<u8, Refusal>
+    ensures status { IfOk result (IsRunStatus window.now script.now) }
+{
     let drawing = drawing_of(rt, window, script)?;
-    write_picture(rt, output, &drawing, status_of(drawing.history()))
+    let status = status_of(drawing.history());
+    write_picture(rt, output, &drawing, status)
 }
 
 /// The picture of a script's run, with its explanations.
-fn drawing_of(rt: &HostRuntime, window: &Window, script: &[u8]) -> Result<Drawing, Refusal> {
+fn drawing_of(rt: &HostRuntime, window: &Window, script: &[u8]) -> Result<Drawing, Refusal>
+    ensures refused { IfOk result (λ drawing. HasRefused window.now (script_of script.now) (drawing_refused drawing)) }
+{
     let mut reasons = Reasons::new(rt.alloc());
     Drawing::of(rt.alloc(), script, window, &mut reasons)
 }
@@ -197,11 +231,17 @@ fn fault_of(error: &io::Error) -> Refusal {
 }
 
 /// Whether a picture would have too many columns, if no lines were chosen.
-fn is_too_long(rt: &HostRuntime, asked: &Draw<'_>, script: &[u8]) -> Result<bool, Refusal> {
-    if asked.graph || asked.lines.is_some() {
+fn is_too_long(rt: &HostRuntime, asked: &Draw<'_>, script: &[u8]) -> Result<bool, Refusal>
+    ensures long { IfOk result (λ long. long ≡ is_too_long asked.now script.now) }
+{
+    if asked.graph {
         return Ok(false);
     }
-    Ok(count_lines(rt.alloc(), script)? > COLUMNS)
+    if asked.lines.is_some() {
+        return Ok(false);
+    }
+    let count = count_lines(rt.alloc(), script)?;
+    Ok(count > COLUMNS)
 }
 
 /// Gives that status once the document is written.

@@ -1,0 +1,13 @@
+use Rattle.std.proofs.Common.{ap}
+use Rattle.std.proofs.lemmas.Result.{IfOk-weaker}
+use Rattle.picture_core.specs.declared.history.History.{History}
+use Rattle.fencectl_core.proofs.Drawn.{run-status}
+use Rattle.fencectl_core.proofs.drawing.draw_graph.Goals as goal
+
+pub returns : goal.returns
+returns c = record {
+  status = IfOk-weaker c.write_graph.result _ _
+      (λ ended same. run-status c.args.window.now c.args.script.now _ c.history.result.now.refused c.status_of-status.result ended
+      c.in_ok-run.ensures.refused (ap (λ (h : History). h.refused) c.history.ensures) c.status_of-status.ensures same)
+      c.write_graph.ensures.status;
+}
