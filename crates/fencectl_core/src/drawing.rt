@@ -30,58 +30,55 @@ pub(crate) fn draw(rt: &HostRuntime, asked: &Draw<'_>) -> Result<u8, Refusal> {
 
 fn draw_lines(rt: &HostRuntime, asked: &Draw<'_>, window: &Window) -> Result<u8, Refusal> {
     let script = script_of(rt, asked.script)?;
-    draw_script(rt, asked, window, script.as_slice())
+    let lines = DrawnLines {
+        script: script.as_slice(),
+        window,
+    };
+    draw_script(rt, asked, &lines)
 }
 
-fn draw_script(
-    rt: &HostRuntime,
-    asked: &Draw<'_>,
-    window: &Window,
-    script: &[u8],
-) -> Result<u8, Refusal>
-    ensures status { IfOk result (IsDrawStatus asked.now window.now script.now) }
+/// The lines of a script that are drawn.
+#[derive(Clone, Copy)]
+struct DrawnLines<'a> {
+    script: &'a [u8],
+    window: &'a Window,
+}
+
+fn draw_script(rt: &HostRuntime, asked: &Draw<'_>, lines: &DrawnLines<'_>) -> Result<u8, Refusal>
+    ensures status { IfOk result (IsDrawStatus asked.now lines.now.window.now lines.now.script.now) }
 {
-    let long = is_too_long(rt, asked, script)?;
+    let long = is_too_long(rt, asked, lines.script)?;
     if long {
         return report_mistake(rt, TOO_LONG);
     }
-    draw_run(rt, asked, window, script)
+    draw_run(rt, asked, lines)
 }
 
-fn draw_run(
-    rt: &HostRuntime,
-    asked: &Draw<'_>,
-    window: &Window,
-    script: &[u8],
-) -> Result<u8, Refusal>
-    ensures status { IfOk result (IsRunStatus window.now script.now) }
+fn draw_run(rt: &HostRuntime, asked: &Draw<'_>, lines: &DrawnLines<'_>) -> Result<u8, Refusal>
+    ensures status { IfOk result (IsRunStatus lines.now.window.now lines.now.script.now) }
 {
     if asked.graph {
-        draw_graph(rt, asked.output, window, script)
+        draw_graph(rt, asked.output, lines)
     } else {
-        draw_picture(rt, asked.output, window, script)
+        draw_picture(rt, asked.output, lines)
     }
 }
 
-fn draw_graph(
-    rt: &HostRuntime,
-    output: Option<&str>,
-    window: &Window,
-    script: &[u8],
-) -> Result<u8, Refusal>
-    ensures status { IfOk result (IsRunStatus window.now script.now) }
+fn draw_graph(rt: &HostRuntime, output: Option<&str>, lines: &DrawnLines<'_>) -> Result<u8, Refusal>
+    ensures status { IfOk result (IsRunStatus lines.now.window.now lines.now.script.now) }
 {
-    let mut run = run_of(rt, window, script)?;
+    let mut run = run_of(rt, lines)?;
     let status = status_of(run.history());
     write_graph(rt, output, &mut run, status)
 }
 
 /// A script's run, recorded and explained.
-fn run_of(rt: &HostRuntime, window: &Window, script: &[u8]) -> Result<Run, Refusal>
-    ensures refused { IfOk result (λ run. HasRefused window.now (script_of script.now) (run_refused run)) }
+fn run_of(rt: &HostRuntime, lines: &DrawnLines<'_>) -> Result<Run, Refusal>
+    ensures refused { IfOk result (λ run.
+        HasRefused lines.now.window.now (script_of lines.now.script.now) (run_refused run)) }
 {
     let mut reasons = Reasons::new(rt.alloc());
-    Run::of(rt.alloc(), script, window, &mut reasons)
+    Run::of(rt.alloc(), lines.script, lines.window, &mut reasons)
 }
 
 fn write_graph(
@@ -104,22 +101,22 @@ fn graph_of(rt: &HostRuntime, run: &mut Run) -> Result<Vec<u8>, Refusal> {
 fn draw_picture(
     rt: &HostRuntime,
     output: Option<&str>,
-    window: &Window,
-    script: &[u8],
+    lines: &DrawnLines<'_>,
 ) -> Result<u8, Refusal>
-    ensures status { IfOk result (IsRunStatus window.now script.now) }
+    ensures status { IfOk result (IsRunStatus lines.now.window.now lines.now.script.now) }
 {
-    let drawing = drawing_of(rt, window, script)?;
+    let drawing = drawing_of(rt, lines)?;
     let status = status_of(drawing.history());
     write_picture(rt, output, &drawing, status)
 }
 
 /// The picture of a script's run, with its explanations.
-fn drawing_of(rt: &HostRuntime, window: &Window, script: &[u8]) -> Result<Drawing, Refusal>
-    ensures refused { IfOk result (λ drawing. HasRefused window.now (script_of script.now) (drawing_refused drawing)) }
+fn drawing_of(rt: &HostRuntime, lines: &DrawnLines<'_>) -> Result<Drawing, Refusal>
+    ensures refused { IfOk result (λ drawing.
+        HasRefused lines.now.window.now (script_of lines.now.script.now) (drawing_refused drawing)) }
 {
     let mut reasons = Reasons::new(rt.alloc());
-    Drawing::of(rt.alloc(), script, window, &mut reasons)
+    Drawing::of(rt.alloc(), lines.script, lines.window, &mut reasons)
 }
 
 fn write_picture(
@@ -147,7 +144,12 @@ pub(crate) fn draw_trace(rt: &HostRuntime, script: &[u8]) -> Result<u8, Refusal>
     if count_lines(rt.alloc(), script)? > COLUMNS {
         return report_mistake(rt, TOO_LONG_A_WINDOW);
     }
-    let drawing = drawing_of(rt, &Window::whole(), script)?;
+    let window = Window::whole();
+    let lines = DrawnLines {
+        script,
+        window: &window,
+    };
+    let drawing = drawing_of(rt, &lines)?;
     write_picture(rt, None, &drawing, ACCEPTED)
 }
 

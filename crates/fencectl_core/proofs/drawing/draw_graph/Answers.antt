@@ -7,7 +7,7 @@ use Rattle.fencectl_core.proofs.drawing.draw_graph.Goals as goal
 pub returns : goal.returns
 returns c = record {
   status = IfOk-weaker c.write_graph.result _ _
-      (λ ended same. run-status c.args.window.now c.args.script.now _ c.history.result.now.refused c.status_of-status.result ended
+      (λ ended same. run-status c.args.lines.now.window.now c.args.lines.now.script.now _ c.history.result.now.refused c.status_of-status.result ended
       c.in_ok-run.ensures.refused (ap (λ (h : History). h.refused) c.history.ensures) c.status_of-status.ensures same)
       c.write_graph.ensures.status;
 }

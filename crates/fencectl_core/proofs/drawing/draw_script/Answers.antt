@@ -6,13 +6,13 @@ use Rattle.fencectl_core.proofs.drawing.draw_script.Goals as goal
 pub returns-then-long : goal.returns-then-long
 returns-then-long c = record {
   status = IfOk-weaker c.report_mistake.result _ _
-      (λ ended two. long-status c.args.asked.now c.args.window.now c.args.script.now ended (sym c.in_ok-long.ensures.long ∙ c.if-long.true) two)
+      (λ ended two. long-status c.args.asked.now c.args.lines.now.window.now c.args.lines.now.script.now ended (sym c.in_ok-long.ensures.long ∙ c.if-long.true) two)
       c.report_mistake.ensures.status;
 }
 
 pub returns : goal.returns
 returns c = record {
   status = IfOk-weaker c.draw_run.result _ _
-      (λ ended run. short-status c.args.asked.now c.args.window.now c.args.script.now ended (sym c.in_ok-long.ensures.long ∙ c.if-long.false) run)
+      (λ ended run. short-status c.args.asked.now c.args.lines.now.window.now c.args.lines.now.script.now ended (sym c.in_ok-long.ensures.long ∙ c.if-long.false) run)
       c.draw_run.ensures.status;
 }
