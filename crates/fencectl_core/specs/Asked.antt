@@ -16,15 +16,15 @@ use Rattle.fencectl_core.specs.declared.action.Check.{Check as CheckAction}
 use Rattle.fencectl_core.specs.declared.action.Draw.{Draw as DrawAction}
 use Rattle.fencectl_core.specs.declared.action.Explore.{Explore as ExploreAction}
 use Rattle.fencectl_core.specs.declared.action.Trace.{Trace as TraceAction}
-use Rattle.fencectl_core.specs.declared.action.Report.{Report}
-use Rattle.fencectl_core.specs.declared.action.Report.TheVariants as report
+use Rattle.fencectl_core.specs.declared.action.CheckReport.{CheckReport}
+use Rattle.fencectl_core.specs.declared.action.CheckReport.TheVariants as report
 use Rattle.fencectl_core.specs.declared.action.Table.{Table}
 use Rattle.fencectl_core.specs.declared.action.Table.TheVariants as table
 
 -- a check of scripts: the paths that name them, what is reported, and whether a script may expect nothing
 pub record AskedCheck : Type 0 where
   pub paths : List Text
-  pub report : Report
+  pub report : CheckReport
   pub allows_empty : Bool
 
 -- a trace: the name of its file, or none on standard input; whether a JSON document is asked for, a script, a picture or trace
@@ -78,7 +78,7 @@ abbrev pub paths_named : Option (List Text) → List Text
 paths_named None = []
 paths_named (Some paths) = paths
 
-abbrev pub report_named : List Row → Report
+abbrev pub report_named : List Row → CheckReport
 report_named rows =
     if flag_named (one_of (codes "tap") rows) then report.Tap
     else if flag_named (one_of (codes "quiet") rows) then report.Counts

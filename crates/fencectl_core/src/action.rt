@@ -35,7 +35,7 @@ pub(crate) enum Action<'a> {
 pub(crate) struct Check<'a> {
     /// Files, folders, and `-` for standard input.
     pub paths: Vec<&'a str>,
-    pub report: Report,
+    pub report: CheckReport,
     /// Whether a script may expect nothing.
     pub allows_empty: bool,
 }
@@ -56,7 +56,7 @@ pub(crate) struct Draw<'a> {
 
 /// The output format of `check`.
 #[derive(Clone, Copy)]
-pub(crate) enum Report {
+pub(crate) enum CheckReport {
     /// Each answer that differs, each script that does not pass, and the counts.
     All,
     /// Only the counts.

@@ -29,7 +29,7 @@ ghost use Rattle.fencectl_core.specs.Asked.{
   trace_after,
 };
 
-use crate::action::{Action, Check, Clients, Draw, Explore, Report, Table, Trace};
+use crate::action::{Action, Check, CheckReport, Clients, Draw, Explore, Table, Trace};
 use crate::subcommands::{
     ALLOW_EMPTY, ANSWERS, CHECK, CLIENTS_WORD, COUNT, DRAW, EXPLAIN, EXPLORE, FILE, FROM, GRAPH,
     JSON, LINE, LINES, LOCKS, OUTPUT, PATH, PERFETTO, QUIET, ROUNDS_WORD, SCRIPT, STATES_OPTION,
@@ -192,15 +192,15 @@ fn paths_of<'a>(alloc: Global, matches: &ArgMatches<'a>) -> Result<Vec<&'a str>,
     }
 }
 
-fn report_of(matches: &ArgMatches<'_>) -> Report
+fn report_of(matches: &ArgMatches<'_>) -> CheckReport
     ensures { result ≡ report_named (rows_of (found_of matches.now)) }
 {
     if has_flag(matches, TAP) {
-        Report::Tap
+        CheckReport::Tap
     } else if has_flag(matches, QUIET) {
-        Report::Counts
+        CheckReport::Counts
     } else {
-        Report::All
+        CheckReport::All
     }
 }
 

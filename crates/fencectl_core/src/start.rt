@@ -1,5 +1,5 @@
 //! Reads the command line, and performs the action that it asks for. `perform` is the whole program.
-use crate::action::{Action, Check, Clients, Report};
+use crate::action::{Action, Check, CheckReport, Clients};
 use crate::clients::report_clients;
 use crate::color::{ColorChoice, Colors, take_color};
 use crate::drawing::draw;
@@ -170,13 +170,13 @@ fn update(rt: &HostRuntime, paths: &[&str]) -> Result<u8, Refusal> {
     Ok(status_of_verdict(verdict))
 }
 
-fn form_of(rt: &HostRuntime, colors: Colors, report: Report) -> CheckForm {
+fn form_of(rt: &HostRuntime, colors: Colors, report: CheckReport) -> CheckForm {
     match report {
-        Report::All => CheckForm::Lines {
+        CheckReport::All => CheckForm::Lines {
             bold: colors.errors,
         },
-        Report::Counts => CheckForm::Counts,
-        Report::Tap => CheckForm::Tap(tap_version(rt)),
+        CheckReport::Counts => CheckForm::Counts,
+        CheckReport::Tap => CheckForm::Tap(tap_version(rt)),
     }
 }
 
