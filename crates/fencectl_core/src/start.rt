@@ -18,7 +18,7 @@ use reason_core::Look;
 use source_core::{Input, Prompted, Source, script_files};
 use std::alloc::Global;
 use std::env;
-use std::io::{IsTerminal, Write};
+use std::io::{IsTerminal, Read, Write};
 use std::sync::Wait;
 use std::thread::Threads;
 
@@ -132,14 +132,19 @@ fn is_typed(rt: &HostRuntime, script: Input) -> bool {
 fn converse(rt: &HostRuntime, colors: Colors) -> Result<u8, Refusal> {
     eprintln!(rt; "{GREETING}").map_err(|_| Refusal::Write)?;
     let mut reader = Prompted::new(rt.stdin(), rt.stderr());
-    Ok(explain_script(
+    Ok(explain_from(rt, colors, &mut reader))
+}
+
+/// Answers what is read, and explains it on standard error.
+fn explain_from<R: Read>(rt: &HostRuntime, colors: Colors, reader: &mut R) -> u8 {
+    explain_script(
         rt.alloc(),
         look(colors),
-        &mut reader,
+        reader,
         &mut rt.stdout(),
         &mut rt.stderr(),
         &mut rt.stderr(),
-    ))
+    )
 }
 
 fn json(rt: &HostRuntime, script: Input) -> Result<u8, Refusal> {
@@ -190,14 +195,7 @@ fn tap_version(rt: &HostRuntime) -> u64 {
 
 fn explain(rt: &HostRuntime, colors: Colors, script: Input) -> Result<u8, Refusal> {
     let mut source = Source::open(rt, script, rt.stdin())?;
-    Ok(explain_script(
-        rt.alloc(),
-        look(colors),
-        &mut source,
-        &mut rt.stdout(),
-        &mut rt.stderr(),
-        &mut rt.stderr(),
-    ))
+    Ok(explain_from(rt, colors, &mut source))
 }
 
 /// Bold if errors are coloured, else plain.

@@ -99,16 +99,19 @@ pub(crate) const WITNESS: &str = "witness";
 
 pub(crate) const ANSWERS: &str = "answers";
 
+/// The script that a subcommand runs.
+const SCRIPT_FILE: Argument = Argument {
+    name: FILE,
+    form: ArgumentForm::File,
+    help: "The script's file, or - for standard input",
+};
+
 static SUBCOMMANDS: &[Subcommand] = &[
     Subcommand {
         word: RUN,
         about: "Runs the script of a file or of standard input",
         arguments: &[
-            Argument {
-                name: FILE,
-                form: ArgumentForm::File,
-                help: "The script's file, or - for standard input",
-            },
+            SCRIPT_FILE,
             Argument {
                 name: JSON,
                 form: ArgumentForm::Flag,
@@ -150,11 +153,7 @@ static SUBCOMMANDS: &[Subcommand] = &[
     Subcommand {
         word: EXPLAIN,
         about: "Runs a script, and explains on standard error why lines were refused",
-        arguments: &[Argument {
-            name: FILE,
-            form: ArgumentForm::File,
-            help: "The script's file, or - for standard input",
-        }],
+        arguments: &[SCRIPT_FILE],
     },
     Subcommand {
         word: TRACE,
@@ -201,11 +200,7 @@ static SUBCOMMANDS: &[Subcommand] = &[
         word: DRAW,
         about: "Draws a run of a script as SVG, or its end as a graph",
         arguments: &[
-            Argument {
-                name: FILE,
-                form: ArgumentForm::File,
-                help: "The script's file, or - for standard input",
-            },
+            SCRIPT_FILE,
             Argument {
                 name: GRAPH,
                 form: ArgumentForm::Flag,
