@@ -24,11 +24,17 @@ pub trait Explain {
     fn explain(
         &self,
         desk: &Desk,
-        line: &RawLine<'_>,
-        body: &Body,
-        refusal: Refusal,
+        refused: &RefusedLine<'_>,
         note: &mut Vec<u8>,
     ) -> Result<(), Refusal>;
+}
+
+/// A line that the desk has refused: its bytes, the command that they say or why they say none, and the error.
+#[derive(Clone, Copy)]
+pub struct RefusedLine<'a> {
+    pub line: &'a RawLine<'a>,
+    pub body: &'a Body,
+    pub refusal: Refusal,
 }
 
 /// Writes a line and its answer, which ends with a line feed.

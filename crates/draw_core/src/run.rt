@@ -16,7 +16,7 @@ ghost use Rattle.draw_core.specs.Waiting.{StandsAfter, edges_in};
 
 use crate::asking::ask_all;
 use crate::graph::enter_all;
-use crate::note::{Explain, push_answer};
+use crate::note::{Explain, RefusedLine, push_answer};
 use crate::texts::Texts;
 use crate::waiting::waiting_for;
 use crate::window::Window;
@@ -280,7 +280,12 @@ impl Run {
         let mut note = Vec::new(self.alloc);
         push_answer(line, answer, &mut note)?;
         if let Answer::Refused(refusal) = answer {
-            reasons.explain(&self.desk, line, body, *refusal, &mut note)?;
+            let refused = RefusedLine {
+                line,
+                body,
+                refusal: *refusal,
+            };
+            reasons.explain(&self.desk, &refused, &mut note)?;
         }
         Ok(note)
     }

@@ -2,8 +2,8 @@
 
 use command_core::Command;
 use desk_core::Desk;
-use draw_core::Explain;
-use line_core::{Body, RawLine};
+use draw_core::{Explain, RefusedLine};
+use line_core::Body;
 use point_core::Refusal;
 use reason_core::{Book, Look, Place, explain_bad_line, explain_command};
 use std::alloc::Global;
@@ -33,18 +33,17 @@ impl Explain for Reasons {
     fn explain(
         &self,
         desk: &Desk,
-        line: &RawLine<'_>,
-        body: &Body,
-        refusal: Refusal,
+        refused: &RefusedLine<'_>,
         note: &mut Vec<u8>,
     ) -> Result<(), Refusal> {
+        let refusal = refused.refusal;
         let place = Place {
-            line: line.number,
+            line: refused.line.number,
             look: Look::Plain,
         };
-        match body {
+        match refused.body {
             Body::Cmd(command) => explain_command(desk, &self.book, &place, command, refusal, note),
-            Body::Bad(_) => explain_bad_line(self.alloc, &place, line, refusal, note),
+            Body::Bad(_) => explain_bad_line(self.alloc, &place, refused.line, refusal, note),
         }
         .map_err(|_| Refusal::Memory)
     }
