@@ -5,7 +5,7 @@ use desk_core::Desk;
 use draw_core::{Explain, RefusedLine};
 use line_core::Body;
 use point_core::Refusal;
-use reason_core::{Book, Look, Place, explain_bad_line, explain_command};
+use reason_core::{Book, NoteLook, NotePlace, explain_bad_line, explain_command};
 use std::alloc::Global;
 
 /// The lines that made each name and cookie of a run.
@@ -37,9 +37,9 @@ impl Explain for Reasons {
         note: &mut Vec<u8>,
     ) -> Result<(), Refusal> {
         let refusal = refused.refusal;
-        let place = Place {
+        let place = NotePlace {
             line: refused.line.number,
-            look: Look::Plain,
+            look: NoteLook::Plain,
         };
         match refused.body {
             Body::Cmd(command) => explain_command(desk, &self.book, &place, command, refusal, note),

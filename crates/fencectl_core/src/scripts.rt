@@ -8,7 +8,7 @@ ghost use Rattle.fencectl_core.specs.Ends.{ReportsFault, run_status};
 
 use crate::status::status_of_run;
 use json_core::run_json;
-use reason_core::{Look, explain};
+use reason_core::{NoteLook, explain};
 use std::alloc::Global;
 use std::io::{Read, Write};
 
@@ -30,7 +30,7 @@ pub(crate) fn json_script<R: Read, W: Write, E: Write>(
 /// Runs the script of a reader, and explains on `notes` why lines were refused. A fault is reported on `errors`.
 pub(crate) fn explain_script<R: Read, W: Write, N: Write, E: Write>(
     alloc: Global,
-    look: Look,
+    look: NoteLook,
     reader: &mut R,
     writer: &mut W,
     notes: &mut N,

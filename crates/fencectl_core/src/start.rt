@@ -11,10 +11,10 @@ use crate::status::{ACCEPTED, status_of_verdict};
 use crate::traces::trace;
 use crate::unread_word::report_unread_word;
 use crate::usage::action_of;
-use check_core::{CheckForm, Plan, check_scripts, update_scripts};
+use check_core::{CheckForm, CheckOptions, check_scripts, update_scripts};
 use clients_core::{Board, LockedTable};
 use point_core::Refusal;
-use reason_core::Look;
+use reason_core::NoteLook;
 use source_core::{Input, Prompted, Source, script_files};
 use std::alloc::Global;
 use std::env;
@@ -154,13 +154,13 @@ fn json(rt: &HostRuntime, script: Input) -> Result<u8, Refusal> {
 
 fn check(rt: &HostRuntime, colors: Colors, asked: &Check) -> Result<u8, Refusal> {
     let names = script_files(rt, asked.paths.as_slice())?;
-    let plan = Plan {
+    let options = CheckOptions {
         form: form_of(rt, colors, asked.report),
         allows_empty: asked.allows_empty,
     };
     let verdict = check_scripts(
         rt,
-        &plan,
+        &options,
         names.as_slice(),
         rt.stdin(),
         &mut rt.stdout(),
@@ -199,10 +199,10 @@ fn explain(rt: &HostRuntime, colors: Colors, script: Input) -> Result<u8, Refusa
 }
 
 /// Bold if errors are coloured, else plain.
-fn look(colors: Colors) -> Look {
+fn look(colors: Colors) -> NoteLook {
     if colors.errors {
-        Look::Bold
+        NoteLook::Bold
     } else {
-        Look::Plain
+        NoteLook::Plain
     }
 }
