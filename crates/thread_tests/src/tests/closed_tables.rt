@@ -2,8 +2,8 @@
 ghost use Rattle.std.specs.Prelude.{◌≡◌, length};
 ghost use Rattle.resv_core.specs.Settled.{ArePlansWithin};
 
-use crate::seats::{close, driver_of, holds, whole_of, words_of};
-use crate::table_plans::plan_of_an_increment;
+use crate::tests::seats::{close, driver_of, holds, whole_of, words_of};
+use crate::tests::table_plans::plan_of_an_increment;
 use clients_core::{Board, LockedTable};
 use point_core::{Context, Refusal};
 use resv_core::{Plan, SharedTable};

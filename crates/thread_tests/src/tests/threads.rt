@@ -1,8 +1,7 @@
 //! Tests of words on two threads.
 ghost use Rattle.std.specs.Prelude.{◌≡◌, ◌+◌, ◌<◌, ◌≤◌};
 
-use crate::driving::drive_on;
-use crate::seats::{driver_of, holds, whole_of, words_of};
+use crate::tests::seats::{drive_on, driver_of, holds, whole_of, words_of};
 use point_core::{Context, Usage};
 use std::process::Abort;
 use std::thread::{Threads, join};

@@ -1,8 +1,8 @@
 //! Tests of clients on threads, against both tables.
 ghost use Rattle.std.specs.Prelude.{◌≤◌};
 
-use crate::plans::{READ, WRITTEN, check_rows};
-use crate::seats::holds;
+use crate::tests::plans::{READ, WRITTEN, check_rows};
+use crate::tests::seats::holds;
 use clients_core::{Board, LockedTable, OpenGate, ROUND_BUFFERS, plans_of_rounds, run_clients};
 use resv_core::{Plan, Settled, SharedTable};
 use std::alloc::Global;
@@ -60,21 +60,13 @@ fn run_rounds<R: Threads + Wait + Abort + Sync, T: SharedTable>(
 }
 
 #[test]
-fn two_clients_under_locks(rt: HostRuntime) {
+fn two_clients(rt: HostRuntime) {
     run_rounds::<HostRuntime, LockedTable>(&rt, rt.alloc(), 2);
-}
-
-#[test]
-fn two_clients_on_a_board(rt: HostRuntime) {
     run_rounds::<HostRuntime, Board>(&rt, rt.alloc(), 2);
 }
 
 #[test]
-fn eight_clients_under_locks(rt: HostRuntime) {
+fn eight_clients(rt: HostRuntime) {
     run_rounds::<HostRuntime, LockedTable>(&rt, rt.alloc(), 8);
-}
-
-#[test]
-fn eight_clients_on_a_board(rt: HostRuntime) {
     run_rounds::<HostRuntime, Board>(&rt, rt.alloc(), 8);
 }

@@ -1,9 +1,8 @@
 //! Tests of a context that its driver closes, and of files that are polled, waited for and merged meanwhile.
 ghost use Rattle.std.specs.Prelude.{◌≡◌, ◌<◌, ◌≤◌};
 
-use crate::driving::drive_on;
-use crate::files::{check_poll, plain};
-use crate::seats::{close, driver_of, holds, whole_of, words_of};
+use crate::tests::files::{check_poll, plain};
+use crate::tests::seats::{close, drive_on, driver_of, holds, whole_of, words_of};
 use point_core::{Clock, Context, Refusal, Status};
 use std::alloc::Global;
 use std::process::Abort;

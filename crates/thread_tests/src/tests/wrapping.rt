@@ -2,9 +2,9 @@
 ghost use Rattle.std.specs.Prelude.{◌≡◌, ◌<◌, IfErr};
 ghost use Rattle.point_core.specs.declared.refusal.Refusal.TheVariants as refusal;
 
-use crate::gates::HoldGate;
-use crate::plans::{check_refused, plans_of};
-use crate::seats::holds;
+use crate::tests::gates::HoldGate;
+use crate::tests::plans::{check_refused, plans_of};
+use crate::tests::seats::holds;
 use clients_core::{Gate, LockedTable, OpenGate, run_clients};
 use point_core::{Context, Entry, Items, Listing, Point, Refusal, Usage};
 use resv_core::{Act, Plan, Settled, SharedTable};
@@ -146,19 +146,25 @@ fn are_puts_of_two(puts: &[Entry]) -> bool {
     puts.len() == 2 && puts.contains(&put_of(0)) && puts.contains(&put_of(1))
 }
 
-/// The puts that a table has recorded.
-fn puts_of(table: OddTable) -> Vec<Entry> {
+/// The puts that a table has recorded, of clients with these plans.
+fn recorded<R: Threads + Wait + Abort + Sync, G: Gate>(
+    rt: &R,
+    alloc: Global,
+    plans: &[Plan],
+    gate: &G,
+) -> Vec<Entry> {
+    let (_, table) = run_clients::<R, OddTable, G>(rt, alloc, 1, plans, gate).expect(
+        rt,
+        "a settled table",
+    );
     let OddTable { table: _, puts } = table;
     puts.into_inner()
 }
 
 /// Checks that a table which records its puts has recorded both, of the two clients of `plans_of_two`.
 fn check_recorded<R: Threads + Wait + Abort + Sync>(rt: &R, alloc: Global, plans: &[Plan]) {
-    let (_, table) = run_clients::<R, OddTable, OpenGate>(rt, alloc, 1, plans, &OpenGate).expect(
-        rt,
-        "a settled table",
-    );
-    holds(rt, are_puts_of_two(puts_of(table).as_slice()));
+    let puts = recorded(rt, alloc, plans, &OpenGate);
+    holds(rt, are_puts_of_two(puts.as_slice()));
 }
 
 #[test]
@@ -239,11 +245,8 @@ fn is_slow_first(puts: &[Entry]) -> bool {
 /// Checks that the first client's slow put is recorded before the second client's.
 fn check_slow_first<R: Threads + Wait + Abort + Sync>(rt: &R, alloc: Global, plans: &[Plan]) {
     let gate = HoldGate::new(2, 1);
-    let (_, table) = run_clients::<R, OddTable, HoldGate>(rt, alloc, 1, plans, &gate).expect(
-        rt,
-        "a settled table",
-    );
-    holds(rt, is_slow_first(puts_of(table).as_slice()));
+    let puts = recorded(rt, alloc, plans, &gate);
+    holds(rt, is_slow_first(puts.as_slice()));
 }
 
 #[test]

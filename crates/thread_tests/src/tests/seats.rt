@@ -58,3 +58,13 @@ pub(crate) fn whole_of(rt: &impl Abort, seat: Seat) -> Whole
     };
     whole
 }
+
+/// Advances a context by 1, `times` times.
+pub(crate) fn drive_on(rt: &impl Abort, words: &Words, driver: &mut Driver, times: u32)
+    requires own { driver.old.seat.words ≡ words.now }
+    ensures own { driver.new.seat.words ≡ words.now }
+{
+    for _ in 0..times {
+        driver.inc(words, 1).expect(rt, "an increment");
+    }
+}

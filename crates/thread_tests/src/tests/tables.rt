@@ -1,16 +1,16 @@
 //! Tests of one buffer of each table, and of the buffer under a lock.
 ghost use Rattle.std.specs.Prelude.{◌≡◌, ◌<◌};
 
-use crate::plans::{check_refused, point};
-use crate::seats::{holds, whole_of, words_of};
-use crate::table_plans::{plans_of_a_put, second_point};
+use crate::tests::plans::{check_refused, point};
+use crate::tests::seats::{holds, whole_of, words_of};
+use crate::tests::table_plans::{plans_of_a_put, second_point};
 use clients_core::{Board, LockedBuffer, LockedTable};
 use point_core::{Entry, Listing, Point, Reach, Refusal, Usage};
 use resv_core::SharedTable;
 use std::alloc::Global;
 use std::process::Abort;
 use std::sync::Wait;
-use words_core::{Seat, Whole, Words};
+use words_core::{Seat, Words};
 
 /// Checks the points of a listing, and its floor.
 fn check_listing(rt: &impl Abort, listing: &Listing, floor: &Reach, points: &[Point]) {
@@ -113,18 +113,12 @@ fn check_kept_listing<R: Wait + Abort, T: SharedTable>(
 }
 
 /// Checks that a new table has not settled the plans of a put.
-fn check_unsettled<R: Wait + Abort, T: SharedTable>(
-    rt: &R,
-    alloc: Global,
-    words: &Words,
-    all: &mut Whole,
-)
-    requires own { all.old.words ≡ words.now }
-    requires sizes { (words.now.contexts ≡ 2) × (words.now.buffers ≡ 2) }
-{
+fn check_unsettled<R: Wait + Abort, T: SharedTable>(rt: &R, alloc: Global) {
+    let (words, seat) = words_of(rt, alloc, 2, 2, 0);
+    let mut all = whole_of(rt, seat);
     let plans = plans_of_a_put(rt, alloc);
-    let table = T::empty(alloc, words).expect(rt, "a table");
-    let refused = table.settle(rt, alloc, words, all, plans.as_slice());
+    let table = T::empty(alloc, &words).expect(rt, "a table");
+    let refused = table.settle(rt, alloc, &words, &mut all, plans.as_slice());
     check_refused(rt, refused, Refusal::Torn);
 }
 
@@ -156,8 +150,7 @@ fn check_new_table<R: Wait + Abort, T: SharedTable>(
 fn check_tables<R: Wait + Abort, T: SharedTable>(rt: &R, alloc: Global) {
     let (words, mut seat) = words_of(rt, alloc, 2, 2, 0);
     check_new_table::<R, T>(rt, alloc, &words, &mut seat);
-    let mut all = whole_of(rt, seat);
-    check_unsettled::<R, T>(rt, alloc, &words, &mut all);
+    check_unsettled::<R, T>(rt, alloc);
 }
 
 #[test]

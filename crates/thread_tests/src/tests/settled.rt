@@ -1,9 +1,10 @@
 //! Tests of `clients`: the settled tables that the program prints, and a writer that fails.
-use crate::seats::holds;
-use crate::wrapping::OddTable;
+use crate::tests::seats::holds;
+use crate::tests::wrapping::OddTable;
 use clients_core::{Board, LockedTable};
 use fencectl_core::{Clients, Table, clients_report, report_clients};
 use point_core::Refusal;
+use resv_core::SharedTable;
 use std::alloc::Global;
 use std::io;
 use std::io::Write;
@@ -79,33 +80,21 @@ fn one_client(table: Table) -> Clients {
 }
 
 /// Checks that one client is refused over a table that never settles, and that nothing is printed: so clients ran over it.
-fn check_board<R: Threads + Wait + Abort + Sync>(rt: &R, alloc: Global) {
+fn check_torn<R: Threads + Wait + Abort + Sync, B: SharedTable, L: SharedTable>(
+    rt: &R,
+    alloc: Global,
+    table: Table,
+) {
     let mut printed = Vec::new(alloc);
-    let ended = report_clients::<R, OddTable, LockedTable, Vec<u8>>(
-        rt,
-        alloc,
-        &one_client(Table::Board),
-        &mut printed,
-    );
-    holds(rt, ended == Err(Refusal::Torn) && printed.is_empty());
-}
-
-/// Checks the same for the table under locks.
-fn check_locks<R: Threads + Wait + Abort + Sync>(rt: &R, alloc: Global) {
-    let mut printed = Vec::new(alloc);
-    let ended = report_clients::<R, Board, OddTable, Vec<u8>>(
-        rt,
-        alloc,
-        &one_client(Table::Locks),
-        &mut printed,
-    );
+    let clients = one_client(table);
+    let ended = report_clients::<R, B, L, Vec<u8>>(rt, alloc, &clients, &mut printed);
     holds(rt, ended == Err(Refusal::Torn) && printed.is_empty());
 }
 
 #[test]
 fn clients_run_over_the_table_that_is_asked_for(rt: HostRuntime) {
-    check_board(&rt, rt.alloc());
-    check_locks(&rt, rt.alloc());
+    check_torn::<HostRuntime, OddTable, LockedTable>(&rt, rt.alloc(), Table::Board);
+    check_torn::<HostRuntime, Board, OddTable>(&rt, rt.alloc(), Table::Locks);
 }
 
 /// Whether two clients ended well, and their whole table was printed.

@@ -3,7 +3,7 @@ ghost use Rattle.std.specs.Prelude.{◌≡◌, ◌<◌};
 ghost use Rattle.words_core.specs.declared.flags.Once.TheVariants as once;
 ghost use Rattle.words_core.specs.declared.seat.TheConstants.{PARTS};
 
-use crate::seats::{driver_of, holds, whole_of, words_of};
+use crate::tests::seats::{driver_of, holds, whole_of, words_of};
 use point_core::{BUFFERS, CONTEXTS, Context, LimitKind, Refusal, Usage};
 use std::alloc::Global;
 use std::process::Abort;

@@ -1,8 +1,7 @@
 //! Tests of sync files beside running timelines.
 ghost use Rattle.std.specs.Prelude.{◌≡◌, ◌<◌, ◌≤◌};
 
-use crate::driving::drive_on;
-use crate::seats::{driver_of, holds, words_of};
+use crate::tests::seats::{drive_on, driver_of, holds, words_of};
 use point_core::{Context, Name, Point, Refusal, Status};
 use std::alloc::Global;
 use std::process::Abort;

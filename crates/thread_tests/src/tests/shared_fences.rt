@@ -1,7 +1,7 @@
 //! Tests of a fence that up to four threads signal.
 ghost use Rattle.std.specs.Prelude.{◌≡◌, ◌+◌, ◌<◌, ◌≤◌};
 
-use crate::seats::{holds, words_of};
+use crate::tests::seats::{holds, words_of};
 use fence_core::{SharedFence, Signal};
 use point_core::{Context, Point};
 use std::alloc::Global;

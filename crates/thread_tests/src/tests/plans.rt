@@ -1,7 +1,7 @@
 //! Plans for tests, and checks of their settled end.
 ghost use Rattle.std.specs.Prelude.{◌≡◌};
 
-use crate::seats::holds;
+use crate::tests::seats::holds;
 use point_core::{Context, Point, Refusal, TopRow, Usage};
 use resv_core::{Act, Plan, Settled};
 use std::alloc::Global;

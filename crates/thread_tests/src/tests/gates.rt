@@ -1,6 +1,6 @@
 //! Tests of gates that hold clients back.
-use crate::plans::{WRITTEN, check_one_table, check_refused, plans_of, point};
-use crate::seats::holds;
+use crate::tests::plans::{WRITTEN, check_one_table, check_refused, plans_of, point};
+use crate::tests::seats::holds;
 use clients_core::{
     Board, Gate, LockedTable, ROUND_ACTS, ROUND_BUFFERS, plans_of_rounds, run_clients,
 };

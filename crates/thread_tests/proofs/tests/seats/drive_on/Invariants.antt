@@ -1,5 +1,5 @@
 use Rattle.std.proofs.Common.{◌≡◌}
-use Rattle.thread_tests.proofs.driving.drive_on.Given as goal
+use Rattle.thread_tests.proofs.tests.seats.drive_on.Given as goal
 
 abbrev pub invariant-loop : goal.invariant-loop
 invariant-loop g l = l.driver.seat.words ≡ l.words
