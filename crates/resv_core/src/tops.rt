@@ -114,12 +114,20 @@ impl Tops {
             IfOk result (λ rows. rows.items ≡ rows_of es reach.now) }
         ensures memory { IfErr result (λ e. e ≡ Refusal.Memory) }
     {
-        let mut rows = Vec::with_capacity(alloc, USAGES * CONTEXTS)?;
+        let mut rows = Vec::with_capacity(alloc, self.row_room())?;
         push_rows(&mut rows, Usage::Kernel, &self.kernel, reach);
         push_rows(&mut rows, Usage::Write, &self.write, reach);
         push_rows(&mut rows, Usage::Read, &self.read, reach);
         push_rows(&mut rows, Usage::Bookkeep, &self.bookkeep, reach);
         Ok(rows)
+    }
+
+    /// The most rows that there can be: one for each context in use, at each usage. Room for all contexts would take 16 KiB.
+    fn row_room(&self) -> usize
+        ensures { result ≡
+            used_of self.now.kernel + used_of self.now.write + used_of self.now.read + used_of self.now.bookkeep }
+    {
+        self.kernel.used() + self.write.used() + self.read.used() + self.used()
     }
 }
 
@@ -202,9 +210,9 @@ fn keep_above(entries: &mut Vec<Entry>, stronger: u64, ctx: Context, value: u64,
 
 /// Appends a row for each point of the table of latest points that is above the reach, by rising context.
 pub(crate) fn push_rows(rows: &mut Vec<TopRow>, usage: Usage, latest: &LatestPoints, reach: &Reach)
-    requires places { vec_len rows.old + CONTEXTS ≤ vec_capacity rows.old }
+    requires places { vec_len rows.old + used_of latest.now ≤ vec_capacity rows.old }
     ensures rows { rows.new.items ≡ rows.old.items ++ map (row_of usage) (points_above latest.now reach.now) }
-    ensures few { vec_len rows.new ≤ vec_len rows.old + CONTEXTS }
+    ensures few { vec_len rows.new ≤ vec_len rows.old + used_of latest.now }
     ensures places { vec_capacity rows.new ≡ vec_capacity rows.old }
 {
     for index in 0..latest.used() {

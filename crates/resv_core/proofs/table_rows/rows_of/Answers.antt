@@ -18,9 +18,9 @@ returns-clause-rows c =
     let write = rows_at-IsLatest Write refl at_write same in
     let read = rows_at-IsLatest Read refl at_read same in
     let bookkeep = rows_at-IsLatest Bookkeep refl at_bookkeep same in
-    let first = rw c.in_ok-rows.ensures.items at c.push_rows.ensures.rows in
-    let second = c.push_rows-2.ensures.rows in
-    let third = c.push_rows-3.ensures.rows in
-    let last = c.push_rows-4.ensures.rows in
+    let first = rw c.in_ok-rows.ensures.items at c.push_usage.ensures.rows in
+    let second = c.push_usage-2.ensures.rows in
+    let third = c.push_usage-3.ensures.rows in
+    let last = c.push_usage-4.ensures.rows in
     let join = rows-join (rows_at es reach Kernel) (rows_at es reach Write) (rows_at es reach Read) (rows_at es reach Bookkeep) in
     cc
