@@ -65,6 +65,16 @@ impl Desk {
         })
     }
 
+    /// Empties the desk in its place, as a new one is. The next timelines and files reuse the memory of these.
+    pub fn clear(&mut self)
+        ensures empty { HasHistory self.new [] }
+    {
+        self.timelines.clear();
+        self.files.clear();
+        self.buffers.clear();
+        self.watches = Watches::new(self.alloc).unwrap();
+    }
+
     /// The answer of one command: the first refusal whose cause holds, else what the command gives. `Memory` comes
     /// last, when a growth was really refused; a command that keeps nothing new and reports no list never answers it,
     /// and `inc` and `shut` only when they fire a watch. A refused command changes nothing, and fires none.

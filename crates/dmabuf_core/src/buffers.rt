@@ -52,7 +52,14 @@ impl Buffers {
         })
     }
 
-    /// Makes a buffer with an empty reservation. It is never removed.
+    /// Removes all buffers.
+    pub fn clear(&mut self)
+        ensures { self.new ≡ [] }
+    {
+        self.by_name.clear();
+    }
+
+    /// Makes a buffer with an empty reservation. Only `clear` removes it.
     ///
     /// Fails with `Exists` if a buffer has that name, with `Limit` if there are `BUFFERS` buffers, then with `Memory`;
     /// nothing is made then.

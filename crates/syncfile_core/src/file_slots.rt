@@ -73,6 +73,14 @@ impl FileSlots {
         }
     }
 
+    /// Closes all files. The next ones reuse their memory.
+    pub(crate) fn clear(&mut self)
+        ensures { self.new ≡ [] }
+    {
+        self.names.clear();
+        self.next = 0;
+    }
+
     /// The file with that name.
     pub(crate) fn get(&self, name: &Name) -> Option<&SyncFile>
         ensures found { option_copied result ≡ file_at self.now name.now }

@@ -57,6 +57,13 @@ impl Files {
         })
     }
 
+    /// Closes all files. The next ones reuse their memory.
+    pub fn clear(&mut self)
+        ensures { self.new ≡ [] }
+    {
+        self.made.clear();
+    }
+
     /// The file with that name.
     pub fn get(&self, name: &Name) -> Option<&SyncFile>
         ensures found { option_copied result ≡ file_at self.now name.now }

@@ -14,8 +14,8 @@ use std::marker::Model;
 
 /// Named timelines, as libsync's sw_sync has them: a timeline begins at 0, and an increment adds to its value.
 ///
-/// There are at most `CONTEXTS`; none is ever taken away, not even a closed one. A value does not wrap, while the kernel's
-/// 32-bit one does.
+/// There are at most `CONTEXTS`. Only `clear` removes timelines, closed ones too. A value does not wrap, while the kernel's 32-bit
+/// one does.
 #[derive(Debug, Drop)]
 pub struct Timelines {
     names: IndexSet<Name>,
@@ -54,6 +54,14 @@ impl Timelines {
             hints: Hints::new(alloc),
             clocks: Clocks::zero(),
         })
+    }
+
+    /// Removes all timelines. The next ones reuse their memory.
+    pub fn clear(&mut self)
+        ensures { self.new ≡ [] }
+    {
+        self.names.clear();
+        self.clocks = Clocks::zero();
     }
 
     /// Makes a timeline of that name, with the value 0, as libsync's `sw_sync_timeline_create` does.
