@@ -13,7 +13,6 @@ mod report;
 mod row_kind;
 mod rows;
 mod settled;
-mod status;
 mod writing;
 
 pub use answer::{done_line, print, refusal_line, value_line};
@@ -23,8 +22,8 @@ pub use passing::pass_answer;
 pub use report::{buffer_text, report_text, show_text, timelines_text};
 pub use row_kind::RowKind;
 pub use rows::{
-    COUNT_WIDTH, FILE_ROW_BYTES, KIND_WIDTH, NUMBER_WIDTH, ROW_BYTES, SUBJECT_WIDTH, file_row, row,
+    COUNT_WIDTH, FILE_ROW_BYTES, KIND_WIDTH, NUMBER_WIDTH, ROW_BYTES, STATUS_BYTES, SUBJECT_WIDTH,
+    file_row, row, status_text,
 };
 pub use settled::settled_text;
-pub use status::{STATUS_BYTES, status_text};
 pub use writing::{write_many, write_out, write_whole};

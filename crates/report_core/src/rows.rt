@@ -1,15 +1,15 @@
-//! The text of one row, and the widths of its columns.
-ghost use Rattle.std.specs.Prelude.{◌≡◌, ◌++◌, ◌+◌, ◌<◌, ◌^◌, OnOk, OnErr, Err, length};
+//! The text of one row and of a status, and the widths of a row's columns.
+ghost use Rattle.std.specs.Prelude.{◌≡◌, ◌++◌, ◌+◌, ◌<◌, ◌≤◌, ◌^◌, OnOk, OnErr, Err, length};
 ghost use Rattle.std.specs.Io.{StartsWith};
 ghost use Rattle.point_core.specs.declared.refusal.Refusal.TheVariants.{Memory};
 ghost use Rattle.report_core.specs.Subject.{subject_text};
 ghost use Rattle.report_core.specs.Row.{row_text, file_row_text};
+ghost use Rattle.report_core.specs.Status.{status_text};
 
 use crate::columns::{Subject, push_columns, push_count, push_text_columns};
 use crate::row_kind::RowKind;
-use crate::status::status_text;
 use command_core::FileRow;
-use point_core::{NAME_BYTES, Name, Refusal};
+use point_core::{NAME_BYTES, Name, Refusal, Status};
 
 /// The width of a row's first column: the longest words, `timeline` and `bookkeep`, fill it.
 pub const KIND_WIDTH: usize = 8;
@@ -32,6 +32,9 @@ pub const ROW_BYTES: usize = KIND_WIDTH + 1 + SUBJECT_WIDTH + 1 + NUMBER_WIDTH +
 /// The bytes of a file's row, with its line feed, if its count fits the column.
 pub const FILE_ROW_BYTES: usize = ROW_BYTES + 1 + COUNT_WIDTH;
 
+/// The most bytes of a status.
+pub const STATUS_BYTES: usize = 2;
+
 const _: () = prove!(KIND_WIDTH == 8);
 
 const _: () = prove!(SUBJECT_WIDTH == 31);
@@ -43,6 +46,8 @@ const _: () = prove!(COUNT_WIDTH == 3);
 const _: () = prove!(ROW_BYTES == 62);
 
 const _: () = prove!(FILE_ROW_BYTES == 66);
+
+const _: () = prove!(STATUS_BYTES == 2);
 
 /// Appends a row to `out`: the kind's word, left-aligned, a space, the name, left-aligned, a space, the number in
 /// decimal, right-aligned, and a line feed.
@@ -96,4 +101,17 @@ pub(crate) fn push_row(
     ensures err { OnErr result ((result ≡ Err Memory) × StartsWith out.new.items out.old.items) }
 {
     push_columns(out, kind, subject, number, b'\n')
+}
+
+/// A status in decimal, as file information and rows show it: 0, 1 or -2.
+#[inline(always)]
+pub fn status_text(status: Status) -> &'static [u8]
+    ensures text { result.now ≡ status_text status }
+    ensures len { length result.now ≤ STATUS_BYTES }
+{
+    match status {
+        Status::Active => b"0",
+        Status::Signalled => b"1",
+        Status::Cancelled => b"-2",
+    }
 }

@@ -1,5 +1,5 @@
 use Rattle.report_core.proofs.Statuses.{text-Active, text-Signalled, text-Cancelled}
-use Rattle.report_core.proofs.status.status_text.Goals as goal
+use Rattle.report_core.proofs.rows.status_text.Goals as goal
 
 pub returns-in-Active-clause-text : goal.returns-in-Active-clause-text
 returns-in-Active-clause-text c = rw c.in-Active.is text-Active
