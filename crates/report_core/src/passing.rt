@@ -1,9 +1,10 @@
 //! Appends an answer's text to the output, and writes the output once enough is pending. A report is passed on in
 //! pieces.
-ghost use Rattle.std.specs.Prelude.{◌≡◌, ◌⊎◌, ◌++◌, OnOk, OnErr, IfErr};
+ghost use Rattle.std.specs.Prelude.{◌≡◌, ◌⊎◌, ◌++◌, ◌<◌, OnOk, OnErr, IfErr, length};
 ghost use Rattle.std.specs.List.{flat_map};
 ghost use Rattle.point_core.specs.declared.refusal.Refusal.TheVariants.{Write as WriteFault, Memory};
 ghost use Rattle.command_core.specs.Tables.{row_count};
+ghost use Rattle.report_core.specs.declared.writing.TheConstants.{WRITE_BYTES};
 ghost use Rattle.report_core.specs.Row.{file_row_text};
 ghost use Rattle.report_core.specs.Tables.{timeline_text, buffer_text};
 ghost use Rattle.report_core.specs.Bytes.{AppendsFront, PassesOn};
@@ -31,6 +32,7 @@ pub fn pass_answer<W: Write>(
 ) -> Result<(), Refusal>
     ensures ok { OnOk result (PassesOn out.old.items out.new.items (text_of line answer)
         (W.contents writer.old) (W.contents writer.new)) }
+    ensures few { OnOk result (length out.new.items < WRITE_BYTES) }
     ensures err { OnErr result (AppendsFront (W.contents writer.old) (W.contents writer.new)
         (out.old.items ++ text_of line answer)) }
     ensures refusals { IfErr result (λ refusal. (refusal ≡ WriteFault) ⊎ (refusal ≡ Memory)) }
@@ -50,6 +52,7 @@ fn pass_whole<W: Write>(
 ) -> Result<(), Refusal>
     ensures ok { OnOk result (PassesOn out.old.items out.new.items (text_of line answer)
         (W.contents writer.old) (W.contents writer.new)) }
+    ensures few { OnOk result (length out.new.items < WRITE_BYTES) }
     ensures err { OnErr result (AppendsFront (W.contents writer.old) (W.contents writer.new)
         (out.old.items ++ text_of line answer)) }
     ensures refusals { IfErr result (λ refusal. (refusal ≡ WriteFault) ⊎ (refusal ≡ Memory)) }
@@ -63,6 +66,7 @@ fn pass_whole<W: Write>(
 fn pass_report<W: Write>(report: &Report, out: &mut Vec<u8>, writer: &mut W) -> Result<(), Refusal>
     ensures ok { OnOk result (PassesOn out.old.items out.new.items (report_text report.now)
         (W.contents writer.old) (W.contents writer.new)) }
+    ensures few { OnOk result (length out.new.items < WRITE_BYTES) }
     ensures err { OnErr result (AppendsFront (W.contents writer.old) (W.contents writer.new)
         (out.old.items ++ report_text report.now)) }
     ensures refusals { IfErr result (λ refusal. (refusal ≡ WriteFault) ⊎ (refusal ≡ Memory)) }
@@ -82,6 +86,7 @@ fn pass_timelines<W: Write>(
     ensures ok { OnOk result (PassesOn out.old.items out.new.items
         (value_line (row_count report.now) ++ flat_map timeline_text report.now.timelines)
         (W.contents writer.old) (W.contents writer.new)) }
+    ensures few { OnOk result (length out.new.items < WRITE_BYTES) }
     ensures err { OnErr result (AppendsFront (W.contents writer.old) (W.contents writer.new)
         (out.old.items ++ (value_line (row_count report.now) ++ flat_map timeline_text report.now.timelines))) }
     ensures refusals { IfErr result (λ refusal. (refusal ≡ WriteFault) ⊎ (refusal ≡ Memory)) }
@@ -94,6 +99,7 @@ fn pass_timelines<W: Write>(
 fn pass_files<W: Write>(files: &[FileRow], out: &mut Vec<u8>, writer: &mut W) -> Result<(), Refusal>
     ensures ok { OnOk result (PassesOn out.old.items out.new.items (flat_map file_row_text files.now)
         (W.contents writer.old) (W.contents writer.new)) }
+    ensures few { OnOk result (length out.old.items < WRITE_BYTES → length out.new.items < WRITE_BYTES) }
     ensures err { OnErr result (AppendsFront (W.contents writer.old) (W.contents writer.new)
         (out.old.items ++ flat_map file_row_text files.now)) }
     ensures refusals { IfErr result (λ refusal. (refusal ≡ WriteFault) ⊎ (refusal ≡ Memory)) }
@@ -107,6 +113,7 @@ fn pass_files<W: Write>(files: &[FileRow], out: &mut Vec<u8>, writer: &mut W) ->
 fn pass_file<W: Write>(file: &FileRow, out: &mut Vec<u8>, writer: &mut W) -> Result<(), Refusal>
     ensures ok { OnOk result (PassesOn out.old.items out.new.items (file_row_text file.now)
         (W.contents writer.old) (W.contents writer.new)) }
+    ensures few { OnOk result (length out.new.items < WRITE_BYTES) }
     ensures err { OnErr result (AppendsFront (W.contents writer.old) (W.contents writer.new)
         (out.old.items ++ file_row_text file.now)) }
     ensures refusals { IfErr result (λ refusal. (refusal ≡ WriteFault) ⊎ (refusal ≡ Memory)) }
@@ -123,6 +130,7 @@ fn pass_buffers<W: Write>(
 ) -> Result<(), Refusal>
     ensures ok { OnOk result (PassesOn out.old.items out.new.items (flat_map buffer_text buffers.now)
         (W.contents writer.old) (W.contents writer.new)) }
+    ensures few { OnOk result (length out.old.items < WRITE_BYTES → length out.new.items < WRITE_BYTES) }
     ensures err { OnErr result (AppendsFront (W.contents writer.old) (W.contents writer.new)
         (out.old.items ++ flat_map buffer_text buffers.now)) }
     ensures refusals { IfErr result (λ refusal. (refusal ≡ WriteFault) ⊎ (refusal ≡ Memory)) }
@@ -140,6 +148,7 @@ fn pass_buffer<W: Write>(
 ) -> Result<(), Refusal>
     ensures ok { OnOk result (PassesOn out.old.items out.new.items (buffer_text buffer.now)
         (W.contents writer.old) (W.contents writer.new)) }
+    ensures few { OnOk result (length out.new.items < WRITE_BYTES) }
     ensures err { OnErr result (AppendsFront (W.contents writer.old) (W.contents writer.new)
         (out.old.items ++ buffer_text buffer.now)) }
     ensures refusals { IfErr result (λ refusal. (refusal ≡ WriteFault) ⊎ (refusal ≡ Memory)) }

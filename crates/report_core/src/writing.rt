@@ -1,7 +1,8 @@
 //! Writes bytes until all are written, and buffers output: text is collected up to `WRITE_BYTES` before it is written.
-ghost use Rattle.std.specs.Prelude.{◌≡◌, ◌++◌, [], Err, List, ℕ, OnOk, OnErr};
+ghost use Rattle.std.specs.Prelude.{◌≡◌, ◌++◌, ◌<◌, [], Err, List, ℕ, OnOk, OnErr, length};
 ghost use Rattle.std.specs.Io.KnownBytes.{Appends};
 ghost use Rattle.point_core.specs.declared.refusal.Refusal.TheVariants.{Write};
+ghost use Rattle.report_core.specs.declared.writing.TheConstants.{WRITE_BYTES};
 ghost use Rattle.report_core.specs.Bytes.{AppendsFront};
 
 use point_core::Refusal;
@@ -9,6 +10,8 @@ use std::io::Write;
 
 /// Output is collected up to this many bytes before it is written.
 const WRITE_BYTES: usize = 8192;
+
+const _: () = prove!(WRITE_BYTES == 8192);
 
 /// Writes all of the bytes.
 ///
@@ -36,6 +39,7 @@ pub fn write_whole<W: Write>(writer: &mut W, bytes: &[u8]) -> Result<(), Refusal
 pub fn write_many<W: Write>(writer: &mut W, out: &mut Vec<u8>) -> Result<(), Refusal>
     ensures ok { OnOk result ((written : List ℕ) × (out.old.items ≡ written ++ out.new.items)
         × Appends (W.contents writer.old) (W.contents writer.new) written) }
+    ensures few { OnOk result (length out.new.items < WRITE_BYTES) }
     ensures refused { OnErr result (result ≡ Err Write) }
     ensures err { OnErr result (AppendsFront (W.contents writer.old) (W.contents writer.new) out.old.items) }
 {

@@ -73,3 +73,6 @@ returns-clause-ok g c =
     let passed = Passes-trans out c.pass_timelines.new.out.items c.pass_files.new.out.items first files _ _ _ c.in_ok-pass_timelines.ensures.ok c.in_ok-pass_files.ensures.ok in
     subst (λ text. PassesOn out c.pass_buffers.new.out.items text (g.W.Write.contents c.args.writer.now) (g.W.Write.contents c.pass_buffers.new.writer)) all
     (Passes-trans out c.pass_files.new.out.items c.pass_buffers.new.out.items (first ++ files) buffers _ _ _ passed c.in_ok-pass_buffers.ensures.ok)
+
+pub returns-clause-few : goal.returns-clause-few
+returns-clause-few g c = c.in_ok-pass_buffers.ensures.few (c.in_ok-pass_files.ensures.few c.in_ok-pass_timelines.ensures.few)
