@@ -24,3 +24,4 @@ pub use explorer::{STATES, explore};
 pub use found::{Found, Given};
 pub use list::SCHEDULED_CLIENTS;
 pub use plan::{Plan, Step};
+pub use position::line_at;

@@ -130,8 +130,8 @@ fn set(made: &mut [usize], client: usize, place: usize)
     }
 }
 
-/// The client's line at this place.
-pub(crate) fn line_at(plan: &Plan, client: usize, place: usize) -> Option<Step>
+/// The client's line at this place, unless the client has fewer lines. A script of a schedule takes its lines from here.
+pub fn line_at(plan: &Plan, client: usize, place: usize) -> Option<Step>
     ensures { result ≡ slice_get (lines_of plan.now client) place }
 {
     let lines = plan.clients.get(client)?;
