@@ -1,5 +1,5 @@
 //! `Visit`: a desk at a state, on which one client after another tries its next line. A line that changes the desk takes it
-//! away from the state, and the state's schedule is run again on a fresh desk before another client goes. A search has one
+//! away from the state, and the state's schedule is run again on the emptied desk before another client goes. A search has one
 //! visit, which goes from state to state, since a desk takes kilobytes.
 ghost use Rattle.std.specs.Prelude.{◌≡◌, not, OnOk};
 ghost use Rattle.explore_core.specs.Schedule.{Standing, ComesTo};
@@ -33,7 +33,7 @@ impl Visit {
         self.has_left = true;
     }
 
-    /// Runs the state's schedule on a fresh desk, if the desk is away from the state.
+    /// Runs the state's schedule again on the emptied desk, if the desk is away from the state.
     pub(crate) fn come_back(&mut self, plan: &Plan, schedule: &[u16]) -> Result<(), AllocError>
         requires comes { ComesTo plan.now schedule.now (standing_of plan.now schedule.now) }
         ensures at { OnOk result (IsVisitOf self.old (standing_of plan.now schedule.now) →

@@ -1,6 +1,5 @@
-use Rattle.std.proofs.Common.{◌≡◌, ap, ◌∙◌, subst, [], length, replicate, Result, IfOk}
-use Rattle.point_core.specs.declared.refusal.Refusal.{Refusal}
-use Rattle.desk_core.specs.theorem.Desk.{DeskState, HasHistory}
+use Rattle.std.proofs.Common.{◌≡◌, ap, ◌∙◌, subst, [], length, replicate}
+use Rattle.desk_core.specs.theorem.Desk.{HasHistory}
 use Rattle.explore_core.specs.Schedule.{Lines, beginning, history_along}
 use Rattle.explore_core.specs.Search.{standing_of}
 use Rattle.explore_core.proofs.Trying.{clients-count}
@@ -11,10 +10,9 @@ returns c = record {
   at =
       let plan = c.args.plan.now in
       let clients : c.len.result ≡ length plan.clients = c.len.ensures ∙ c.plan.inside.clients.ok.0 ∙ clients-count plan _ (ap (λ (p : Lines). p.clients) c.plan.view_is) in
-      let empty = subst (λ (r : Result DeskState Refusal). IfOk r (λ (desk : DeskState). HasHistory desk [])) c.unwrap.ensures c.new.ensures.empty in
       let first = c.as_slice.ensures.value ∙ ap (λ (p : Lines). p.first) c.plan.view_is in
       c.in_ok-go_along.ensures.along (beginning plan) (standing_of plan c.args.schedule.now) (record {
-        desk = subst (λ cs. HasHistory c.make_all.new.desk (history_along [] cs)) first (c.in_ok-make_all.ensures.along [] empty);
+        desk = subst (λ cs. HasHistory c.make_all.new.desk (history_along [] cs)) first (c.in_ok-make_all.ensures.along [] c.clear.ensures.empty);
         made = c.in_ok-clear_made.ensures.none ∙ ap (λ n. replicate n 0) clients;
       }) c.requires.comes;
 }
