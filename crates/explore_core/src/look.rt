@@ -207,11 +207,9 @@ fn buffer_looks(alloc: Global, desk: &Desk, names: &[Name]) -> Result<Vec<Buffer
         let Ok(rows) = desk.buffer_rows(name) else {
             return Err(AllocError);
         };
-        // The rows have room for each timeline at each usage, 16 KiB. A copy has room only for its rows.
-        let tops = Vec::from_slice(alloc, rows.as_slice())?;
         looks.push(BufferLook {
             name: *name,
-            tops: Items::of(tops),
+            tops: Items::of(rows),
         })?;
     }
     Ok(looks)

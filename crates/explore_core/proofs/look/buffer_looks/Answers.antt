@@ -10,7 +10,7 @@ pub loop-name-preserved : goal.loop-name-preserved
 loop-name-preserved c =
     let look : List TopRow → BufferLook = λ tops. record { name = c.name-item.result; tops = tops } in
     rows-next (buffer_look c.args.desk.now) c.loop-name.looks.items c.push.new.self.items (look c.of.result) c.args.names.now c.loop-name.name-index c.name-item.result c.loop-name-test.true c.name-item.is
-    c.loop-name.invariant (ap look (c.of.ensures ∙ c.in_ok-tops.ensures.items ∙ c.as_slice.ensures.value ∙ c.in-Ok.ensures.rows)) c.in_ok-push.ensures.items
+    c.loop-name.invariant (ap look (c.of.ensures ∙ c.in-Ok.ensures.rows)) c.in_ok-push.ensures.items
 
 pub returns : goal.returns
 returns c = record {
