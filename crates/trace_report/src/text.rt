@@ -3,14 +3,11 @@
 ghost use Rattle.std.specs.Prelude.{◌≡◌, IfErr};
 ghost use Rattle.point_core.specs.declared.refusal.Refusal.TheVariants.{Memory};
 
-mod page;
-
 use crate::found::Listed;
 use crate::table::Content;
-use page::Page;
 use point_core::Refusal;
 use std::alloc::Global;
-use text_core::Part;
+use text_core::{Page, Part};
 use trace_core::{FenceKey, Pending, Summary, Tally, TimelineKey, Tracker, Wait};
 
 /// The counts of what was read, the fences that hang, the waits, the broken rules, and what each timeline did.
@@ -19,7 +16,8 @@ pub(crate) fn text_of(alloc: Global, content: Content<'_>) -> Result<Vec<u8>, Re
 {
     let mut page = Page::new(alloc);
     add_parts(&mut page, content);
-    page.finish()
+    let text = page.finish()?;
+    Ok(text)
 }
 
 fn add_parts(page: &mut Page, content: Content<'_>) {
