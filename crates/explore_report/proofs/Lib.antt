@@ -4,5 +4,7 @@ mod Marks
 mod Mistakes
 mod Places
 mod Readings
+mod Replaying
 mod Rows
 mod Running
+mod Scheduled

@@ -2,6 +2,7 @@
 ghost use Rattle.std.specs.Prelude.{◌≡◌, ◌++◌, ◌∷◌, [], IfOk, OnOk, map, slice_get};
 ghost use Rattle.explore_report.specs.Cases.{by_place, case_at, cases_of, client_cases, first_case, first_cases, is_of, judged, judged_of, line_cases, section_cases};
 ghost use Rattle.explore_core.specs.Alike.{answers_along};
+ghost use Rattle.explore_report.specs.Making.{case_commands, section_at};
 ghost use Rattle.desk_core.specs.theorem.World.{empty_world};
 
 use crate::context::Section;
@@ -29,15 +30,12 @@ pub(crate) struct Case {
 
 impl Case {
     /// The rows that are made up to this answer, and its own if it is a client's line.
-    pub(crate) fn making(
-        &self,
-        alloc: Global,
-        plan: &PlanScript<'_>,
-    ) -> Result<Making, AllocError> {
+    pub(crate) fn making(&self, alloc: Global, plan: &PlanScript<'_>) -> Result<Making, AllocError>
+        ensures makes { IfOk result (λ making. making.commands.items
+            ≡ case_commands plan.now.plan (section_at plan.now self.now.row) self.now.schedule.items) }
+    {
         let mut making = Making::of(alloc, plan, self.schedule.as_slice())?;
-        if let Section::Client(client) = plan.section_of(self.row) {
-            making.push_line(plan, client)?;
-        }
+        making.push_own(plan, plan.section_of(self.row))?;
         Ok(making)
     }
 }

@@ -8,6 +8,7 @@ mod case;
 mod cause;
 mod context;
 mod expected;
+pub mod laws;
 mod mark;
 mod mistake;
 mod objects;

@@ -4,6 +4,7 @@ ghost use Rattle.std.specs.Prelude.{◌≡◌, ◌+◌, IfErr, IfOk, drop, lengt
 ghost use Rattle.line_core.specs.Script.{lines_of};
 ghost use Rattle.explore_core.specs.Found.{CanBeExplored, IsAll, IsTrue};
 ghost use Rattle.explore_report.specs.Finding.{expectations, expected, expecting, expects};
+ghost use Rattle.explore_report.specs.Making.{section_at};
 ghost use Rattle.explore_report.specs.Reading.{IsReading};
 
 use crate::cause::Cause;
@@ -96,7 +97,9 @@ impl<'a> PlanScript<'a> {
         }
     }
 
-    pub(crate) fn section_of(&self, index: usize) -> Section {
+    pub(crate) fn section_of(&self, index: usize) -> Section
+        ensures { result ≡ section_at self.now index }
+    {
         match self.rows.get(index) {
             Some(row) => row.context.section,
             None => Section::Last,

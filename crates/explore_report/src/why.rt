@@ -23,11 +23,7 @@ pub(crate) fn add_stuck_lines(
     form: Form<'_>,
     page: &mut Page,
 ) {
-    let Ok(commands) = making.commands(report.alloc, report.plan) else {
-        page.fail();
-        return;
-    };
-    let Ok(made) = run(report.alloc, commands.as_slice()) else {
+    let Ok(made) = run(report.alloc, making.commands.as_slice()) else {
         page.fail();
         return;
     };

@@ -77,7 +77,7 @@ fn add_case(report: &Report<'_>, case: &Case, page: &mut Page) {
 
 fn add_case_steps(report: &Report<'_>, case: &Case, making: &mut Making, page: &mut Page) {
     let is_last = report.plan.section_of(case.row).is_same(Section::Last);
-    if is_last && making.push_section(report.plan, Section::Last).is_err() {
+    if is_last && making.push_last(report.plan).is_err() {
         page.fail();
     }
     let going = making.rows.len();
@@ -86,7 +86,7 @@ fn add_case_steps(report: &Report<'_>, case: &Case, making: &mut Making, page: &
 
 /// Each command with its answer; the commands from `going` on are refused.
 fn add_steps(report: &Report<'_>, making: &Making, going: usize, page: &mut Page) {
-    match making.answers(report.alloc, report.plan) {
+    match making.answers(report.alloc) {
         Ok(answers) => add_answers(report, making, answers.as_slice(), going, page),
         Err(_) => page.fail(),
     }
