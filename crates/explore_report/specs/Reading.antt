@@ -34,7 +34,8 @@ pub record IsTooLong (script : List ℕ) (m : Mistake) : Type 0 where
 -- the script is no plan: it is too long, or one of its lines makes it none; the first cause counts, and its first line
 pub record IsNoPlan (script : List ℕ) (m : Mistake) : Type 0 where
   pub none : IsPlanText script → ⊥
-  pub found : IsTooLong script m ⊎ ((length script ≤ SCRIPT_BYTES) × IsMistake (rows_of (lines_of script)) (length (lines_of script)) m)
+  pub found : IsTooLong script m
+      ⊎ ((length script ≤ SCRIPT_BYTES) × IsMistake (rows_of (lines_of script)) (length (lines_of script)) m)
 
 abbrev pub IsReading : List ℕ → Reading → Type 0
 IsReading script (reading.Plan p) = IsPlanOf script p
