@@ -12,7 +12,6 @@ pub mod laws;
 mod mark;
 mod mistake;
 mod objects;
-mod page;
 mod plan_script;
 mod report;
 mod row;

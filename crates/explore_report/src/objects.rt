@@ -2,13 +2,13 @@
 //! Commands, answers and names are printable ASCII.
 use crate::case::Case;
 use crate::expected::Finding;
-use crate::page::Page;
 use crate::plan_script::PlanScript;
 use crate::report::Report;
 use crate::schedule::Making;
 use crate::why::{Form, add_stuck_lines, add_why};
 use desk_core::Desk;
 use point_core::Refusal;
+use text_core::Page;
 
 pub(crate) fn json_of(report: &Report<'_>) -> Result<Vec<u8>, Refusal> {
     let mut page = Page::new(report.alloc);
@@ -17,7 +17,7 @@ pub(crate) fn json_of(report: &Report<'_>) -> Result<Vec<u8>, Refusal> {
     }
     add_rows(report, &mut page);
     add_totals(report, &mut page);
-    page.finish()
+    Ok(page.finish()?)
 }
 
 fn add_rows(report: &Report<'_>, page: &mut Page) {

@@ -2,7 +2,6 @@
 use crate::case::Case;
 use crate::context::Section;
 use crate::expected::Finding;
-use crate::page::Page;
 use crate::plan_script::PlanScript;
 use crate::report::Report;
 use crate::row::Row;
@@ -10,6 +9,7 @@ use crate::schedule::Making;
 use crate::why::{Form, add_stuck_lines, add_why};
 use desk_core::Desk;
 use point_core::Refusal;
+use text_core::Page;
 
 /// The most answers that are listed of a line.
 const LISTED: usize = 6;
@@ -32,7 +32,7 @@ pub(crate) fn text_of(
     } else {
         add_bound(report, &mut page);
     }
-    page.finish()
+    Ok(page.finish()?)
 }
 
 /// The schedule that gets stuck, and why each client waits.
@@ -204,7 +204,7 @@ fn add_expected(plan: &PlanScript<'_>, index: usize, page: &mut Page) {
             page.text(if note.begins_answer() {
                 "\" or \""
             } else {
-                "; "
+                "\" \""
             });
         }
         page.escaped(plan.expected(note));

@@ -1,12 +1,12 @@
 //! Why a client waits: what the desk refuses. The text of a report and its JSON say why for each client of a schedule that
 //! gets stuck.
-use crate::page::Page;
 use crate::report::Report;
 use crate::schedule::{Making, lacks_memory};
 use crate::{objects, text};
 use command_core::{Answer, Command};
 use desk_core::{Desk, run};
 use point_core::{Name, Point};
+use text_core::Page;
 
 /// A form of a report.
 #[derive(Clone, Copy)]

@@ -1,7 +1,6 @@
 //! The schedules of a report as scripts, which expect their answers: `fencectl check` passes them.
 use crate::case::Case;
 use crate::context::Section;
-use crate::page::Page;
 use crate::plan_script::PlanScript;
 use crate::report::Report;
 use crate::schedule::Making;
@@ -9,6 +8,7 @@ use command_core::Answer;
 use point_core::Refusal;
 use report_core::print;
 use std::alloc::Global;
+use text_core::Page;
 
 pub(crate) fn script_of(report: &Report<'_>, number: usize) -> Result<Option<Vec<u8>>, Refusal> {
     let mut page = Page::new(report.alloc);

@@ -34,7 +34,7 @@ impl Page {
 
     fn part(&mut self, part: &Part<'_>) {
         if push_parts(&mut self.text, &[*part]).is_err() {
-            self.is_short = true;
+            self.fail();
         }
     }
 
@@ -46,7 +46,7 @@ impl Page {
     /// Adds the bytes as they are.
     pub fn bytes(&mut self, bytes: &[u8]) {
         if self.text.extend_from_slice(bytes).is_err() {
-            self.is_short = true;
+            self.fail();
         }
     }
 
@@ -55,13 +55,14 @@ impl Page {
         self.part(&Part::Number(number));
     }
 
-    /// Adds a count, in decimal.
-    pub fn count(&mut self, count: usize) {
+    /// Adds a text, and a count behind it.
+    pub fn counted(&mut self, text: &str, count: usize) {
+        self.text(text);
         self.number(count as u64);
     }
 
-    /// Adds lines with `; ` between them, and bytes other than printable ASCII as in a Rust literal. A single quote needs no
-    /// escape between double ones.
+    /// Adds lines, as they are between quotes: each line has quotes of its own, and bytes other than printable ASCII are as in a
+    /// Rust literal. A single quote needs no escape between double ones.
     pub fn escaped(&mut self, lines: &[u8]) {
         let lines = lines.strip_suffix(b"\n").unwrap_or(lines);
         for byte in lines {
@@ -71,8 +72,8 @@ impl Page {
 
     fn escaped_byte(&mut self, byte: u8) {
         match byte {
-            b'\'' => self.bytes(b"'"),
-            b'\n' => self.bytes(b"; "),
+            b'\'' => self.text("'"),
+            b'\n' => self.text("\" \""),
             _ => self.escape(byte),
         }
     }
@@ -90,20 +91,23 @@ impl Page {
         self.text("\"");
     }
 
-    /// Adds a string of JSON, of a text that is printable ASCII.
-    pub fn string(&mut self, text: &[u8]) {
+    /// Adds the lines as strings of JSON, with commas between them. The lines are printable ASCII.
+    pub fn strings(&mut self, lines: &[u8]) {
+        let lines = lines.strip_suffix(b"\n").unwrap_or(lines);
         self.text("\"");
-        for byte in text {
+        for byte in lines {
             self.string_byte(*byte);
         }
         self.text("\"");
     }
 
     fn string_byte(&mut self, byte: u8) {
-        if matches!(byte, b'"' | b'\\') {
-            self.text("\\");
+        match byte {
+            b'"' => self.text("\\\""),
+            b'\\' => self.text("\\\\"),
+            b'\n' => self.text("\",\""),
+            _ => self.bytes(&[byte]),
         }
-        self.bytes(&[byte]);
     }
 
     /// Adds a comma, if something is before it.
@@ -111,6 +115,11 @@ impl Page {
         if follows {
             self.text(",");
         }
+    }
+
+    /// Remembers that memory was refused.
+    pub fn fail(&mut self) {
+        self.is_short = true;
     }
 
     /// The text.
