@@ -19,22 +19,22 @@ fn merge_and_look(rt: &HostRuntime, calls: &mut Calls, words: &Words, seat: &mut
     requires context { 1 ≤ words.now.contexts }
 {
     if let Ok(f) = plain(rt, calls, point(0, 5)) {
-        merge_with_other(rt, calls, &f, words, seat);
+        merge_with_other(rt, calls, words, seat, &f);
     }
 }
 
 fn merge_with_other(
     rt: &HostRuntime,
     calls: &mut Calls,
-    f: &SyncFile,
     words: &Words,
     seat: &mut Seat,
+    f: &SyncFile,
 )
     requires own { (seat.old.words ≡ words.now) × (1 < seat.old.parts) }
     requires context { 1 ≤ words.now.contexts }
 {
     if let Ok(g) = plain(rt, calls, point(1, 2)) {
-        merge_once_driven(rt, calls, f, &g, words, seat);
+        merge_once_driven(rt, calls, words, seat, f, &g);
     }
 }
 
@@ -42,26 +42,26 @@ fn merge_with_other(
 fn merge_once_driven(
     rt: &HostRuntime,
     calls: &mut Calls,
-    f: &SyncFile,
-    g: &SyncFile,
     words: &Words,
     seat: &mut Seat,
+    f: &SyncFile,
+    g: &SyncFile,
 )
     requires own { (seat.old.words ≡ words.now) × (1 < seat.old.parts) }
     requires context { 1 ≤ words.now.contexts }
 {
     drop(drive(rt, calls, words, seat, 5));
-    poll(rt, calls, f, words, seat);
-    wait(rt, calls, f, words, seat, 0);
-    wait(rt, calls, f, words, seat, 1);
-    if let Ok(m) = merge(rt, calls, f, g, words, seat) {
-        poll(rt, calls, &m, words, seat);
-        wait(rt, calls, &m, words, seat, 3);
+    poll(rt, calls, words, seat, f);
+    wait(rt, calls, words, seat, f, 0);
+    wait(rt, calls, words, seat, f, 1);
+    if let Ok(m) = merge(rt, calls, words, seat, f, g) {
+        poll(rt, calls, words, seat, &m);
+        wait(rt, calls, words, seat, &m, 3);
         look_elsewhere(rt, calls, &m, g);
     }
 }
 
-fn poll(rt: &HostRuntime, calls: &mut Calls, file: &SyncFile, words: &Words, seat: &mut Seat)
+fn poll(rt: &HostRuntime, calls: &mut Calls, words: &Words, seat: &mut Seat, file: &SyncFile)
     requires own { seat.old.words ≡ words.now }
     ensures same { (seat.new.words ≡ seat.old.words) × (seat.new.parts ≡ seat.old.parts) }
 {
@@ -72,9 +72,9 @@ fn poll(rt: &HostRuntime, calls: &mut Calls, file: &SyncFile, words: &Words, sea
 fn wait(
     rt: &HostRuntime,
     calls: &mut Calls,
-    file: &SyncFile,
     words: &Words,
     seat: &mut Seat,
+    file: &SyncFile,
     tries: u32,
 )
     requires own { seat.old.words ≡ words.now }
@@ -88,10 +88,10 @@ fn wait(
 fn merge(
     rt: &HostRuntime,
     calls: &mut Calls,
-    a: &SyncFile,
-    b: &SyncFile,
     words: &Words,
     seat: &mut Seat,
+    a: &SyncFile,
+    b: &SyncFile,
 ) -> Result<SyncFile, Refusal>
     requires own { seat.old.words ≡ words.now }
     ensures same { (seat.new.words ≡ seat.old.words) × (seat.new.parts ≡ seat.old.parts) }
@@ -115,7 +115,7 @@ fn show_merged(rt: &HostRuntime, calls: &mut Calls, merged: &Result<SyncFile, Re
 fn look_elsewhere(rt: &HostRuntime, calls: &mut Calls, m: &SyncFile, g: &SyncFile) {
     if let Ok((words, mut seat)) = words_of(rt, calls, 2, 0, 0) {
         look_at_unknown(rt, calls, &words, &mut seat);
-        look_while_driven(rt, calls, m, g, &words, &mut seat);
+        look_while_driven(rt, calls, &words, &mut seat, m, g);
     }
 }
 
@@ -125,7 +125,7 @@ fn look_at_unknown(rt: &HostRuntime, calls: &mut Calls, words: &Words, seat: &mu
     ensures same { (seat.new.words ≡ seat.old.words) × (seat.new.parts ≡ seat.old.parts) }
 {
     if let Ok(unknown) = plain(rt, calls, point(2, 1)) {
-        poll(rt, calls, &unknown, words, seat);
+        poll(rt, calls, words, seat, &unknown);
     }
 }
 
@@ -133,19 +133,19 @@ fn look_at_unknown(rt: &HostRuntime, calls: &mut Calls, words: &Words, seat: &mu
 fn look_while_driven(
     rt: &HostRuntime,
     calls: &mut Calls,
-    m: &SyncFile,
-    g: &SyncFile,
     words: &Words,
     seat: &mut Seat,
+    m: &SyncFile,
+    g: &SyncFile,
 )
     requires own { (seat.old.words ≡ words.now) × (1 < seat.old.parts) }
     requires context { 1 ≤ words.now.contexts }
 {
-    poll(rt, calls, m, words, seat);
+    poll(rt, calls, words, seat, m);
     if let Some(mut driver) = drive(rt, calls, words, seat, 4) {
-        look(rt, calls, m, g, words, seat);
+        look(rt, calls, words, seat, m, g);
         inc(rt, calls, words, &mut driver, 1);
-        look(rt, calls, m, g, words, seat);
+        look(rt, calls, words, seat, m, g);
     }
 }
 
@@ -153,14 +153,14 @@ fn look_while_driven(
 fn look(
     rt: &HostRuntime,
     calls: &mut Calls,
-    m: &SyncFile,
-    g: &SyncFile,
     words: &Words,
     seat: &mut Seat,
+    m: &SyncFile,
+    g: &SyncFile,
 )
     requires own { seat.old.words ≡ words.now }
     ensures own { seat.new.words ≡ words.now }
 {
-    poll(rt, calls, m, words, seat);
-    drop(merge(rt, calls, m, g, words, seat));
+    poll(rt, calls, words, seat, m);
+    drop(merge(rt, calls, words, seat, m, g));
 }
