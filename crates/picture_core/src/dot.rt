@@ -1,4 +1,6 @@
 //! Writes a graph in DOT, the language of Graphviz.
+ghost use Rattle.std.specs.Prelude.{◌≡◌, IfErr};
+ghost use Rattle.point_core.specs.declared.refusal.Refusal.TheVariants.{Memory};
 
 use crate::graph::{Edge, Graph, Node, Waiter, Waiting};
 use command_core::FileRow;
@@ -14,7 +16,9 @@ const START: &str = "digraph waits {\n\
 /// A graph as a DOT document, with an arrow from each waiter to the point for which it waits.
 ///
 /// Fails only with `Memory`.
-pub fn dot_text(alloc: Global, graph: &Graph) -> Result<Vec<u8>, Refusal> {
+pub fn dot_text(alloc: Global, graph: &Graph) -> Result<Vec<u8>, Refusal>
+    ensures memory { IfErr result (λ e. e ≡ Memory) }
+{
     let mut out = Vec::new(alloc);
     push_document(graph, &mut out)?;
     Ok(out)

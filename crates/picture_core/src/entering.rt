@@ -1,5 +1,6 @@
 //! Enters an accepted command into the history: the bars, steps, marks, links and watches that it adds or changes.
-ghost use Rattle.std.specs.Prelude.{◌≡◌, ◌∷◌, ◌++◌, [], suc, map, if◌then◌else◌, ◌==◌, OnOk};
+ghost use Rattle.std.specs.Prelude.{◌≡◌, ◌∷◌, ◌++◌, [], suc, map, if◌then◌else◌, ◌==◌, IfErr, OnOk};
+ghost use Rattle.point_core.specs.declared.refusal.Refusal.TheVariants.{Memory};
 ghost use Rattle.picture_core.specs.Bars.{bar_of, bars_after, closed_if, with_closed};
 ghost use Rattle.picture_core.specs.Watches.{AreWatchesAfter, IsRegistered, ended_if, fired_all, fired_by, with_ended};
 ghost use Rattle.picture_core.specs.Timelines.{made_in, models_of, raised_by, shut_if, stepped_if, timelines_after};
@@ -27,6 +28,7 @@ impl History {
         answer: &Answer,
         points: &[Point],
     ) -> Result<(), Refusal>
+        ensures memory { IfErr result (λ e. e ≡ Memory) }
         ensures columns { self.new.columns ≡ self.old.columns }
         ensures bars { OnOk result (self.new.bars.items ≡ bars_after column command.now self.old.bars.items) }
         ensures waits { self.new.waits ≡ self.old.waits }

@@ -1,5 +1,6 @@
 //! `Graph`: the waiters at the end of a run, and the points for which they wait. Each point on an edge is a node.
-ghost use Rattle.std.specs.Prelude.{◌≡◌, ◌⊎◌, ◌∷◌, ◌++◌, [], OnOk};
+ghost use Rattle.std.specs.Prelude.{◌≡◌, ◌⊎◌, ◌∷◌, ◌++◌, [], IfErr, OnOk};
+ghost use Rattle.point_core.specs.declared.refusal.Refusal.TheVariants.{Memory};
 ghost use Rattle.picture_core.specs.declared.graph.Node.TheVariants as kind;
 ghost use Rattle.picture_core.specs.Waits.{edge_to};
 
@@ -81,6 +82,7 @@ impl Graph {
     ///
     /// Fails only with `Memory`.
     pub fn add_node(&mut self, node: Node) -> Result<(), Refusal>
+        ensures memory { IfErr result (λ e. e ≡ Memory) }
         ensures nodes { OnOk result (self.new.nodes.items ≡ self.old.nodes.items ++ node ∷ []) }
         ensures edges { self.new.edges ≡ self.old.edges }
     {
@@ -91,6 +93,7 @@ impl Graph {
     ///
     /// Fails only with `Memory`.
     pub fn add_wait(&mut self, waiter: &Waiter, waiting: &Waiting) -> Result<(), Refusal>
+        ensures memory { IfErr result (λ e. e ≡ Memory) }
         ensures nodes { OnOk result ((self.new.nodes ≡ self.old.nodes)
             ⊎ (self.new.nodes.items ≡ self.old.nodes.items ++ kind.Point waiting.now ∷ [])) }
         ensures edges { OnOk result (self.new.edges.items

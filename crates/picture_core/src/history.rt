@@ -1,5 +1,6 @@
 //! `History`: the columns and lanes of a run, as `draw_core` records them. The picture shows exactly this.
-ghost use Rattle.std.specs.Prelude.{◌≡◌, ◌∷◌, ◌++◌, [], false, OnOk};
+ghost use Rattle.std.specs.Prelude.{◌≡◌, ◌∷◌, ◌++◌, [], false, IfErr, OnOk};
+ghost use Rattle.point_core.specs.declared.refusal.Refusal.TheVariants.{Memory};
 ghost use Rattle.picture_core.specs.Lanes.{AreNone};
 ghost use Rattle.picture_core.specs.Timelines.{model_of, shut_if, stepped_if, steps_with};
 ghost use Rattle.picture_core.specs.Watches.{ended_if, is_pending};
@@ -223,6 +224,7 @@ impl History {
     ///
     /// Fails only with `Memory`.
     pub fn add_column(&mut self, column: Column) -> Result<(), Refusal>
+        ensures memory { IfErr result (λ e. e ≡ Memory) }
         ensures columns { OnOk result (self.new.columns.items ≡ self.old.columns.items ++ column ∷ []) }
         ensures bars { self.new.bars ≡ self.old.bars }
         ensures lanes { self.new.lanes ≡ self.old.lanes }
@@ -236,6 +238,7 @@ impl History {
     ///
     /// Fails only with `Memory`.
     pub fn add_wait(&mut self, wait: BarWait) -> Result<(), Refusal>
+        ensures memory { IfErr result (λ e. e ≡ Memory) }
         ensures columns { self.new.columns ≡ self.old.columns }
         ensures bars { self.new.bars ≡ self.old.bars }
         ensures lanes { self.new.lanes ≡ self.old.lanes }

@@ -1,4 +1,6 @@
 //! Writes a picture as an SVG document. Every text is escaped.
+ghost use Rattle.std.specs.Prelude.{◌≡◌, IfErr};
+ghost use Rattle.point_core.specs.declared.refusal.Refusal.TheVariants.{Memory};
 
 use crate::graph::Waiting;
 use crate::history::{Column, History};
@@ -13,7 +15,9 @@ use text_core::{Part, push_inert_byte, push_parts};
 /// The picture of a history as a complete SVG document.
 ///
 /// Fails only with `Memory`.
-pub fn svg_text(alloc: Global, picture: &Picture, history: &History) -> Result<Vec<u8>, Refusal> {
+pub fn svg_text(alloc: Global, picture: &Picture, history: &History) -> Result<Vec<u8>, Refusal>
+    ensures memory { IfErr result (λ e. e ≡ Memory) }
+{
     let mut out = Vec::new(alloc);
     push_document(picture, history, &mut out)?;
     Ok(out)
