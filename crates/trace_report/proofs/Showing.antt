@@ -20,7 +20,7 @@ use Rattle.trace_core.specs.Names.{name_or_none}
 use Rattle.trace_core.specs.Reading.{GoesOn, HasRead, is_end, stage_at}
 use Rattle.trace_core.specs.Tracker.{AreSeen, Tracks}
 use Rattle.trace_core.proofs.Tracking.{named, none-given, none-seen}
-use Rattle.trace_report.specs.declared.events.page.Page.{Page}
+use Rattle.trace_report.specs.declared.events.page.EventPage.{EventPage}
 use Rattle.trace_report.specs.declared.events.Written.TheVariants.{Document, NoEvents}
 use Rattle.trace_report.specs.TraceEvent.{head}
 use Rattle.trace_report.specs.Block.{Passes}
@@ -44,7 +44,7 @@ same-slices t printed items seen earlier tracks =
     ap (λ d. slices_of d (name_or_none t.timelines seen.sighting.key.timeline) seen) (ap (λ o. unwrap_or o []) names.0)
     ∙ ap (λ n. slices_of printed.driver n seen) (ap (λ o. unwrap_or o []) names.1)
 
-module _ (span : Span) (old new : Reading) (told t : Tracker) (page more : Page) (text rest later before now after : Option (List ℕ)) (h : HasAdded span old told page text rest before now) where
+module _ (span : Span) (old new : Reading) (told t : Tracker) (page more : EventPage) (text rest later before now after : Option (List ℕ)) (h : HasAdded span old told page text rest before now) where
   over : {items : List Meaning} → HasRead span new t text later items h.seen → (more ≡ page) × (after ≡ now) → HasAdded span new t more text later before after
   over {items} read same = record {
     items = items;
@@ -54,7 +54,7 @@ module _ (span : Span) (old new : Reading) (told t : Tracker) (page more : Page)
     none = λ none. same.1 ∙ h.none none;
   }
 
-  within : (seen : Seen) (printed : Printed) → HasRead span new t text later (Event printed ∷ h.items) ((seen, printed) ∷ h.seen) → stage_at span ((seen, printed) ∷ h.seen) ≡ Within → (middle : Page) → Grows page middle (slices_of (name_or_none t.drivers seen.sighting.key.driver) (name_or_none t.timelines seen.sighting.key.timeline) seen) → Passes middle.held.items more.held.items now after → HasAdded span new t more text later before after
+  within : (seen : Seen) (printed : Printed) → HasRead span new t text later (Event printed ∷ h.items) ((seen, printed) ∷ h.seen) → stage_at span ((seen, printed) ∷ h.seen) ≡ Within → (middle : EventPage) → Grows page middle (slices_of (name_or_none t.drivers seen.sighting.key.driver) (name_or_none t.timelines seen.sighting.key.timeline) seen) → Passes middle.held.items more.held.items now after → HasAdded span new t more text later before after
   within seen printed read stage middle grown passed =
       let is = ap (λ s. slices_within span h.seen ++ s) (same-slices t printed h.items seen h.seen read.tracks ∙ sym (ap (λ s. slices_during s (seen, printed)) stage)) in
       record {
@@ -86,7 +86,7 @@ module _ (span : Span) (old new : Reading) (told t : Tracker) (page more : Page)
   added next.Begin goes adds = over goes adds
   added next.End goes adds = over goes.0 adds
 
-module _ (span : Span) (old new : Reading) (told t : Tracker) (page : Page) (text rest later before now : Option (List ℕ)) (h : HasAdded span old told page text rest before now) where
+module _ (span : Span) (old new : Reading) (told t : Tracker) (page : EventPage) (text rest later before now : Option (List ℕ)) (h : HasAdded span old told page text rest before now) where
   pub added-all : (n : Next) → is_end n ≡ true → GoesOn span new t text later h.items h.seen n → HasAddedAll span t page text later before now
   added-all next.End end goes = record {
     items = h.items;
@@ -107,7 +107,7 @@ pub each-pending : (ledger : Ledger) (steps : List Step) → IsLedgerOf ledger s
 each-pending ledger steps h once = record { each = is-alive ledger steps h; once = once }
 
 -- nothing was read
-pub added-none : (span : Span) (r : Reading) (t : Tracker) (page : Page) (text before : Option (List ℕ)) → HasRead span r t text text [] [] → page.held.items ≡ head → HasAdded span r t page text text before before
+pub added-none : (span : Span) (r : Reading) (t : Tracker) (page : EventPage) (text before : Option (List ℕ)) → HasRead span r t text text [] [] → page.held.items ≡ head → HasAdded span r t page text text before before
 added-none span r t page text before read begun = record {
   items = [];
   seen = [];
@@ -116,7 +116,7 @@ added-none span r t page text before read begun = record {
   none = λ _. refl;
 }
 
-module _ (span : Span) (t : Tracker) (page : Page) (text rest before after : Option (List ℕ)) (h : HasAddedAll span t page text rest before after) where
+module _ (span : Span) (t : Tracker) (page : EventPage) (text rest before after : Option (List ℕ)) (h : HasAddedAll span t page text rest before after) where
   pub no-events : events_in h.tracks.steps ≡ 0 → WritesTrace span text rest before after NoEvents
   no-events zero =
       let none = none-given h.tracks.steps h.seen h.tracks.saw.seen_are zero in

@@ -18,7 +18,7 @@ use Rattle.trace_core.specs.Names.{name_or_none}
 use Rattle.trace_core.specs.Pending.{is_pending_in, pending_among}
 use Rattle.trace_core.specs.Reading.{HasRead, HasReadWindow}
 use Rattle.trace_core.specs.Tracker.{Saw, Tracks}
-use Rattle.trace_report.specs.declared.events.page.Page.{Page}
+use Rattle.trace_report.specs.declared.events.page.EventPage.{EventPage}
 use Rattle.trace_report.specs.declared.events.Written.{Written}
 use Rattle.trace_report.specs.declared.events.Written.TheVariants.{Document, NoEvents}
 use Rattle.trace_report.specs.Block.{Passes}
@@ -26,9 +26,9 @@ use Rattle.trace_report.specs.EventPage.{Grows, HasWritten, WritesDocument}
 use Rattle.trace_report.specs.Slices.{Shown, slices_left, slices_of, slices_within}
 
 -- the slices of an event of the window are added, and nothing for any other piece
-abbrev pub Adds : Next → Tracker → Page → Page → Option (List ℕ) → Option (List ℕ) → Type 0
+abbrev pub Adds : Next → Tracker → EventPage → EventPage → Option (List ℕ) → Option (List ℕ) → Type 0
 Adds (next.Within seen) t old new before after =
-    (middle : Page) × Grows old middle (slices_of (name_or_none t.drivers seen.sighting.key.driver)
+    (middle : EventPage) × Grows old middle (slices_of (name_or_none t.drivers seen.sighting.key.driver)
     (name_or_none t.timelines seen.sighting.key.timeline) seen) × Passes middle.held.items new.held.items before after
 Adds (next.Before seen) t old new before after = (new ≡ old) × (after ≡ before)
 Adds (next.Lost events) t old new before after = (new ≡ old) × (after ≡ before)
@@ -38,7 +38,7 @@ Adds next.Other t old new before after = (new ≡ old) × (after ≡ before)
 Adds next.End t old new before after = (new ≡ old) × (after ≡ before)
 
 -- the text was read so far, and the slices of the window's events were added
-pub record HasAdded (span : Span) (r : Reading) (t : Tracker) (page : Page) (text rest before after : Option (List ℕ)) : Type 0 where
+pub record HasAdded (span : Span) (r : Reading) (t : Tracker) (page : EventPage) (text rest before after : Option (List ℕ)) : Type 0 where
   pub items : List Meaning
   pub seen : List (Seen × Printed)
   pub read : HasRead span r t text rest items seen
@@ -46,7 +46,7 @@ pub record HasAdded (span : Span) (r : Reading) (t : Tracker) (page : Page) (tex
   pub none : seen ≡ [] → after ≡ before
 
 -- the window was read, and the slices of its events were added
-pub record HasAddedAll (span : Span) (t : Tracker) (page : Page) (text rest before after : Option (List ℕ)) : Type 0 where
+pub record HasAddedAll (span : Span) (t : Tracker) (page : EventPage) (text rest before after : Option (List ℕ)) : Type 0 where
   pub items : List Meaning
   pub seen : List (Seen × Printed)
   pub window : HasReadWindow span text rest items seen

@@ -17,7 +17,7 @@ ghost use Rattle.trace_report.specs.Rows.{process_of};
 ghost use Rattle.trace_report.specs.Slices.{open_slice, slices_of, unfinished, waited, waits_of};
 
 use crate::events::event::{Kind, Losses, Rule, Slice, TraceEvent};
-use crate::events::page::Page;
+use crate::events::page::EventPage;
 use crate::events::part::{Names, Row};
 use crate::events::rows::{Place, Rows, Track, process_of_driver};
 use indexmap::{IndexMap, IndexSet};
@@ -47,7 +47,7 @@ struct Signal {
 #[derive(Drop)]
 pub(crate) struct Chart {
     alloc: Global,
-    pub(crate) page: Page,
+    pub(crate) page: EventPage,
     rows: Rows,
     // the first context of each timeline
     firsts: IndexMap<TimelineKey, u32>,
@@ -64,7 +64,7 @@ impl Chart {
     pub(crate) fn new(alloc: Global) -> Result<Chart, AllocError>
         ensures begun { IfOk result (λ chart. chart.page.held.items ≡ head) }
     {
-        let page = Page::new(alloc)?;
+        let page = EventPage::new(alloc)?;
         Ok(Chart {
             alloc,
             page,

@@ -1,4 +1,4 @@
-//! `Page`: trace events on their way to a writer. Text is held until it is a block, and then written whole, so that a long
+//! `EventPage`: trace events on their way to a writer. Text is held until it is a block, and then written whole, so that a long
 //! trace needs little memory.
 ghost use Rattle.std.specs.Prelude.{◌≡◌, ◌++◌, [], IfOk, IfErr, OnOk, option_to_list};
 ghost use Rattle.std.specs.Io.KnownBytes.{Appends};
@@ -20,18 +20,18 @@ const BLOCK_BYTES: usize = 16384;
 
 /// Trace events on their way to a writer.
 #[derive(Drop)]
-pub(crate) struct Page {
+pub(crate) struct EventPage {
     alloc: Global,
     held: Vec<u8>,
 }
 
-impl Page {
+impl EventPage {
     /// The head of the document, and no event.
-    pub(crate) fn new(alloc: Global) -> Result<Page, AllocError>
+    pub(crate) fn new(alloc: Global) -> Result<EventPage, AllocError>
         ensures begun { IfOk result (λ page. page.held.items ≡ head) }
     {
         let held = Vec::from_slice(alloc, b"{\"traceEvents\":[\n")?;
-        Ok(Page { alloc, held })
+        Ok(EventPage { alloc, held })
     }
 
     /// Adds an event.

@@ -3,7 +3,7 @@ use Rattle.std.specs.Prelude.{option_to_list}
 use Rattle.trace_report.specs.TraceEvent.{event_text}
 use Rattle.trace_report.specs.Slices.{slice_in}
 use Rattle.trace_report.proofs.Growing.{grows-one, one-slice}
-use Rattle.trace_report.proofs.events.page.Page.push.Goals as goal
+use Rattle.trace_report.proofs.events.page.EventPage.push.Goals as goal
 
 pub returns : goal.returns
 returns c =
