@@ -11,7 +11,7 @@ use Rattle.trace_core.specs.declared.pending.PendingKind.TheVariants.{Hang, Unkn
 use Rattle.trace_core.specs.declared.tracker.Seen.{Seen}
 use Rattle.trace_core.specs.declared.waits.Wait.{Wait}
 use Rattle.trace_core.specs.Names.{name_or_none}
-use Rattle.trace_report.specs.declared.events.event.Kind.TheVariants as kind
+use Rattle.trace_report.specs.declared.events.event.SliceKind.TheVariants as kind
 use Rattle.trace_report.specs.Slices.{IsInOrder, Shown, destroyed, left_by, of_fence, of_wait, open_slice, signalled, slices_by, unfinished, waited, waits_of}
 
 later : (time begin : ℕ) → begin ≤ max time begin

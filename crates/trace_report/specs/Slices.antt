@@ -15,8 +15,8 @@ use Rattle.trace_core.specs.declared.window.Stage.{Stage}
 use Rattle.trace_core.specs.declared.window.Stage.TheVariants.{Before, Within, After}
 use Rattle.trace_core.specs.Names.{name_or_none}
 use Rattle.trace_core.specs.Reading.{stage_at}
-use Rattle.trace_report.specs.declared.events.event.Kind.{Kind}
-use Rattle.trace_report.specs.declared.events.event.Kind.TheVariants as kind
+use Rattle.trace_report.specs.declared.events.event.SliceKind.{SliceKind}
+use Rattle.trace_report.specs.declared.events.event.SliceKind.TheVariants as kind
 use Rattle.trace_report.specs.declared.events.event.Slice.{Slice}
 use Rattle.trace_report.specs.declared.events.event.TraceEvent.{TraceEvent}
 use Rattle.trace_report.specs.declared.events.event.TraceEvent.TheVariants as event
@@ -116,7 +116,7 @@ slices_within span (seen ∷ earlier) =
     slices_within span earlier ++ slices_during (stage_at span (seen ∷ earlier)) seen
 
 -- a fence that is pending, up to a time
-abbrev pub open_slice : Kind → ℕ → Pending → Slice
+abbrev pub open_slice : SliceKind → ℕ → Pending → Slice
 open_slice what time fence = record { kind = what; begin = fence.since; end = max time fence.since; key = fence.key }
 
 -- a fence that is pending at the end: it hangs, or its signal may be lost; one without a number is not shown

@@ -4,10 +4,10 @@ use Rattle.std.specs.List.{flat_map}
 use Rattle.std.specs.Str.Lossy.{utf8_lossy}
 use Rattle.json.specs.Token.{Token, begin_object, end_object, key}
 use Rattle.json.specs.Print.{print}
-use Rattle.trace_report.specs.declared.events.part.Row.{Row}
-use Rattle.trace_report.specs.declared.events.part.Names.{Names}
-use Rattle.trace_report.specs.declared.events.event.Kind.{Kind}
-use Rattle.trace_report.specs.declared.events.event.Kind.TheVariants.{Signalled, Unseen, Destroyed, Hang, Unknown, Wait, Unfinished}
+use Rattle.trace_report.specs.declared.events.part.TrackRow.{TrackRow}
+use Rattle.trace_report.specs.declared.events.part.NamePair.{NamePair}
+use Rattle.trace_report.specs.declared.events.event.SliceKind.{SliceKind}
+use Rattle.trace_report.specs.declared.events.event.SliceKind.TheVariants.{Signalled, Unseen, Destroyed, Hang, Unknown, Wait, Unfinished}
 use Rattle.trace_report.specs.declared.events.event.Rule.{Rule}
 use Rattle.trace_report.specs.declared.events.event.Rule.TheVariants.{Overtaken, SignalledTwice}
 use Rattle.trace_report.specs.declared.events.event.Slice.{Slice}
@@ -30,11 +30,11 @@ abbrev pub named_tokens : List ℕ → ℕ → ℕ → List ℕ → List Token
 named_tokens what process thread name = object (text (codes "name") what ++ phase (codes "M") ++ at process thread
     ++ arguments (text (codes "name") (utf8_lossy name)))
 
-abbrev pub order_tokens : Row → ℕ → List Token
+abbrev pub order_tokens : TrackRow → ℕ → List Token
 order_tokens row place = object (text (codes "name") (codes "thread_sort_index") ++ phase (codes "M")
     ++ at row.process row.thread ++ arguments (count (codes "sort_index") place))
 
-abbrev pub category_of : Kind → List ℕ
+abbrev pub category_of : SliceKind → List ℕ
 category_of Signalled = codes "fence"
 category_of Unseen = codes "unseen"
 category_of Destroyed = codes "destroyed"
@@ -43,22 +43,22 @@ category_of Unknown = codes "unknown"
 category_of Wait = codes "wait"
 category_of Unfinished = codes "unfinished"
 
-abbrev pub fence_tokens : Slice → Names → List Token
+abbrev pub fence_tokens : Slice → NamePair → List Token
 fence_tokens slice names = arguments (fence slice.key names)
 
 -- A slice ends at or after its beginning, so the difference is its length.
-abbrev pub slice_tokens : Row → Slice → Names → List Token
+abbrev pub slice_tokens : TrackRow → Slice → NamePair → List Token
 slice_tokens row slice names = object (text (codes "name") (point_text slice.key.context slice.key.seqno)
     ++ text (codes "cat") (category_of slice.kind) ++ phase (codes "X")
     ++ count (codes "ts") slice.begin ++ count (codes "dur") (slice.end - slice.begin)
     ++ at row.process row.thread ++ fence_tokens slice names)
 
-abbrev pub flow_begin_tokens : Row → ℕ → ℕ → List Token
+abbrev pub flow_begin_tokens : TrackRow → ℕ → ℕ → List Token
 flow_begin_tokens row arrow_number time = object (text (codes "name") (codes "signal") ++ text (codes "cat") (codes "flow")
     ++ phase (codes "s") ++ arrow arrow_number time row)
 
 -- it binds to the slice that it is in
-abbrev pub flow_end_tokens : Row → ℕ → ℕ → List Token
+abbrev pub flow_end_tokens : TrackRow → ℕ → ℕ → List Token
 flow_end_tokens row arrow_number time = object (text (codes "name") (codes "signal") ++ text (codes "cat") (codes "flow")
     ++ phase (codes "f") ++ text (codes "bp") (codes "e") ++ arrow arrow_number time row)
 
@@ -67,7 +67,7 @@ rule_name Overtaken = codes "overtaken"
 rule_name SignalledTwice = codes "signalled twice"
 
 -- an instant of a process
-abbrev pub broken_tokens : Rule → ℕ → Slice → Names → List Token
+abbrev pub broken_tokens : Rule → ℕ → Slice → NamePair → List Token
 broken_tokens rule process slice names = object (text (codes "name") (rule_name rule) ++ text (codes "cat") (codes "broken")
     ++ phase (codes "i") ++ text (codes "s") (codes "p") ++ count (codes "ts") slice.end
     ++ at process process ++ fence_tokens slice names)

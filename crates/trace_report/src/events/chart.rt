@@ -16,10 +16,10 @@ ghost use Rattle.trace_report.specs.Slices.{Shown, destroyed, left_of, of_fence,
 ghost use Rattle.trace_report.specs.Rows.{process_of};
 ghost use Rattle.trace_report.specs.Slices.{open_slice, slices_of, unfinished, waited, waits_of};
 
-use crate::events::event::{Kind, Losses, Rule, Slice, TraceEvent};
+use crate::events::event::{Losses, Rule, Slice, SliceKind, TraceEvent};
 use crate::events::page::EventPage;
-use crate::events::part::{Names, Row};
-use crate::events::rows::{Place, Rows, Track, process_of_driver};
+use crate::events::part::{NamePair, TrackRow};
+use crate::events::rows::{RowPlace, Rows, Track, process_of_driver};
 use indexmap::{IndexMap, IndexSet};
 use point_core::Refusal;
 use std::alloc::{AllocError, Global};
@@ -38,8 +38,8 @@ const NO_LOSSES: Losses = Losses {
 
 /// The last signal of a fence that is not gone.
 #[derive(Clone, Copy)]
-struct Signal {
-    row: Row,
+struct LastSignal {
+    row: TrackRow,
     time: u64,
 }
 
@@ -53,7 +53,7 @@ pub(crate) struct Chart {
     firsts: IndexMap<TimelineKey, u32>,
     // the processes that have a name
     processes: IndexSet<u64>,
-    signals: IndexMap<FenceKey, Signal>,
+    signals: IndexMap<FenceKey, LastSignal>,
     losses: Losses,
     // how many arrows there are
     flows: u64,
@@ -145,10 +145,10 @@ impl Chart {
         self.add_rules(tracker, &seen.found, &slice)
     }
 
-    fn keep_signal(&mut self, slice: &Slice, row: Row) -> Result<(), AllocError>
+    fn keep_signal(&mut self, slice: &Slice, row: TrackRow) -> Result<(), AllocError>
         ensures page { self.new.page ≡ self.old.page }
     {
-        let signal = Signal {
+        let signal = LastSignal {
             row,
             time: slice.end,
         };
@@ -229,7 +229,7 @@ impl Chart {
     }
 
     /// The arrow to a wait.
-    fn add_arrow(&mut self, slice: &Slice, row: Row) -> Result<(), AllocError>
+    fn add_arrow(&mut self, slice: &Slice, row: TrackRow) -> Result<(), AllocError>
         ensures slices { OnOk result (Grows self.old.page self.new.page []) }
     {
         let Some(signal) = self.signal_within(slice) else {
@@ -243,7 +243,7 @@ impl Chart {
     }
 
     /// The last signal of the fence of a wait, if it came during the wait.
-    fn signal_within(&self, slice: &Slice) -> Option<Signal> {
+    fn signal_within(&self, slice: &Slice) -> Option<LastSignal> {
         let signal = *self.signals.get(&slice.key)?;
         if slice.begin <= signal.time && signal.time <= slice.end {
             Some(signal)
@@ -253,7 +253,7 @@ impl Chart {
     }
 
     /// Adds the slice of a fence. Gives its row.
-    fn add_fence(&mut self, tracker: &Tracker, slice: &Slice) -> Result<Row, AllocError>
+    fn add_fence(&mut self, tracker: &Tracker, slice: &Slice) -> Result<TrackRow, AllocError>
         ensures slices { OnOk result (Grows self.old.page self.new.page (of_fence
             (name_or_none tracker.now.drivers slice.now.key.driver)
             (name_or_none tracker.now.timelines slice.now.key.timeline) slice.now ∷ [])) }
@@ -274,7 +274,7 @@ impl Chart {
         pid: u32,
         task: &[u8],
         slice: &Slice,
-    ) -> Result<Row, AllocError>
+    ) -> Result<TrackRow, AllocError>
         ensures slices { OnOk result (Grows self.old.page self.new.page (of_wait pid
             (name_or_none tracker.now.drivers slice.now.key.driver)
             (name_or_none tracker.now.timelines slice.now.key.timeline) slice.now ∷ [])) }
@@ -311,8 +311,8 @@ impl Chart {
     fn begin_fence_row(
         &mut self,
         track: Track,
-        names: &Names<'_>,
-        place: &Place,
+        names: &NamePair<'_>,
+        place: &RowPlace,
     ) -> Result<(), AllocError>
         ensures slices { OnOk result (Grows self.old.page self.new.page []) }
     {
@@ -324,7 +324,7 @@ impl Chart {
     }
 
     /// Names a row that is new, and its process if that has no name.
-    fn begin_row(&mut self, process: &[u8], name: &[u8], place: &Place) -> Result<(), AllocError>
+    fn begin_row(&mut self, process: &[u8], name: &[u8], place: &RowPlace) -> Result<(), AllocError>
         ensures slices { OnOk result (Grows self.old.page self.new.page []) }
     {
         if !place.is_new {
@@ -413,8 +413,8 @@ impl Chart {
             (left_of tracker.now.drivers tracker.now.timelines time fence.now)) }
     {
         match fence.kind {
-            PendingKind::Hang => self.add_open(tracker, Kind::Hang, fence, time),
-            PendingKind::Unknown => self.add_open(tracker, Kind::Unknown, fence, time),
+            PendingKind::Hang => self.add_open(tracker, SliceKind::Hang, fence, time),
+            PendingKind::Unknown => self.add_open(tracker, SliceKind::Unknown, fence, time),
             PendingKind::Unnumbered => Ok(()),
         }
     }
@@ -422,7 +422,7 @@ impl Chart {
     fn add_open(
         &mut self,
         tracker: &Tracker,
-        kind: Kind,
+        kind: SliceKind,
         fence: &Pending,
         time: u64,
     ) -> Result<(), AllocError>
@@ -469,7 +469,7 @@ impl Chart {
             (unfinished tracker.now.drivers tracker.now.timelines time wait.now)) }
     {
         let slice = Slice {
-            kind: Kind::Unfinished,
+            kind: SliceKind::Unfinished,
             begin: wait.start,
             end: time.max(wait.start),
             key: wait.key,
@@ -484,9 +484,9 @@ fn signalled(seen: &Seen) -> Slice
     ensures { result ≡ signalled seen.now }
 {
     let (kind, begin) = if seen.life.pending > 0 {
-        (Kind::Signalled, seen.life.since)
+        (SliceKind::Signalled, seen.life.since)
     } else {
-        (Kind::Unseen, seen.sighting.time)
+        (SliceKind::Unseen, seen.sighting.time)
     };
     Slice {
         kind,
@@ -501,7 +501,7 @@ fn destroyed(seen: &Seen) -> Slice
     ensures { result ≡ destroyed seen.now }
 {
     Slice {
-        kind: Kind::Destroyed,
+        kind: SliceKind::Destroyed,
         begin: seen.life.since,
         end: seen.sighting.time.max(seen.life.since),
         key: seen.sighting.key,
@@ -513,7 +513,7 @@ fn waited(seen: &Seen, wait: &Wait) -> Slice
     ensures { result ≡ waited seen.now wait.now }
 {
     Slice {
-        kind: Kind::Wait,
+        kind: SliceKind::Wait,
         begin: wait.start,
         end: seen.sighting.time.max(wait.start),
         key: seen.sighting.key,
@@ -527,7 +527,7 @@ fn has_several(tracker: &Tracker, key: &FenceKey) -> bool {
 }
 
 /// The name of the rows of fences: `TIMELINE`, or `TIMELINE context N`.
-fn track_name(alloc: Global, track: Track, names: &Names<'_>) -> Result<Vec<u8>, AllocError> {
+fn track_name(alloc: Global, track: Track, names: &NamePair<'_>) -> Result<Vec<u8>, AllocError> {
     let mut name = Vec::new(alloc);
     let timeline = Part::Bytes(names.timeline);
     let pushed = match track {
@@ -542,10 +542,10 @@ fn track_name(alloc: Global, track: Track, names: &Names<'_>) -> Result<Vec<u8>,
 }
 
 /// The names of the fence's driver and of its timeline.
-fn names_of<'t>(tracker: &'t Tracker, key: &FenceKey) -> Names<'t>
+fn names_of<'t>(tracker: &'t Tracker, key: &FenceKey) -> NamePair<'t>
     ensures driver { result.driver.now ≡ name_or_none tracker.now.drivers key.now.driver }
     ensures timeline { result.timeline.now ≡ name_or_none tracker.now.timelines key.now.timeline }
 {
     let (driver, timeline) = tracker.names(&key.timeline_key());
-    Names { driver, timeline }
+    NamePair { driver, timeline }
 }

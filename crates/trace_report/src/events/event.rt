@@ -5,14 +5,14 @@ ghost use Rattle.trace_report.specs.TraceEvent.{broken_tokens, category_of, end_
 ghost use Rattle.trace_report.specs.TraceEvent.{flow_begin_tokens, flow_end_tokens, lost_tokens, named_tokens, order_tokens};
 ghost use Rattle.trace_report.specs.TraceEvent.{rule_name, slice_tokens};
 
-use crate::events::part::{Names, Part, Row, put_all};
+use crate::events::part::{EventPart, NamePair, TrackRow, put_all};
 use json::Writer;
 use std::alloc::{AllocError, Global};
 use trace_core::FenceKey;
 
 /// What a slice shows, from which its category follows.
 #[derive(Clone, Copy)]
-pub(crate) enum Kind {
+pub(crate) enum SliceKind {
     /// A fence, from making or emitting to its signal.
     Signalled,
     /// A signal of a fence that was not seen to be made.
@@ -32,7 +32,7 @@ pub(crate) enum Kind {
 /// A slice of time: what it shows, when it begins and ends, in microseconds, and the fence.
 #[derive(Clone, Copy)]
 pub(crate) struct Slice {
-    pub(crate) kind: Kind,
+    pub(crate) kind: SliceKind,
     pub(crate) begin: u64,
     pub(crate) end: u64,
     pub(crate) key: FenceKey,
@@ -63,17 +63,17 @@ pub(crate) enum TraceEvent<'a> {
     /// The name of a process.
     Process(u64, &'a [u8]),
     /// The name of a row.
-    Thread(Row, &'a [u8]),
+    Thread(TrackRow, &'a [u8]),
     /// A row's place among the rows of its process.
-    Order(Row, u64),
+    Order(TrackRow, u64),
     /// A fence or a wait.
-    Slice(Row, Slice, Names<'a>),
+    Slice(TrackRow, Slice, NamePair<'a>),
     /// The beginning of the arrow of that number, at a time within a slice of the row.
-    FlowBegin(Row, u64, u64),
+    FlowBegin(TrackRow, u64, u64),
     /// Its end.
-    FlowEnd(Row, u64, u64),
+    FlowEnd(TrackRow, u64, u64),
     /// A rule that the fence of a slice broke at its end, at the process of its driver.
-    Broken(Rule, u64, Slice, Names<'a>),
+    Broken(Rule, u64, Slice, NamePair<'a>),
     /// Lost events, and the time of what follows them.
     Lost(u64, Losses),
 }
@@ -142,30 +142,35 @@ fn put_named<'a>(
     ensures added { OnOk result (Adds writer.old writer.new (named_tokens what.now process thread name.now)) }
 {
     let parts = [
-        Part::Begin,
-        Part::Text("name", what),
-        Part::Text("ph", "M"),
-        Part::Row(Row { process, thread }),
-        Part::Arguments,
-        Part::Name("name", name),
-        Part::End,
-        Part::End,
+        EventPart::Begin,
+        EventPart::Text("name", what),
+        EventPart::Text("ph", "M"),
+        EventPart::Row(TrackRow { process, thread }),
+        EventPart::Arguments,
+        EventPart::Name("name", name),
+        EventPart::End,
+        EventPart::End,
     ];
     put_all(alloc, writer, &parts)
 }
 
-fn put_order(alloc: Global, writer: &mut Writer, row: &Row, place: u64) -> Result<(), AllocError>
+fn put_order(
+    alloc: Global,
+    writer: &mut Writer,
+    row: &TrackRow,
+    place: u64,
+) -> Result<(), AllocError>
     ensures added { OnOk result (Adds writer.old writer.new (order_tokens row.now place)) }
 {
     let parts = [
-        Part::Begin,
-        Part::Text("name", "thread_sort_index"),
-        Part::Text("ph", "M"),
-        Part::Row(*row),
-        Part::Arguments,
-        Part::Count("sort_index", place),
-        Part::End,
-        Part::End,
+        EventPart::Begin,
+        EventPart::Text("name", "thread_sort_index"),
+        EventPart::Text("ph", "M"),
+        EventPart::Row(*row),
+        EventPart::Arguments,
+        EventPart::Count("sort_index", place),
+        EventPart::End,
+        EventPart::End,
     ];
     put_all(alloc, writer, &parts)
 }
@@ -173,60 +178,60 @@ fn put_order(alloc: Global, writer: &mut Writer, row: &Row, place: u64) -> Resul
 fn put_slice(
     alloc: Global,
     writer: &mut Writer,
-    row: &Row,
+    row: &TrackRow,
     slice: &Slice,
-    names: &Names<'_>,
+    names: &NamePair<'_>,
 ) -> Result<(), AllocError>
     ensures added { OnOk result (Adds writer.old writer.new (slice_tokens row.now slice.now names.now)) }
 {
     let category = category_of(slice.kind);
     let length = slice.end.saturating_sub(slice.begin);
     let parts = [
-        Part::Begin,
-        Part::Point(slice.key),
-        Part::Text("cat", category),
-        Part::Text("ph", "X"),
-        Part::Count("ts", slice.begin),
-        Part::Count("dur", length),
-        Part::Row(*row),
-        Part::Arguments,
-        Part::Fence(slice.key, *names),
-        Part::End,
-        Part::End,
+        EventPart::Begin,
+        EventPart::Point(slice.key),
+        EventPart::Text("cat", category),
+        EventPart::Text("ph", "X"),
+        EventPart::Count("ts", slice.begin),
+        EventPart::Count("dur", length),
+        EventPart::Row(*row),
+        EventPart::Arguments,
+        EventPart::Fence(slice.key, *names),
+        EventPart::End,
+        EventPart::End,
     ];
     put_all(alloc, writer, &parts)
 }
 
-fn category_of(kind: Kind) -> &'static str
+fn category_of(kind: SliceKind) -> &'static str
     ensures { result.now ≡ category_of kind }
 {
     match kind {
-        Kind::Signalled => "fence",
-        Kind::Unseen => "unseen",
-        Kind::Destroyed => "destroyed",
-        Kind::Hang => "hang",
-        Kind::Unknown => "unknown",
-        Kind::Wait => "wait",
-        Kind::Unfinished => "unfinished",
+        SliceKind::Signalled => "fence",
+        SliceKind::Unseen => "unseen",
+        SliceKind::Destroyed => "destroyed",
+        SliceKind::Hang => "hang",
+        SliceKind::Unknown => "unknown",
+        SliceKind::Wait => "wait",
+        SliceKind::Unfinished => "unfinished",
     }
 }
 
 fn put_flow_begin(
     alloc: Global,
     writer: &mut Writer,
-    row: &Row,
+    row: &TrackRow,
     number: u64,
     time: u64,
 ) -> Result<(), AllocError>
     ensures added { OnOk result (Adds writer.old writer.new (flow_begin_tokens row.now number time)) }
 {
     let parts = [
-        Part::Begin,
-        Part::Text("name", "signal"),
-        Part::Text("cat", "flow"),
-        Part::Text("ph", "s"),
-        Part::Arrow(number, time, *row),
-        Part::End,
+        EventPart::Begin,
+        EventPart::Text("name", "signal"),
+        EventPart::Text("cat", "flow"),
+        EventPart::Text("ph", "s"),
+        EventPart::Arrow(number, time, *row),
+        EventPart::End,
     ];
     put_all(alloc, writer, &parts)
 }
@@ -234,20 +239,20 @@ fn put_flow_begin(
 fn put_flow_end(
     alloc: Global,
     writer: &mut Writer,
-    row: &Row,
+    row: &TrackRow,
     number: u64,
     time: u64,
 ) -> Result<(), AllocError>
     ensures added { OnOk result (Adds writer.old writer.new (flow_end_tokens row.now number time)) }
 {
     let parts = [
-        Part::Begin,
-        Part::Text("name", "signal"),
-        Part::Text("cat", "flow"),
-        Part::Text("ph", "f"),
-        Part::Text("bp", "e"),
-        Part::Arrow(number, time, *row),
-        Part::End,
+        EventPart::Begin,
+        EventPart::Text("name", "signal"),
+        EventPart::Text("cat", "flow"),
+        EventPart::Text("ph", "f"),
+        EventPart::Text("bp", "e"),
+        EventPart::Arrow(number, time, *row),
+        EventPart::End,
     ];
     put_all(alloc, writer, &parts)
 }
@@ -258,23 +263,23 @@ fn put_broken(
     rule: Rule,
     process: u64,
     slice: &Slice,
-    names: &Names<'_>,
+    names: &NamePair<'_>,
 ) -> Result<(), AllocError>
     ensures added { OnOk result (Adds writer.old writer.new (broken_tokens rule process slice.now names.now)) }
 {
     let name = rule_name(rule);
     let parts = [
-        Part::Begin,
-        Part::Text("name", name),
-        Part::Text("cat", "broken"),
-        Part::Text("ph", "i"),
-        Part::Text("s", "p"),
-        Part::Count("ts", slice.end),
-        Part::Process(process),
-        Part::Arguments,
-        Part::Fence(slice.key, *names),
-        Part::End,
-        Part::End,
+        EventPart::Begin,
+        EventPart::Text("name", name),
+        EventPart::Text("cat", "broken"),
+        EventPart::Text("ph", "i"),
+        EventPart::Text("s", "p"),
+        EventPart::Count("ts", slice.end),
+        EventPart::Process(process),
+        EventPart::Arguments,
+        EventPart::Fence(slice.key, *names),
+        EventPart::End,
+        EventPart::End,
     ];
     put_all(alloc, writer, &parts)
 }
@@ -297,19 +302,19 @@ fn put_lost(
     ensures added { OnOk result (Adds writer.old writer.new (lost_tokens time losses.now)) }
 {
     let parts = [
-        Part::Begin,
-        Part::Text("name", "events were lost"),
-        Part::Text("cat", "lost"),
-        Part::Text("ph", "i"),
-        Part::Text("s", "g"),
-        Part::Count("ts", time),
-        Part::Process(0),
-        Part::Arguments,
-        Part::Count("lines", losses.lines),
-        Part::Count("events", losses.events),
-        Part::Count("late_buffers", losses.late_buffers),
-        Part::End,
-        Part::End,
+        EventPart::Begin,
+        EventPart::Text("name", "events were lost"),
+        EventPart::Text("cat", "lost"),
+        EventPart::Text("ph", "i"),
+        EventPart::Text("s", "g"),
+        EventPart::Count("ts", time),
+        EventPart::Process(0),
+        EventPart::Arguments,
+        EventPart::Count("lines", losses.lines),
+        EventPart::Count("events", losses.events),
+        EventPart::Count("late_buffers", losses.late_buffers),
+        EventPart::End,
+        EventPart::End,
     ];
     put_all(alloc, writer, &parts)
 }
@@ -318,14 +323,14 @@ fn put_end(alloc: Global, writer: &mut Writer, time: u64) -> Result<(), AllocErr
     ensures added { OnOk result (Adds writer.old writer.new (end_tokens time)) }
 {
     let parts = [
-        Part::Begin,
-        Part::Text("name", "end of the trace"),
-        Part::Text("cat", "end"),
-        Part::Text("ph", "i"),
-        Part::Text("s", "g"),
-        Part::Count("ts", time),
-        Part::Process(0),
-        Part::End,
+        EventPart::Begin,
+        EventPart::Text("name", "end of the trace"),
+        EventPart::Text("cat", "end"),
+        EventPart::Text("ph", "i"),
+        EventPart::Text("s", "g"),
+        EventPart::Count("ts", time),
+        EventPart::Process(0),
+        EventPart::End,
     ];
     put_all(alloc, writer, &parts)
 }

@@ -1,4 +1,4 @@
-//! `Part`: members of a trace event's object, each with its tokens (`specs/EventPart.antt`).
+//! `EventPart`: members of a trace event's object, each with its tokens (`specs/EventPart.antt`).
 ghost use Rattle.std.specs.Prelude.{◌≡◌, ◌++◌, OnOk, codes};
 ghost use Rattle.std.specs.Str.Lossy.{utf8_lossy};
 ghost use Rattle.std.specs.String.{string_bytes};
@@ -14,21 +14,21 @@ use trace_core::FenceKey;
 
 /// A row: a thread of a process, by their numbers.
 #[derive(Clone, Copy)]
-pub(crate) struct Row {
+pub(crate) struct TrackRow {
     pub(crate) process: u64,
     pub(crate) thread: u64,
 }
 
 /// The names of a driver and of its timeline.
 #[derive(Clone, Copy)]
-pub(crate) struct Names<'a> {
+pub(crate) struct NamePair<'a> {
     pub(crate) driver: &'a [u8],
     pub(crate) timeline: &'a [u8],
 }
 
 /// A part of a trace event: members of its object, or where an object begins or ends.
 #[derive(Clone, Copy)]
-pub(crate) enum Part<'a> {
+pub(crate) enum EventPart<'a> {
     Begin,
     /// The member `args`, whose object begins.
     Arguments,
@@ -40,20 +40,20 @@ pub(crate) enum Part<'a> {
     /// The name of a fence: its context and its seqno, as `120:31`.
     Point(FenceKey),
     /// The row of the event.
-    Row(Row),
+    Row(TrackRow),
     /// The row of an event of the whole process: the thread with the number of the process.
     Process(u64),
     /// The number of an arrow, and the time and the row of one of its ends.
-    Arrow(u64, u64, Row),
+    Arrow(u64, u64, TrackRow),
     /// What a fence is.
-    Fence(FenceKey, Names<'a>),
+    Fence(FenceKey, NamePair<'a>),
 }
 
 /// Writes the parts, one after another.
 pub(crate) fn put_all(
     alloc: Global,
     writer: &mut Writer,
-    parts: &[Part<'_>],
+    parts: &[EventPart<'_>],
 ) -> Result<(), AllocError>
     ensures added { OnOk result (Adds writer.old writer.new (tokens_of parts.now)) }
 {
@@ -63,21 +63,21 @@ pub(crate) fn put_all(
     Ok(())
 }
 
-fn put(alloc: Global, writer: &mut Writer, part: &Part<'_>) -> Result<(), AllocError>
+fn put(alloc: Global, writer: &mut Writer, part: &EventPart<'_>) -> Result<(), AllocError>
     ensures added { OnOk result (Adds writer.old writer.new (tokens_in part.now)) }
 {
     match part {
-        Part::Begin => writer.begin_object(),
-        Part::Arguments => put_arguments(writer),
-        Part::End => writer.end_object(),
-        Part::Text(name, value) => put_text(writer, name, value),
-        Part::Name(name, value) => put_name(alloc, writer, name, value),
-        Part::Count(name, value) => put_count(writer, name, *value),
-        Part::Point(key) => put_point(alloc, writer, key),
-        Part::Row(row) => put_at(writer, row.process, row.thread),
-        Part::Process(process) => put_at(writer, *process, *process),
-        Part::Arrow(number, time, row) => put_arrow(writer, *number, *time, row),
-        Part::Fence(key, names) => put_fence(alloc, writer, key, names),
+        EventPart::Begin => writer.begin_object(),
+        EventPart::Arguments => put_arguments(writer),
+        EventPart::End => writer.end_object(),
+        EventPart::Text(name, value) => put_text(writer, name, value),
+        EventPart::Name(name, value) => put_name(alloc, writer, name, value),
+        EventPart::Count(name, value) => put_count(writer, name, *value),
+        EventPart::Point(key) => put_point(alloc, writer, key),
+        EventPart::Row(row) => put_at(writer, row.process, row.thread),
+        EventPart::Process(process) => put_at(writer, *process, *process),
+        EventPart::Arrow(number, time, row) => put_arrow(writer, *number, *time, row),
+        EventPart::Fence(key, names) => put_fence(alloc, writer, key, names),
     }
 }
 
@@ -113,7 +113,7 @@ fn put_at(writer: &mut Writer, process: u64, thread: u64) -> Result<(), AllocErr
     Ok(())
 }
 
-fn put_arrow(writer: &mut Writer, number: u64, time: u64, row: &Row) -> Result<(), AllocError>
+fn put_arrow(writer: &mut Writer, number: u64, time: u64, row: &TrackRow) -> Result<(), AllocError>
     ensures added { OnOk result (Adds writer.old writer.new (arrow number time row.now)) }
 {
     put_count(writer, "id", number)?;
@@ -126,7 +126,7 @@ fn put_fence(
     alloc: Global,
     writer: &mut Writer,
     key: &FenceKey,
-    names: &Names<'_>,
+    names: &NamePair<'_>,
 ) -> Result<(), AllocError>
     ensures added { OnOk result (Adds writer.old writer.new (fence key.now names.now)) }
 {

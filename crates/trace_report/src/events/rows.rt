@@ -4,7 +4,7 @@ ghost use Rattle.std.specs.Prelude.{◌≡◌, IfOk};
 ghost use Rattle.trace_report.specs.Rows.{process_of};
 ghost use Rattle.trace_report.specs.Slices.{process_of_driver};
 
-use crate::events::part::Row;
+use crate::events::part::TrackRow;
 use indexmap::IndexSet;
 use std::alloc::{AllocError, Global};
 use std::collections::BTreeSet;
@@ -58,8 +58,8 @@ struct Used {
 
 /// The row of a slice, and whether the row is new.
 #[derive(Clone, Copy)]
-pub(crate) struct Place {
-    pub(crate) row: Row,
+pub(crate) struct RowPlace {
+    pub(crate) row: TrackRow,
     /// Whether it is the first slice of the row.
     pub(crate) is_new: bool,
     /// The place of its track among all, by first use.
@@ -84,7 +84,12 @@ impl Rows {
 
     /// A row of the track on which each slice ended before `begin`: the one that was left last, or a new one if there is none. That no
     /// slices of a row overlap is tested, not proved.
-    pub(crate) fn place(&mut self, track: Track, begin: u64, end: u64) -> Result<Place, AllocError>
+    pub(crate) fn place(
+        &mut self,
+        track: Track,
+        begin: u64,
+        end: u64,
+    ) -> Result<RowPlace, AllocError>
         ensures process { IfOk result (λ place. place.row.process ≡ process_of track) }
     {
         let Ok((number, is_first)) = self.tracks.insert_full(track) else {
@@ -101,8 +106,8 @@ impl Rows {
             end,
             thread,
         })?;
-        Ok(Place {
-            row: Row {
+        Ok(RowPlace {
+            row: TrackRow {
                 process: track.process(),
                 thread,
             },
