@@ -2,8 +2,8 @@
 use Rattle.std.specs.Prelude.{◌≡◌, ◌⊎◌, ℕ, Bool, true}
 use Rattle.check_core.specs.declared.outcome.Verdict.{Verdict}
 use Rattle.check_core.specs.declared.outcome.Verdict.TheVariants.{Passed, Differs, Failed}
-use Rattle.trace_report.specs.declared.report.Outcome.{Outcome}
-use Rattle.trace_report.specs.declared.report.Outcome.TheVariants.{Sound, Broken, NoEvents}
+use Rattle.trace_report.specs.declared.report.TraceOutcome.{TraceOutcome}
+use Rattle.trace_report.specs.declared.report.TraceOutcome.TheVariants.{Sound, Broken, NoEvents}
 use Rattle.trace_report.specs.declared.events.Written.{Written}
 use Rattle.trace_report.specs.declared.events.Written.TheVariants as written
 use Rattle.trace_script.specs.declared.text.Scripted.{Scripted}
@@ -16,7 +16,7 @@ check_status Differs = 1
 check_status Failed = 2
 
 -- 0 if nothing hangs and no rule is broken, 1 if something does, and 2 if there is no event of a fence
-abbrev pub outcome_status : Outcome → ℕ
+abbrev pub outcome_status : TraceOutcome → ℕ
 outcome_status Sound = 0
 outcome_status Broken = 1
 outcome_status NoEvents = 2

@@ -9,7 +9,7 @@ use crate::status::{ACCEPTED, REFUSED};
 use point_core::Refusal;
 use source_core::Source;
 use trace_core::Span;
-use trace_report::{Form, Outcome, Written, events_of_trace, report_trace};
+use trace_report::{ReportForm, TraceOutcome, Written, events_of_trace, report_trace};
 use trace_script::{Scripted, script_of_trace};
 
 /// The report on a text without an event of a fence.
@@ -136,16 +136,20 @@ fn report(rt: &HostRuntime, asked: &Trace<'_>) -> Result<u8, Refusal> {
     status_of_outcome(rt, outcome)
 }
 
-fn form_of(is_json: bool) -> Form {
-    if is_json { Form::Json } else { Form::Text }
+fn form_of(is_json: bool) -> ReportForm {
+    if is_json {
+        ReportForm::Json
+    } else {
+        ReportForm::Text
+    }
 }
 
-fn status_of_outcome(rt: &HostRuntime, outcome: Outcome) -> Result<u8, Refusal>
+fn status_of_outcome(rt: &HostRuntime, outcome: TraceOutcome) -> Result<u8, Refusal>
     ensures status { IfOk result (λ status. status ≡ outcome_status outcome) }
 {
     match outcome {
-        Outcome::Sound => Ok(ACCEPTED),
-        Outcome::Broken => Ok(REFUSED),
-        Outcome::NoEvents => report_no_events(rt),
+        TraceOutcome::Sound => Ok(ACCEPTED),
+        TraceOutcome::Broken => Ok(REFUSED),
+        TraceOutcome::NoEvents => report_no_events(rt),
     }
 }

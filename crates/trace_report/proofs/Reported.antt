@@ -8,8 +8,8 @@ use Rattle.trace_core.specs.declared.tracker.Tracker.{Tracker}
 use Rattle.trace_core.specs.History.{Step, every, events_in, tally_in}
 use Rattle.trace_core.specs.Reading.{HasTakenIn}
 use Rattle.trace_report.specs.declared.found.Listed.{Listed}
-use Rattle.trace_report.specs.declared.report.Outcome.{Outcome}
-use Rattle.trace_report.specs.declared.report.Outcome.TheVariants.{Sound, Broken, NoEvents}
+use Rattle.trace_report.specs.declared.report.TraceOutcome.{TraceOutcome}
+use Rattle.trace_report.specs.declared.report.TraceOutcome.TheVariants.{Sound, Broken, NoEvents}
 use Rattle.trace_report.specs.Found.{AreHangs, is_reported, listed_key}
 use Rattle.trace_report.specs.Report.{IsSound, IsVerdict, ReportsTrace, Shows, is_sound, whole}
 
@@ -39,7 +39,7 @@ module _ (steps : List Step) where
 
 -- the trace was read, and these are its steps
 module _ (t : Tracker) (text rest before after : Option (List ℕ)) (h : HasTakenIn whole t text rest) where
-  pub reported : (outcome : Outcome) → Shows h.tracks.steps before after outcome → ReportsTrace text rest before after outcome
+  pub reported : (outcome : TraceOutcome) → Shows h.tracks.steps before after outcome → ReportsTrace text rest before after outcome
   reported outcome shows = record {
     items = h.items;
     seen = h.seen;
@@ -52,7 +52,7 @@ module _ (t : Tracker) (text rest before after : Option (List ℕ)) (h : HasTake
     shows = shows;
   }
 
-  pub judged : (outcome : Outcome) → (events_in h.tracks.steps ≡ 0 → ⊥) → IsVerdict h.tracks.steps outcome → ReportsTrace text rest before after outcome
+  pub judged : (outcome : TraceOutcome) → (events_in h.tracks.steps ≡ 0 → ⊥) → IsVerdict h.tracks.steps outcome → ReportsTrace text rest before after outcome
   judged Sound some verdict = reported Sound (some, verdict)
   judged Broken some verdict = reported Broken (some, verdict)
   judged NoEvents some verdict = absurd verdict

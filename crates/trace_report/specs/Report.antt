@@ -11,8 +11,8 @@ use Rattle.trace_core.specs.History.{Forgets, Step, every, events_in, tally_in}
 use Rattle.trace_core.specs.Reading.{HasReadWindow}
 use Rattle.trace_core.specs.Tracker.{Saw}
 use Rattle.trace_report.specs.declared.found.Listed.{Listed}
-use Rattle.trace_report.specs.declared.report.Outcome.{Outcome}
-use Rattle.trace_report.specs.declared.report.Outcome.TheVariants.{Sound, Broken, NoEvents}
+use Rattle.trace_report.specs.declared.report.TraceOutcome.{TraceOutcome}
+use Rattle.trace_report.specs.declared.report.TraceOutcome.TheVariants.{Sound, Broken, NoEvents}
 use Rattle.trace_report.specs.Found.{is_reported}
 
 -- all times that a trace may have
@@ -33,19 +33,19 @@ are_none (fence ∷ fences) = false
 abbrev pub is_sound : List Listed → Tally → Bool
 is_sound fences total = (are_none fences && total.overtaken == 0) && total.signalled_twice == 0
 
-abbrev pub IsVerdict : List Step → Outcome → Type 0
+abbrev pub IsVerdict : List Step → TraceOutcome → Type 0
 IsVerdict steps Sound = IsSound steps
 IsVerdict steps Broken = IsSound steps → ⊥
 IsVerdict steps NoEvents = ⊥
 
 -- what a trace shows by its steps; of a trace without an event nothing is written
-abbrev pub Shows : List Step → Option (List ℕ) → Option (List ℕ) → Outcome → Type 0
+abbrev pub Shows : List Step → Option (List ℕ) → Option (List ℕ) → TraceOutcome → Type 0
 Shows steps before after NoEvents = (events_in steps ≡ 0) × (after ≡ before)
 Shows steps before after Sound = (events_in steps ≡ 0 → ⊥) × IsSound steps
 Shows steps before after Broken = (events_in steps ≡ 0 → ⊥) × (IsSound steps → ⊥)
 
 -- The trace was read to its end, and shows this. The newest items, events and steps come first.
-pub record ReportsTrace (text rest before after : Option (List ℕ)) (outcome : Outcome) : Type 0 where
+pub record ReportsTrace (text rest before after : Option (List ℕ)) (outcome : TraceOutcome) : Type 0 where
   pub items : List Meaning
   pub seen : List (Seen × Printed)
   pub drivers : Names

@@ -1,4 +1,4 @@
-//! `Found`: the fences that are pending at the end of a trace, grouped by timeline. It is proved that `hangs` has exactly
+//! `PendingFences`: the fences that are pending at the end of a trace, grouped by timeline. It is proved that `hangs` has exactly
 //! the fences that hang (`AreHangs`), and `unknown` those whose signals may have been lost (`AreUnknown`); the order and
 //! `unnumbered` are tested (`tests/traces`). `report_trace` makes it.
 ghost use Rattle.std.specs.Prelude.{◌≡◌, ◌++◌, [], ◌∷◌, List, map, IfOk, IfErr, OnOk};
@@ -23,7 +23,7 @@ pub(crate) struct Listed {
 
 /// The fences that are pending, grouped by timeline, in the order in which they were made.
 #[derive(Drop)]
-pub(crate) struct Found {
+pub(crate) struct PendingFences {
     /// The fences that hang.
     pub(crate) hangs: Vec<Listed>,
     /// The fences whose signals may have been lost.
@@ -32,9 +32,9 @@ pub(crate) struct Found {
     pub(crate) unnumbered: u64,
 }
 
-impl Found {
+impl PendingFences {
     /// What is pending, by what the ledger knows.
-    pub(crate) fn new(alloc: Global, ledger: &Ledger) -> Result<Found, Refusal>
+    pub(crate) fn new(alloc: Global, ledger: &Ledger) -> Result<PendingFences, Refusal>
         ensures hangs { IfOk result (λ f. (steps : List Step) →
             IsLedgerOf ledger.now steps → AreHangs steps f.hangs.items) }
         ensures unknown { IfOk result (λ f. (steps : List Step) →
@@ -47,7 +47,7 @@ impl Found {
         let unnumbered = split(pending.as_slice(), &mut hangs, &mut unknown)?;
         let hangs = ordered(alloc, hangs)?;
         let unknown = ordered(alloc, unknown)?;
-        Ok(Found {
+        Ok(PendingFences {
             hangs,
             unknown,
             unnumbered,

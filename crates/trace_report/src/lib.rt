@@ -15,4 +15,4 @@ mod table;
 mod text;
 
 pub use events::{Written, events_of_trace};
-pub use report::{Form, Outcome, report_trace};
+pub use report::{ReportForm, TraceOutcome, report_trace};

@@ -4,16 +4,16 @@ ghost use Rattle.std.specs.Prelude.{◌≡◌, ◌⊎◌, [], List, IfOk, IfErr,
 ghost use Rattle.point_core.specs.declared.refusal.Refusal.TheVariants.{Read as ReadFault, Write as WriteFault, Memory};
 ghost use Rattle.trace_core.specs.History.{Step, IsLedgerOf};
 ghost use Rattle.trace_core.specs.Tracker.{Tracks};
-ghost use Rattle.trace_report.specs.declared.report.Form.TheVariants.{Json};
-ghost use Rattle.trace_report.specs.declared.report.Outcome.TheVariants.{NoEvents};
+ghost use Rattle.trace_report.specs.declared.report.ReportForm.TheVariants.{Json};
+ghost use Rattle.trace_report.specs.declared.report.TraceOutcome.TheVariants.{NoEvents};
 ghost use Rattle.trace_report.specs.Document.{IsDocument, WritesDocument};
 ghost use Rattle.trace_report.specs.Found.{AreHangs};
 ghost use Rattle.trace_report.specs.Report.{IsVerdict, ReportsTrace, is_sound};
 
 use crate::document::document_of;
-use crate::found::{Found, Listed};
+use crate::found::{Listed, PendingFences};
 use crate::reading::read_trace;
-use crate::table::{Content, Timelines};
+use crate::table::{Content, PendingCounts};
 use crate::text::text_of;
 use point_core::Refusal;
 use report_core::write_whole;
@@ -23,14 +23,14 @@ use trace_core::{Tally, Tracker};
 
 /// How a report is written.
 #[derive(Clone, Copy)]
-pub enum Form {
+pub enum ReportForm {
     Text,
     Json,
 }
 
 /// What a trace shows.
 #[derive(Clone, Copy)]
-pub enum Outcome {
+pub enum TraceOutcome {
     /// Nothing hangs, and no rule is broken.
     Sound,
     /// A fence hangs, or a rule is broken.
@@ -45,10 +45,10 @@ pub enum Outcome {
 /// been written; after `Read` and `Memory` nothing was. A text of more pieces than 64 bits count is refused with `Read`.
 pub fn report_trace<R: Read, W: Write>(
     alloc: Global,
-    form: Form,
+    form: ReportForm,
     reader: &mut R,
     writer: &mut W,
-) -> Result<Outcome, Refusal>
+) -> Result<TraceOutcome, Refusal>
     // The verdict follows from the events of the text, and nothing is written of a text without one.
     ensures reported { IfOk result (ReportsTrace (R.remaining reader.old) (R.remaining reader.new)
         (W.contents writer.old) (W.contents writer.new)) }
@@ -64,11 +64,11 @@ pub fn report_trace<R: Read, W: Write>(
 
 fn read_and_report<R: Read, W: Write>(
     alloc: Global,
-    form: Form,
+    form: ReportForm,
     tracker: &mut Tracker,
     reader: &mut R,
     writer: &mut W,
-) -> Result<Outcome, Refusal>
+) -> Result<TraceOutcome, Refusal>
     requires fresh { Tracks tracker.old [] [] }
     ensures reported { IfOk result (ReportsTrace (R.remaining reader.old) (R.remaining reader.new)
         (W.contents writer.old) (W.contents writer.new)) }
@@ -78,9 +78,9 @@ fn read_and_report<R: Read, W: Write>(
 {
     read_trace(tracker, reader)?;
     if tracker.ledger.events() == 0 {
-        return Ok(Outcome::NoEvents);
+        return Ok(TraceOutcome::NoEvents);
     }
-    let found = Found::new(alloc, &tracker.ledger)?;
+    let found = PendingFences::new(alloc, &tracker.ledger)?;
     let outcome = write_report(alloc, form, tracker, &found, writer);
     drop(found);
     outcome
@@ -88,11 +88,11 @@ fn read_and_report<R: Read, W: Write>(
 
 fn write_report<W: Write>(
     alloc: Global,
-    form: Form,
+    form: ReportForm,
     tracker: &Tracker,
-    found: &Found,
+    found: &PendingFences,
     writer: &mut W,
-) -> Result<Outcome, Refusal>
+) -> Result<TraceOutcome, Refusal>
     ensures document { OnOk result (form ≡ Json → WritesDocument (W.contents writer.old) (W.contents writer.new)) }
     ensures verdict { IfOk result (λ outcome. (steps : List Step) → IsLedgerOf tracker.now.ledger steps →
         AreHangs steps found.now.hangs.items → IsVerdict steps outcome) }
@@ -107,14 +107,14 @@ fn write_report<W: Write>(
 /// are in memory too.
 fn report_of(
     alloc: Global,
-    form: Form,
+    form: ReportForm,
     tracker: &Tracker,
-    found: &Found,
+    found: &PendingFences,
 ) -> Result<Vec<u8>, Refusal>
     ensures document { IfOk result (λ bytes. form ≡ Json → IsDocument bytes.items) }
     ensures memory { IfErr result (λ e. e ≡ Memory) }
 {
-    let timelines = Timelines::new(alloc, found)?;
+    let timelines = PendingCounts::new(alloc, found)?;
     let content = Content {
         tracker,
         found,
@@ -125,26 +125,26 @@ fn report_of(
     bytes
 }
 
-fn bytes_of(alloc: Global, form: Form, content: Content<'_>) -> Result<Vec<u8>, Refusal>
+fn bytes_of(alloc: Global, form: ReportForm, content: Content<'_>) -> Result<Vec<u8>, Refusal>
     ensures document { IfOk result (λ bytes. form ≡ Json → IsDocument bytes.items) }
     ensures memory { IfErr result (λ e. e ≡ Memory) }
 {
     match form {
-        Form::Text => text_of(alloc, content),
-        Form::Json => document_of(alloc, content),
+        ReportForm::Text => text_of(alloc, content),
+        ReportForm::Json => document_of(alloc, content),
     }
 }
 
 /// The verdict on a trace that has events.
-fn outcome_of(tracker: &Tracker, found: &Found) -> Outcome
+fn outcome_of(tracker: &Tracker, found: &PendingFences) -> TraceOutcome
     ensures verdict { (steps : List Step) → IsLedgerOf tracker.now.ledger steps → AreHangs steps found.now.hangs.items
         → IsVerdict steps result }
 {
     let total = tracker.ledger.total();
     if is_sound(found.hangs.as_slice(), &total) {
-        Outcome::Sound
+        TraceOutcome::Sound
     } else {
-        Outcome::Broken
+        TraceOutcome::Broken
     }
 }
 

@@ -1,6 +1,6 @@
 //! `Content`: all that both forms of a report read, and how many fences of each timeline are pending.
 
-use crate::found::{Found, Listed};
+use crate::found::{Listed, PendingFences};
 use indexmap::IndexMap;
 use std::alloc::{AllocError, Global};
 use trace_core::{TimelineKey, Tracker};
@@ -9,27 +9,27 @@ use trace_core::{TimelineKey, Tracker};
 #[derive(Clone, Copy)]
 pub(crate) struct Content<'a> {
     pub(crate) tracker: &'a Tracker,
-    pub(crate) found: &'a Found,
-    pub(crate) timelines: &'a Timelines,
+    pub(crate) found: &'a PendingFences,
+    pub(crate) timelines: &'a PendingCounts,
 }
 
 /// How many fences of each timeline are pending.
 #[derive(Drop)]
-pub(crate) struct Timelines {
+pub(crate) struct PendingCounts {
     pending: IndexMap<TimelineKey, u64>,
 }
 
-impl Timelines {
+impl PendingCounts {
     /// Counts the fences that were found, by timeline.
     ///
     /// Fails only with `Memory`.
-    pub(crate) fn new(alloc: Global, found: &Found) -> Result<Timelines, AllocError> {
-        let mut timelines = Timelines {
+    pub(crate) fn new(alloc: Global, found: &PendingFences) -> Result<PendingCounts, AllocError> {
+        let mut counts = PendingCounts {
             pending: IndexMap::new(alloc),
         };
-        timelines.add(found.hangs.as_slice())?;
-        timelines.add(found.unknown.as_slice())?;
-        Ok(timelines)
+        counts.add(found.hangs.as_slice())?;
+        counts.add(found.unknown.as_slice())?;
+        Ok(counts)
     }
 
     /// How many fences of the timeline are pending, without fences that have no number yet.

@@ -1,7 +1,7 @@
 //! The members on what was read, and on what all fences did.
 
 use crate::document::writing::Document;
-use crate::found::Found;
+use crate::found::PendingFences;
 use text_core::JsonPart;
 use trace_core::{Summary, Tally, Tracker};
 
@@ -63,7 +63,7 @@ pub(crate) fn add_events(document: &mut Document, tracker: &Tracker) {
 }
 
 /// What all fences did.
-pub(crate) fn add_totals(document: &mut Document, total: &Tally, found: &Found) {
+pub(crate) fn add_totals(document: &mut Document, total: &Tally, found: &PendingFences) {
     let unknown = found.unknown.len() as u64;
     let hangs = found.hangs.len() as u64;
     let fences = hangs.saturating_add(unknown);

@@ -1,5 +1,5 @@
 use Rattle.std.proofs.Common.{◌≡◌}
-use Rattle.trace_report.specs.declared.report.Form.TheVariants.{Text, Json}
+use Rattle.trace_report.specs.declared.report.ReportForm.TheVariants.{Text, Json}
 use Rattle.trace_report.proofs.Writing.{ok-all, ok-then}
 use Rattle.trace_report.proofs.report.bytes_of.Goals as goal
 

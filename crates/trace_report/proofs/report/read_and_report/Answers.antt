@@ -1,5 +1,5 @@
 use Rattle.std.proofs.Common.{refl, arith, inl, inr}
-use Rattle.trace_report.specs.declared.report.Outcome.TheVariants.{NoEvents}
+use Rattle.trace_report.specs.declared.report.TraceOutcome.TheVariants.{NoEvents}
 use Rattle.trace_report.proofs.Reported.{judged, ok-then, reported}
 use Rattle.trace_report.proofs.Writing.{err-then, ok-some}
 use Rattle.trace_report.proofs.report.read_and_report.Goals as goal

@@ -4,7 +4,7 @@ use Rattle.std.specs.List.Sorted.{IsPermutation}
 use Rattle.std.specs.Map.{keys_of}
 use Rattle.trace_report.specs.Found.{is_hang, is_unknown, key_of, listed_key}
 use Rattle.trace_report.proofs.Finding.{are-hangs, are-unknown, hangs-among, unknown-among}
-use Rattle.trace_report.proofs.found.Found.new.Goals as goal
+use Rattle.trace_report.proofs.found.PendingFences.new.Goals as goal
 
 pub returns-clause-hangs : goal.returns-clause-hangs
 returns-clause-hangs c steps ledger =
