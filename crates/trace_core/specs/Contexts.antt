@@ -1,7 +1,7 @@
 -- What the fences of a context did.
 use Rattle.std.specs.Prelude.{ℕ, Bool, unwrap_or}
 use Rattle.std.specs.Map.{lookup}
-use Rattle.trace_core.specs.declared.contexts.Context.{Context}
+use Rattle.trace_core.specs.declared.contexts.ContextState.{ContextState}
 use Rattle.trace_core.specs.declared.contexts.Contexts.{Contexts}
 use Rattle.trace_core.specs.declared.finding.Finding.{Finding}
 use Rattle.trace_core.specs.declared.life.Life.{Life}
@@ -15,19 +15,19 @@ use Rattle.trace_core.specs.Points.{points_after}
 use Rattle.trace_core.specs.Tally.{none, tally_after}
 
 -- nothing is known of the context
-abbrev pub no_context : Context
+abbrev pub no_context : ContextState
 no_context = record { order = no_order; points = None; tally = none }
 
 -- what the context did
-abbrev pub context_at : Contexts → ContextKey → Context
+abbrev pub context_at : Contexts → ContextKey → ContextState
 context_at contexts key = unwrap_or (lookup (same_context key) contexts.by_key.entries) no_context
 
 -- what is found of an event, by what was known of its key, and whether no events were lost since
-abbrev pub found_of : Sighting → Life → Bool → Context → Finding
+abbrev pub found_of : Sighting → Life → Bool → ContextState → Finding
 found_of e life sure context = finding_of e.event e.key.seqno life context.points context.order sure
 
 -- the context after event number `at` of one of its fences, with what was found of it
-abbrev pub context_after : Sighting → ℕ → Finding → Context → Context
+abbrev pub context_after : Sighting → ℕ → Finding → ContextState → ContextState
 context_after e at found context = record {
   order = order_after e.event e.key.seqno at context.order;
   points = points_after e.key.seqno context.points;
@@ -35,5 +35,5 @@ context_after e at found context = record {
 }
 
 -- the context after event number `at` of one of its fences, by what was known of its key
-abbrev pub context_seen : Sighting → ℕ → Life → Bool → Context → Context
+abbrev pub context_seen : Sighting → ℕ → Life → Bool → ContextState → ContextState
 context_seen e at life sure context = context_after e at (found_of e life sure context) context

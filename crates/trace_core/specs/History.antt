@@ -1,6 +1,6 @@
 -- What a list of events says of fences, as folds over it. The list has the newest event first.
 use Rattle.std.specs.Prelude.{◌≡◌, ℕ, ⊤, ◌==◌, nat_le, nat_lt, Bool, true, ◌&&◌, if◌then◌else◌, List, [], ◌∷◌}
-use Rattle.trace_core.specs.declared.contexts.Context.{Context}
+use Rattle.trace_core.specs.declared.contexts.ContextState.{ContextState}
 use Rattle.trace_core.specs.declared.finding.Finding.{Finding}
 use Rattle.trace_core.specs.declared.ledger.Ledger.{Ledger}
 use Rattle.trace_core.specs.declared.life.Life.{Life}
@@ -50,7 +50,7 @@ abbrev pub is_sure : List Step → FenceKey → Bool
 is_sure steps key = nat_le (loss_in steps) (life_in steps key).born
 
 -- what the fences of a context did, since it was forgotten
-abbrev pub context_in : List Step → ContextKey → Context
+abbrev pub context_in : List Step → ContextKey → ContextState
 context_in [] key = no_context
 context_in (Seen e ∷ earlier) key =
     if same_context (context_of e.key) key
@@ -74,7 +74,7 @@ tally_in test (Lost ∷ earlier) = tally_in test earlier
 tally_in test (Forgot past ∷ earlier) = tally_in test earlier
 
 -- whether no fence of the key is alive, and it is the only one of its context
-abbrev pub is_past : Life → Context → FenceKey → Bool
+abbrev pub is_past : Life → ContextState → FenceKey → Bool
 is_past life context key = is_over life && is_only key.seqno context.points
 
 -- a context is forgotten only if all its events had one key and no fence of that key is alive

@@ -4,7 +4,7 @@ use Rattle.trace_core.specs.Item.{Meaning, Event, Other, Unread, Lost as LostEve
 use Rattle.trace_core.specs.Record.{Printed}
 use Rattle.trace_core.specs.declared.names.Names.{Names}
 use Rattle.trace_core.specs.declared.sighting.Sighting.{Sighting}
-use Rattle.trace_core.specs.declared.summary.Clock.{Clock}
+use Rattle.trace_core.specs.declared.summary.TraceClock.{TraceClock}
 use Rattle.trace_core.specs.declared.tracker.Seen.{Seen as SeenEvent}
 use Rattle.trace_core.specs.declared.tracker.Tracker.{Tracker}
 use Rattle.trace_core.specs.History.{Step, Seen, Lost, Forgot, IsLedgerOf, found_in, life_in}
@@ -75,7 +75,7 @@ AreSeen (Lost ∷ earlier) seen = AreSeen earlier seen
 AreSeen (Forgot key ∷ earlier) seen = AreSeen earlier seen
 
 -- the greatest time that was seen
-abbrev pub latest_of : Option Clock → ℕ
+abbrev pub latest_of : Option TraceClock → ℕ
 latest_of None = 0
 latest_of (Some clock) = clock.latest
 

@@ -22,15 +22,15 @@ pub const KEPT_CONTEXTS: usize = 4096;
 
 /// What the fences of a context did.
 #[derive(Clone, Copy)]
-pub struct Context {
+pub struct ContextState {
     pub order: Order,
     pub points: Points,
     pub tally: Tally,
 }
 
-impl Context {
+impl ContextState {
     /// A context without an event.
-    pub const NONE: Context = Context {
+    pub const NONE: ContextState = ContextState {
         order: Order::NONE,
         points: Points::None,
         tally: Tally::NONE,
@@ -66,7 +66,7 @@ impl Context {
 /// The contexts that are kept, each with what it did.
 #[derive(Drop)]
 pub struct Contexts {
-    by_key: IndexMap<ContextKey, Context>,
+    by_key: IndexMap<ContextKey, ContextState>,
 }
 
 impl Contexts {
@@ -79,18 +79,18 @@ impl Contexts {
         }
     }
 
-    /// What the context did, or `Context::NONE` if it was never seen or is forgotten.
-    pub fn context(&self, key: &ContextKey) -> Context
+    /// What the context did, or `ContextState::NONE` if it was never seen or is forgotten.
+    pub fn context(&self, key: &ContextKey) -> ContextState
         ensures { result ≡ context_at self.now key.now }
     {
         match self.by_key.get(key) {
             Some(context) => *context,
-            None => Context::NONE,
+            None => ContextState::NONE,
         }
     }
 
     /// The contexts with what they did, by first sight, except that the last one takes the place of one that is forgotten.
-    pub fn by_key(&self) -> &IndexMap<ContextKey, Context>
+    pub fn by_key(&self) -> &IndexMap<ContextKey, ContextState>
         ensures { result.now ≡ self.now.by_key }
     {
         &self.by_key
@@ -121,7 +121,7 @@ impl Contexts {
             context.see(sighting, at, &found);
             return Ok(found);
         }
-        let mut context = Context::NONE;
+        let mut context = ContextState::NONE;
         let found = context.found(sighting, life, sure);
         context.see(sighting, at, &found);
         let Ok(_old) = self.by_key.insert(key, context) else {

@@ -26,7 +26,7 @@ struct StepKey {
 
 /// How many times of a timeline there are, and the longest, in microseconds.
 #[derive(Clone, Copy)]
-struct Span {
+struct DelaySum {
     count: u64,
     longest: u64,
 }
@@ -46,7 +46,7 @@ pub struct Delay {
 #[derive(Drop)]
 pub struct Delays {
     steps: IndexMap<StepKey, u64>,
-    spans: IndexMap<TimelineKey, Span>,
+    spans: IndexMap<TimelineKey, DelaySum>,
 }
 
 impl Delays {
@@ -84,7 +84,7 @@ impl Delays {
             span.longest = span.longest.max(time);
             return Ok(());
         }
-        let span = Span {
+        let span = DelaySum {
             count: 1,
             longest: time,
         };
@@ -107,10 +107,10 @@ impl Delays {
         }
     }
 
-    fn span(&self, timeline: &TimelineKey) -> Span {
+    fn span(&self, timeline: &TimelineKey) -> DelaySum {
         match self.spans.get(timeline) {
             Some(span) => *span,
-            None => Span {
+            None => DelaySum {
                 count: 0,
                 longest: 0,
             },

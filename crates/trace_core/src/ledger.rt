@@ -16,7 +16,7 @@ use crate::life::Life;
 use crate::lives::Lives;
 use crate::sighting::{FenceKey, Sighting, TimelineKey};
 use crate::tally::Tally;
-use crate::timelines::Timelines;
+use crate::timelines::TimelineTallies;
 use point_core::Refusal;
 use std::alloc::Global;
 
@@ -37,7 +37,7 @@ pub struct Ledger {
     loss: u64,
     lives: Lives,
     contexts: Contexts,
-    timelines: Timelines,
+    timelines: TimelineTallies,
     total: Tally,
 }
 
@@ -51,7 +51,7 @@ impl Ledger {
             loss: 0,
             lives: Lives::new(alloc),
             contexts: Contexts::new(alloc),
-            timelines: Timelines::new(alloc),
+            timelines: TimelineTallies::new(alloc),
             total: Tally::NONE,
         }
     }
@@ -174,7 +174,7 @@ impl Ledger {
     }
 
     /// The timelines, by first sight.
-    pub fn timelines(&self) -> &Timelines
+    pub fn timelines(&self) -> &TimelineTallies
         ensures { result.now ≡ self.now.timelines }
     {
         &self.timelines

@@ -20,7 +20,7 @@ pub struct Counts {
 
 /// The times of a text's records, in microseconds.
 #[derive(Clone, Copy)]
-pub struct Clock {
+pub struct TraceClock {
     pub first: u64,
     /// The greatest timestamp (not the last one: timestamps may go backwards).
     pub latest: u64,
@@ -50,7 +50,7 @@ pub struct Summary {
     /// The processors that lack all events before some time, since their buffers started late: the first `LATE_BUFFERS`, in the
     /// order of the text.
     pub late_buffers: Vec<u32>,
-    pub clock: Option<Clock>,
+    pub clock: Option<TraceClock>,
 }
 
 impl Summary {
@@ -106,13 +106,13 @@ impl Summary {
             self.over_lines = self.over_lines.saturating_add(1);
         }
         self.clock = Some(match self.clock {
-            None => Clock {
+            None => TraceClock {
                 first: time,
                 latest: time,
                 last: time,
                 steps_back: 0,
             },
-            Some(clock) => Clock {
+            Some(clock) => TraceClock {
                 first: clock.first,
                 latest: clock.latest.max(time),
                 last: time,

@@ -1,4 +1,4 @@
-//! `Timelines`: the tally of each timeline, a fold over the timeline's events (`specs/Timelines.antt`).
+//! `TimelineTallies`: the tally of each timeline, a fold over the timeline's events (`specs/Timelines.antt`).
 ghost use Rattle.std.specs.Prelude.{◌≡◌, if◌then◌else◌, OnOk, IfErr};
 ghost use Rattle.point_core.specs.declared.refusal.Refusal.TheVariants.{Memory};
 ghost use Rattle.trace_core.specs.declared.sighting.TimelineKey.{TimelineKey};
@@ -15,16 +15,16 @@ use std::alloc::Global;
 
 /// The timelines, by first sight.
 #[derive(Drop)]
-pub struct Timelines {
+pub struct TimelineTallies {
     by_key: IndexMap<TimelineKey, Tally>,
 }
 
-impl Timelines {
+impl TimelineTallies {
     /// No timelines. Does not allocate.
-    pub fn new(alloc: Global) -> Timelines
+    pub fn new(alloc: Global) -> TimelineTallies
         ensures { (key : TimelineKey) → tally_at result key ≡ none }
     {
-        Timelines {
+        TimelineTallies {
             by_key: IndexMap::new(alloc),
         }
     }

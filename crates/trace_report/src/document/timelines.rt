@@ -5,7 +5,7 @@ use crate::document::counts::add_faults;
 use crate::document::writing::Document;
 use crate::table::Content;
 use text_core::JsonPart;
-use trace_core::{Context, ContextKey, Tally, TimelineKey, Tracker};
+use trace_core::{ContextKey, ContextState, Tally, TimelineKey, Tracker};
 
 /// The member on timelines.
 pub(crate) fn add_timelines(document: &mut Document, content: Content<'_>) {
@@ -50,7 +50,12 @@ pub(crate) fn add_contexts(document: &mut Document, tracker: &Tracker) {
     document.add(&[JsonPart::EndArray]);
 }
 
-fn add_context(document: &mut Document, tracker: &Tracker, key: &ContextKey, context: &Context) {
+fn add_context(
+    document: &mut Document,
+    tracker: &Tracker,
+    key: &ContextKey,
+    context: &ContextState,
+) {
     let events = context.tally.events;
     document.add(&[JsonPart::BeginObject]);
     add_names(document, tracker, &key.timeline_key());

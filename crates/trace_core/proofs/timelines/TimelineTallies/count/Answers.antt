@@ -3,7 +3,7 @@ use Rattle.std.specs.Map.{lookup}
 use Rattle.trace_core.specs.Keys.{same_timeline}
 use Rattle.trace_core.specs.Tally.{none, tally_after}
 use Rattle.trace_core.proofs.Puts.{inserted}
-use Rattle.trace_core.proofs.timelines.Timelines.count.Goals as goal
+use Rattle.trace_core.proofs.timelines.TimelineTallies.count.Goals as goal
 
 pub returns-clause-counted : goal.returns-clause-counted
 returns-clause-counted c =
