@@ -1,7 +1,7 @@
 -- What a piece of the text is.
 use Rattle.std.specs.Prelude.{ℕ, Option}
-use Rattle.trace_core.specs.declared.item.Item.{Item}
-use Rattle.trace_core.specs.declared.item.Item.TheVariants as item
+use Rattle.trace_core.specs.declared.item.TraceItem.{TraceItem}
+use Rattle.trace_core.specs.declared.item.TraceItem.TheVariants as item
 use Rattle.trace_core.specs.Record.{Printed, printed}
 
 -- what an item says, with the bytes of its names
@@ -14,7 +14,7 @@ pub data Meaning : Type 0 where
   Counts : ℕ → ℕ → ℕ → Meaning
   Note : Meaning
 
-abbrev pub meaning_of : Item → Meaning
+abbrev pub meaning_of : TraceItem → Meaning
 meaning_of (item.Event r) = Event (printed r)
 meaning_of item.Other = Other
 meaning_of item.Unread = Unread

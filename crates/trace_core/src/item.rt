@@ -1,4 +1,4 @@
-//! `Item`: what a piece of the text is. `item_of` decides it by the piece's bytes only, as `specs/Piece.antt` defines it.
+//! `TraceItem`: what a piece of the text is. `item_of` decides it by the piece's bytes only, as `specs/Piece.antt` defines it.
 ghost use Rattle.std.specs.Prelude.{◌≡◌};
 ghost use Rattle.trace_core.specs.Item.{meaning_of};
 ghost use Rattle.trace_core.specs.Piece.{item_of, record_or_other};
@@ -14,7 +14,7 @@ pub const PIECE_BYTES: usize = 8192;
 
 /// What a piece of the text is: a line, or a record of a `dma_fence` event, which is several lines if a name holds line feeds.
 #[derive(Clone, Copy)]
-pub enum Item<'a> {
+pub enum TraceItem<'a> {
     /// A record of a `dma_fence` event.
     Event(Record<'a>),
     /// A record of another event.
@@ -43,33 +43,33 @@ pub enum Item<'a> {
 
 /// What the piece is.
 #[tactic(auto, unfolding(crate::specs::Piece::item_of))]
-pub fn item_of(piece: &[u8]) -> Item<'_>
+pub fn item_of(piece: &[u8]) -> TraceItem<'_>
     ensures item { meaning_of result ≡ item_of piece.now }
 {
     if piece.len() > PIECE_BYTES {
-        return Item::Unread;
+        return TraceItem::Unread;
     }
     if after(piece, b"#").is_some() {
         return note(piece);
     }
     match lost(piece) {
-        Some((cpu, events)) => Item::Lost { cpu, events },
+        Some((cpu, events)) => TraceItem::Lost { cpu, events },
         None => record_or_other(piece),
     }
 }
 
 #[tactic(auto, unfolding(crate::specs::Piece::record_or_other))]
-fn record_or_other(piece: &[u8]) -> Item<'_>
+fn record_or_other(piece: &[u8]) -> TraceItem<'_>
     ensures item { meaning_of result ≡ record_or_other piece.now }
 {
     let Some(header) = header_of(piece) else {
-        return Item::Unread;
+        return TraceItem::Unread;
     };
     let Some((event, text)) = event_at(header.text) else {
-        return Item::Other;
+        return TraceItem::Other;
     };
     match record_with(header, event, text) {
-        Some(record) => Item::Event(record),
-        None => Item::Unread,
+        Some(record) => TraceItem::Event(record),
+        None => TraceItem::Unread,
     }
 }

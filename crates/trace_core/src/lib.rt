@@ -42,7 +42,7 @@ pub use contexts::{ContextState, Contexts, KEPT_CONTEXTS};
 pub use delays::{Delay, Delays};
 pub use event::Event;
 pub use finding::Finding;
-pub use item::{Item, PIECE_BYTES, item_of};
+pub use item::{PIECE_BYTES, TraceItem, item_of};
 pub use ledger::{Ledger, Sight};
 pub use life::Life;
 pub use lives::Lives;

@@ -3,7 +3,7 @@ ghost use Rattle.std.specs.Prelude.{◌≡◌};
 ghost use Rattle.trace_core.specs.Item.{meaning_of};
 ghost use Rattle.trace_core.specs.Loss.{lost, losses, counted, buffer_started, counts, note};
 
-use crate::item::Item;
+use crate::item::TraceItem;
 use crate::number::{number_at, wide_number_at};
 use crate::steps::{after, after_blanks, is};
 
@@ -47,19 +47,19 @@ fn counted(bytes: &[u8], text: &str) -> Option<Option<u64>>
 /// The item of a line that begins with `#`.
 #[inline(never)]
 #[tactic(auto, unfolding(crate::specs::Loss::note))]
-pub(crate) fn note(line: &[u8]) -> Item<'_>
+pub(crate) fn note(line: &[u8]) -> TraceItem<'_>
     ensures note { meaning_of result ≡ note line.now }
 {
     if let Some(cpu) = buffer_started(line) {
-        return Item::BufferStarted { cpu };
+        return TraceItem::BufferStarted { cpu };
     }
     match counts(line) {
-        Some((in_buffer, written, processors)) => Item::Counts {
+        Some((in_buffer, written, processors)) => TraceItem::Counts {
             in_buffer,
             written,
             processors,
         },
-        None => Item::Note,
+        None => TraceItem::Note,
     }
 }
 

@@ -7,7 +7,7 @@ ghost use Rattle.trace_core.specs.Piece.{is_line_feed, is_unread, begins_record,
 ghost use Rattle.trace_core.specs.Cutting.{IsLine, AreLines, IsJoining, IsJoined, IsFirstPiece, NeedsMore, Takes, IsRestOfLine, HasNoLineFeed, MayFollow};
 
 use crate::header::header_of;
-use crate::item::{Item, PIECE_BYTES, item_of};
+use crate::item::{PIECE_BYTES, TraceItem, item_of};
 use crate::record::{Record, record_of};
 use memchr::memchr;
 
@@ -20,7 +20,7 @@ const _: () = prove!(RECORD_LINES == 4);
 #[derive(Clone, Copy)]
 pub struct Piece<'a> {
     /// What it is.
-    pub item: Item<'a>,
+    pub item: TraceItem<'a>,
     /// How many lines it has.
     pub lines: usize,
     /// How many of the bytes it takes, with the line feed at its end. For a line that is too long only its last bytes count.
@@ -45,11 +45,11 @@ pub(crate) fn first_piece(bytes: &[u8], whole: bool) -> Option<Piece<'_>>
     })
 }
 
-fn is_unread(item: &Item<'_>) -> bool
+fn is_unread(item: &TraceItem<'_>) -> bool
     ensures unread { result ≡ is_unread (meaning_of item.now) }
 {
     match item {
-        Item::Unread => true,
+        TraceItem::Unread => true,
         _ => false,
     }
 }
@@ -122,7 +122,7 @@ fn joined<'a>(bytes: &'a [u8], line: &[u8], first: usize, whole: bool) -> Option
             Joining::Alone => return Some(unread_line(first)),
             Joining::Whole(record, length) => {
                 return Some(Piece {
-                    item: Item::Event(record),
+                    item: TraceItem::Event(record),
                     lines,
                     length,
                 });
@@ -139,7 +139,7 @@ fn unread_line<'a>(length: usize) -> Piece<'a>
     ensures length { result.length ≡ length }
 {
     Piece {
-        item: Item::Unread,
+        item: TraceItem::Unread,
         lines: 1,
         length,
     }

@@ -10,7 +10,7 @@ ghost use Rattle.trace_core.specs.Record.{Printed};
 ghost use Rattle.trace_core.specs.Reading.{GetsAhead, GoesOn, HasRead, begins, event_at, is_end, loss_of, next_of, stage_with};
 ghost use Rattle.trace_core.specs.Tracker.{Tracks};
 
-use crate::item::Item;
+use crate::item::TraceItem;
 use crate::pieces::Pieces;
 use crate::tracker::{Seen, Tracker};
 use crate::window::{Span, Stage};
@@ -125,21 +125,21 @@ impl Reading {
 }
 
 /// The stage after the item; only events have a time.
-fn stage_with(stage: Stage, span: Span, item: &Item<'_>) -> Stage
+fn stage_with(stage: Stage, span: Span, item: &TraceItem<'_>) -> Stage
     ensures { result ≡ stage_with stage span (meaning_of item.now) }
 {
     match item {
-        Item::Event(record) => stage.after(span, record.time),
-        Item::Other
-        | Item::Unread
-        | Item::Lost { cpu: _, events: _ }
-        | Item::BufferStarted { cpu: _ }
-        | Item::Counts {
+        TraceItem::Event(record) => stage.after(span, record.time),
+        TraceItem::Other
+        | TraceItem::Unread
+        | TraceItem::Lost { cpu: _, events: _ }
+        | TraceItem::BufferStarted { cpu: _ }
+        | TraceItem::Counts {
             in_buffer: _,
             written: _,
             processors: _,
         }
-        | Item::Note => stage,
+        | TraceItem::Note => stage,
     }
 }
 
@@ -154,7 +154,7 @@ fn begins(stage: Stage, has_begun: bool) -> bool
 }
 
 /// The step that an item makes, at the stage after the item.
-fn next_of(stage: Stage, seen: Option<Seen>, item: &Item<'_>) -> Next
+fn next_of(stage: Stage, seen: Option<Seen>, item: &TraceItem<'_>) -> Next
     ensures { result ≡ next_of stage seen (meaning_of item.now) }
 {
     match seen {
@@ -172,20 +172,20 @@ fn event_at(stage: Stage, seen: Seen) -> Next
     }
 }
 
-fn loss_of(item: &Item<'_>) -> Next
+fn loss_of(item: &TraceItem<'_>) -> Next
     ensures { result ≡ loss_of (meaning_of item.now) }
 {
     match item {
-        Item::Lost { cpu: _, events } => Next::Lost(*events),
-        Item::BufferStarted { cpu: _ } => Next::StartedLate,
-        Item::Event(_)
-        | Item::Other
-        | Item::Unread
-        | Item::Counts {
+        TraceItem::Lost { cpu: _, events } => Next::Lost(*events),
+        TraceItem::BufferStarted { cpu: _ } => Next::StartedLate,
+        TraceItem::Event(_)
+        | TraceItem::Other
+        | TraceItem::Unread
+        | TraceItem::Counts {
             in_buffer: _,
             written: _,
             processors: _,
         }
-        | Item::Note => Next::Other,
+        | TraceItem::Note => Next::Other,
     }
 }

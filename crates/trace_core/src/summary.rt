@@ -2,7 +2,7 @@
 ghost use Rattle.std.specs.Prelude.{◌≡◌, IfErr};
 ghost use Rattle.point_core.specs.declared.refusal.Refusal.TheVariants.{Memory};
 
-use crate::item::Item;
+use crate::item::TraceItem;
 use crate::piece::Piece;
 use point_core::Refusal;
 use std::alloc::Global;
@@ -80,12 +80,12 @@ impl Summary {
         self.bytes = self.bytes.saturating_add(piece.length as u64);
         self.lines = self.lines.saturating_add(piece.lines as u64);
         match piece.item {
-            Item::Event(record) => self.record(record.time, piece.lines > 1),
-            Item::Other => self.others = self.others.saturating_add(1),
-            Item::Unread => self.unread = self.unread.saturating_add(1),
-            Item::Lost { cpu: _, events } => self.lose(events),
-            Item::BufferStarted { cpu } => return self.start_late(cpu),
-            Item::Counts {
+            TraceItem::Event(record) => self.record(record.time, piece.lines > 1),
+            TraceItem::Other => self.others = self.others.saturating_add(1),
+            TraceItem::Unread => self.unread = self.unread.saturating_add(1),
+            TraceItem::Lost { cpu: _, events } => self.lose(events),
+            TraceItem::BufferStarted { cpu } => return self.start_late(cpu),
+            TraceItem::Counts {
                 in_buffer,
                 written,
                 processors,
@@ -96,7 +96,7 @@ impl Summary {
                     processors,
                 });
             }
-            Item::Note => {}
+            TraceItem::Note => {}
         }
         Ok(())
     }

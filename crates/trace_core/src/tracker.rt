@@ -11,7 +11,7 @@ ghost use Rattle.trace_core.specs.Waits.{IsWaitOf};
 use crate::delays::Delays;
 use crate::event::Event;
 use crate::finding::Finding;
-use crate::item::Item;
+use crate::item::TraceItem;
 use crate::ledger::{Ledger, Sight};
 use crate::life::Life;
 use crate::names::Names;
@@ -75,16 +75,16 @@ impl Tracker {
     {
         self.summary.take(piece)?;
         match &piece.item {
-            Item::Event(record) => return Ok(Some(self.see(record)?)),
-            Item::Lost { cpu: _, events: _ } | Item::BufferStarted { cpu: _ } => self.ledger.lose(),
-            Item::Other
-            | Item::Unread
-            | Item::Counts {
+            TraceItem::Event(record) => return Ok(Some(self.see(record)?)),
+            TraceItem::Lost { .. } | TraceItem::BufferStarted { .. } => self.ledger.lose(),
+            TraceItem::Other
+            | TraceItem::Unread
+            | TraceItem::Counts {
                 in_buffer: _,
                 written: _,
                 processors: _,
             }
-            | Item::Note => {}
+            | TraceItem::Note => {}
         }
         Ok(None)
     }
