@@ -13,6 +13,7 @@ mod report;
 mod row_kind;
 mod rows;
 mod settled;
+mod table_item;
 mod writing;
 
 pub use answer::{done_line, print, refusal_line, value_line};

@@ -1,13 +1,14 @@
 //! The text of `clients`: the end that all clients' plans come to.
-ghost use Rattle.std.specs.Prelude.{◌≡◌, ◌++◌, ◌+◌, ◌<◌, ◌^◌, OnOk, OnErr, Err, length};
+ghost use Rattle.std.specs.Prelude.{◌≡◌, ◌++◌, ◌+◌, ◌<◌, OnOk, OnErr, Err};
 ghost use Rattle.std.specs.List.{flat_map, enumerate_from};
 ghost use Rattle.std.specs.Io.{StartsWith};
 ghost use Rattle.point_core.specs.declared.refusal.Refusal.TheVariants.{Memory};
-ghost use Rattle.report_core.specs.Settled.{client_text, top_text, table_text, settled_text};
+ghost use Rattle.report_core.specs.Settled.{client_text, table_text, settled_text};
 
 use crate::columns::Subject;
 use crate::row_kind::RowKind;
 use crate::rows::push_row;
+use crate::table_item::push_each;
 use point_core::{Items, Refusal, TopRow};
 use resv_core::Settled;
 
@@ -55,26 +56,12 @@ fn push_table(out: &mut Vec<u8>, buffer: u64, rows: &[TopRow]) -> Result<(), Ref
         Subject::Numbered(b'b', buffer),
         rows.len() as u64,
     )?;
-    push_tops(out, rows)?;
+    push_each(rows, out)?;
     Ok(())
 }
 
-fn push_tops(out: &mut Vec<u8>, rows: &[TopRow]) -> Result<(), Refusal>
-    ensures ok { OnOk result (out.new.items ≡ out.old.items ++ flat_map top_text rows.now) }
-    ensures err { OnErr result ((result ≡ Err Memory) × StartsWith out.new.items out.old.items) }
-{
-    for row in rows {
-        push_row(
-            out,
-            RowKind::Level(row.usage),
-            client(u64::from(row.ctx.number())),
-            row.point,
-        )?;
-    }
-    Ok(())
-}
-
-fn client(number: u64) -> Subject<'static>
+/// The name of a client.
+pub(crate) fn client(number: u64) -> Subject<'static>
     ensures { result ≡ Subject.Numbered 99 number }
 {
     Subject::Numbered(b'c', number)
