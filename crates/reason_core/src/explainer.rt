@@ -1,13 +1,12 @@
 //! `Explainer`: the line handler that answers a line and, if it was refused, writes why. The note follows its answer, so
 //! nothing is noted while output is pending.
-ghost use Rattle.std.specs.Prelude.{◌≡◌, ◌+◌, ◌<◌, ◌≤◌, ◌⊎◌, ◌++◌, [], List, ℕ, Option, Some, OnOk, OnErr, IfErr};
+ghost use Rattle.std.specs.Prelude.{◌≡◌, ◌+◌, ◌<◌, ◌≤◌, ◌⊎◌, [], Some, OnOk, OnErr, IfErr};
 ghost use Rattle.point_core.specs.declared.refusal.Refusal.TheVariants.{Write as WriteFault, Memory};
-ghost use Rattle.script_core.specs.Answering.{HasAnswered};
+ghost use Rattle.script_core.specs.Answering.{AnswersFront, AnswersMore};
 ghost use Rattle.script_core.specs.Notes.{NotesLine};
-ghost use Rattle.script_core.specs.Output.{Grows, WritesPrefix};
+ghost use Rattle.script_core.specs.Output.{Grows};
 ghost use Rattle.reason_core.specs.Notes.{NotedIn, Notes};
 ghost use Rattle.line_core.specs.Script.{answered};
-ghost use Rattle.line_core.specs.declared.line.Line.{Line};
 
 use crate::book::Book;
 use crate::look::{NoteLook, NotePlace};
@@ -47,12 +46,10 @@ impl Explainer {
         notes: &mut N,
     ) -> Result<(), Refusal>
         requires few { answers.old.totals.lines < line.now.number }
-        ensures ok { OnOk result ((done : List Line) → (start : Option (List ℕ)) →
-            HasAnswered done answers.old start (W.contents writer.old)
-            → HasAnswered (done ++ answered line.now.number (Some body) []) answers.new start (W.contents writer.new)) }
-        ensures err { OnErr result ((done : List Line) → (start : Option (List ℕ)) →
-            HasAnswered done answers.old start (W.contents writer.old)
-            → WritesPrefix (done ++ answered line.now.number (Some body) []) start (W.contents writer.new)) }
+        ensures ok { OnOk result (AnswersMore (answered line.now.number (Some body) [])
+            answers.old answers.new (W.contents writer.old) (W.contents writer.new)) }
+        ensures err { OnErr result (AnswersFront (answered line.now.number (Some body) [])
+            answers.old (W.contents writer.old) (W.contents writer.new)) }
         ensures grows { Grows (W.contents writer.old) (W.contents writer.new) }
 
         // Whatever the result, a note on the line follows all answers up to it.

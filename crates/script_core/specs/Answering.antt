@@ -40,6 +40,16 @@ pub record AnswersState : Type 0 where
 abbrev pub HasAnswered : List Line → AnswersState → Option (List ℕ) → Option (List ℕ) → Type 0
 HasAnswered done s old new = Progress done s.desk s.out s.totals old new
 
+-- these lines are answered after any that were
+abbrev pub AnswersMore : List Line → AnswersState → AnswersState → Option (List ℕ) → Option (List ℕ) → Type 0
+AnswersMore lines before after old new = (done : List Line) → (start : Option (List ℕ)) →
+    HasAnswered done before start old → HasAnswered (done ++ lines) after start new
+
+-- a prefix is written of the answers of the lines that were answered, and of these lines after them
+abbrev pub AnswersFront : List Line → AnswersState → Option (List ℕ) → Option (List ℕ) → Type 0
+AnswersFront lines before old new = (done : List Line) → (start : Option (List ℕ)) →
+    HasAnswered done before start old → WritesPrefix (done ++ lines) start new
+
 -- One line was answered: the text of its answer was appended to the pending output, and `refused` is the answer's
 -- refusal, if any.
 pub record AnswersLine (l : Line) (refused : Option Refusal) (before after : AnswersState)

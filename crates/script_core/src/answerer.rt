@@ -9,14 +9,13 @@ use std::io::Write;
 
 /// Answers the lines of a script, one after another, and may write notes about them to `N`.
 pub trait Answerer<N> {
-    ghost use Rattle.std.specs.Prelude.{◌≡◌, ◌+◌, ◌<◌, ◌≤◌, ◌⊎◌, ◌++◌, [], List, ℕ, Option, OnOk, OnErr, IfErr};
+    ghost use Rattle.std.specs.Prelude.{◌≡◌, ◌+◌, ◌<◌, ◌≤◌, ◌⊎◌, [], ℕ, OnOk, OnErr, IfErr};
     ghost use Rattle.point_core.specs.declared.refusal.Refusal.TheVariants.{Write as WriteFault, Memory};
     ghost use Rattle.line_core.specs.Line.{body_of};
     ghost use Rattle.line_core.specs.Script.{answered, last_body};
-    ghost use Rattle.line_core.specs.declared.line.Line.{Line};
-    ghost use Rattle.script_core.specs.Answering.{HasAnswered};
+    ghost use Rattle.script_core.specs.Answering.{AnswersFront, AnswersMore};
     ghost use Rattle.script_core.specs.Notes.{NotesLine};
-    ghost use Rattle.script_core.specs.Output.{Grows, WritesPrefix};
+    ghost use Rattle.script_core.specs.Output.{Grows};
 
     /// What a note on a line may be: relates the line's number, and the notes before and after it.
     ghost noted: { ℕ → N → N → Type 0 };
@@ -33,14 +32,10 @@ pub trait Answerer<N> {
         notes: &mut N,
     ) -> Result<(), Refusal>
         requires few { answers.old.totals.lines < line.now.number }
-        ensures ok { OnOk result ((done : List Line) → (start : Option (List ℕ)) →
-            HasAnswered done answers.old start (W.contents writer.old) →
-            HasAnswered (done ++ answered line.now.number (body_of line.now.bytes.now) [])
-            answers.new start (W.contents writer.new)) }
-        ensures err { OnErr result ((done : List Line) → (start : Option (List ℕ)) →
-            HasAnswered done answers.old start (W.contents writer.old) →
-            WritesPrefix (done ++ answered line.now.number (body_of line.now.bytes.now) [])
-            start (W.contents writer.new)) }
+        ensures ok { OnOk result (AnswersMore (answered line.now.number (body_of line.now.bytes.now) [])
+            answers.old answers.new (W.contents writer.old) (W.contents writer.new)) }
+        ensures err { OnErr result (AnswersFront (answered line.now.number (body_of line.now.bytes.now) [])
+            answers.old (W.contents writer.old) (W.contents writer.new)) }
         ensures grows { Grows (W.contents writer.old) (W.contents writer.new) }
 
         // Whatever the result, a note on the line follows all answers up to it.
@@ -61,14 +56,10 @@ pub trait Answerer<N> {
         notes: &mut N,
     ) -> Result<(), Refusal>
         requires few { answers.old.totals.lines < line.now.number }
-        ensures ok { OnOk result ((done : List Line) → (start : Option (List ℕ)) →
-            HasAnswered done answers.old start (W.contents writer.old) →
-            HasAnswered (done ++ answered line.now.number (last_body ending line.now.bytes.now) [])
-            answers.new start (W.contents writer.new)) }
-        ensures err { OnErr result ((done : List Line) → (start : Option (List ℕ)) →
-            HasAnswered done answers.old start (W.contents writer.old) →
-            WritesPrefix (done ++ answered line.now.number (last_body ending line.now.bytes.now) [])
-            start (W.contents writer.new)) }
+        ensures ok { OnOk result (AnswersMore (answered line.now.number (last_body ending line.now.bytes.now) [])
+            answers.old answers.new (W.contents writer.old) (W.contents writer.new)) }
+        ensures err { OnErr result (AnswersFront (answered line.now.number (last_body ending line.now.bytes.now) [])
+            answers.old (W.contents writer.old) (W.contents writer.new)) }
         ensures grows { Grows (W.contents writer.old) (W.contents writer.new) }
 
         // Whatever the result, a note on the line follows all answers up to it.

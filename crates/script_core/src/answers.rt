@@ -1,6 +1,6 @@
 //! `Answers`: a desk with the output that is pending. Its memory follows the desk and one block of output, not the
 //! script.
-ghost use Rattle.std.specs.Prelude.{◌≡◌, ◌+◌, ◌<◌, ◌≤◌, ◌⊎◌, ◌++◌, ◌∷◌, [], List, ℕ, Option, None, MatchOption, IfOk, OnOk, OnErr, IfErr};
+ghost use Rattle.std.specs.Prelude.{◌≡◌, ◌+◌, ◌<◌, ◌≤◌, ◌⊎◌, ◌∷◌, [], List, ℕ, Option, None, MatchOption, IfOk, OnOk, OnErr, IfErr};
 ghost use Rattle.std.specs.Io.KnownBytes.{Keeps};
 ghost use Rattle.point_core.specs.declared.refusal.Refusal.TheVariants.{Write as WriteFault, Memory};
 ghost use Rattle.command_core.specs.declared.command.Command.{Command};
@@ -37,7 +37,7 @@ impl Model for Answers {
 }
 
 impl Answers {
-    ghost use Rattle.script_core.specs.Answering.{HasAnswered, AnswersLine, AnswersLines};
+    ghost use Rattle.script_core.specs.Answering.{HasAnswered, AnswersFront, AnswersLine, AnswersLines, AnswersMore};
 
     /// No line has been answered.
     ///
@@ -72,17 +72,15 @@ impl Answers {
         writer: &mut W,
     ) -> Result<Option<Refusal>, Refusal>
         requires few { self.old.totals.lines < number }
-        ensures ok { OnOk result ((done : List LineModel) → (start : Option (List ℕ)) →
-            HasAnswered done self.old start (W.contents writer.old)
-            → HasAnswered (done ++ answered number body []) self.new start (W.contents writer.new)) }
+        ensures ok { OnOk result (AnswersMore (answered number body [])
+            self.old self.new (W.contents writer.old) (W.contents writer.new)) }
 
         // `Some(refusal)` if the answer was a refusal.
         ensures refused { IfOk result (λ refused. MatchOption body (refused ≡ None) (λ said.
             AnswersLine (record { number = number; body = said }) refused self.old self.new
             (W.contents writer.old) (W.contents writer.new))) }
-        ensures err { OnErr result ((done : List LineModel) → (start : Option (List ℕ)) →
-            HasAnswered done self.old start (W.contents writer.old)
-            → WritesPrefix (done ++ answered number body []) start (W.contents writer.new)) }
+        ensures err { OnErr result (AnswersFront (answered number body [])
+            self.old (W.contents writer.old) (W.contents writer.new)) }
         ensures grows { Grows (W.contents writer.old) (W.contents writer.new) }
         ensures lines { self.new.totals.lines ≤ self.old.totals.lines + 1 }
         ensures refusals { IfErr result (λ refusal. (refusal ≡ WriteFault) ⊎ (refusal ≡ Memory)) }
@@ -105,14 +103,12 @@ impl Answers {
         writer: &mut W,
     ) -> Result<Option<Refusal>, Refusal>
         requires few { self.old.totals.lines < number }
-        ensures ok { OnOk result ((done : List LineModel) → (start : Option (List ℕ)) →
-            HasAnswered done self.old start (W.contents writer.old)
-            → HasAnswered (done ++ record { number = number; body = body } ∷ []) self.new start (W.contents writer.new)) }
+        ensures ok { OnOk result (AnswersMore (record { number = number; body = body } ∷ [])
+            self.old self.new (W.contents writer.old) (W.contents writer.new)) }
         ensures refused { IfOk result (λ refused. AnswersLine (record { number = number; body = body }) refused
             self.old self.new (W.contents writer.old) (W.contents writer.new)) }
-        ensures err { OnErr result ((done : List LineModel) → (start : Option (List ℕ)) →
-            HasAnswered done self.old start (W.contents writer.old)
-            → WritesPrefix (done ++ record { number = number; body = body } ∷ []) start (W.contents writer.new)) }
+        ensures err { OnErr result (AnswersFront (record { number = number; body = body } ∷ [])
+            self.old (W.contents writer.old) (W.contents writer.new)) }
         ensures grows { Grows (W.contents writer.old) (W.contents writer.new) }
         ensures lines { self.new.totals.lines ≤ self.old.totals.lines + 1 }
         ensures refusals { IfErr result (λ refusal. (refusal ≡ WriteFault) ⊎ (refusal ≡ Memory)) }
