@@ -37,8 +37,8 @@ pub record NotesAmong {N : Type 0} (noted : ℕ → N → N → Type 0) (lines :
   pub follow : All (λ (number : ℕ). AnswersUpTo lines number old new) numbers
 
 -- the lines are the ones of the script that the reader had
-abbrev pub NotesFollow : {N : Type 0} → (ℕ → N → N → Type 0) → Option (List ℕ) → Option (List ℕ) → Option (List ℕ) → N → N
-    → Type 0
+abbrev pub NotesFollow : {N : Type 0} → (ℕ → N → N → Type 0) → Option (List ℕ) → Option (List ℕ) → Option (List ℕ)
+    → N → N → Type 0
 NotesFollow noted known old new before after =
     (script : List ℕ) × IsInput known script × NotesAmong noted (script_of script) old new before after
 
