@@ -435,7 +435,7 @@ typedef struct bim_seat {
 int bim_words_open(bim_seat *seat, size_t contexts, size_t flags, size_t buffers);
 
 /* Opens another seat of the same words, for another thread, by dividing `seat`. The first seat can be divided about
- * 4,800 times; each of the early seats that come of that, at least ten times; the seats that come of those, not at all.
+ * 4,800 times, each of the early seats divided from it at least ten times, and the seats divided from these not at all.
  * Refused with BIM_NO_ENTRY, BIM_EXISTS, BIM_NOT_ALL (the seat can't be divided any further) and BIM_MEMORY. */
 int bim_seat_part(bim_seat *seat, bim_seat *other);
 

@@ -50,7 +50,7 @@ static void end_waits(const struct pollfd *files, uint64_t noted)
     errno = before;
 }
 
-/* Does what is due after the kernel has answered a call that waits. */
+/* Ends the traced waits, and looks for a lost service, once the kernel has answered a waiting call. */
 static int after_poll(const struct pollfd *files, nfds_t count, uint64_t noted, int result)
 {
     end_waits(files, noted);

@@ -14,7 +14,7 @@ MEMORY = b"err 16 Memory"
 FAULT = b"fencectl: 16 Memory\n"
 with open(os.path.join(os.path.dirname(os.path.realpath(__file__)), "..", "..", "docs", "SCRIPT.md"), "rb") as document:
     COMMANDS = re.findall(rb"^\| `(\w+)[^|]*\|[^|]*\|[^|]*\|([^|]*)\|$", document.read(), re.M)
-# Memory is refused to none of these.
+# These commands are never refused memory.
 NEVER = {word for word, refusals in COMMANDS if b"Memory" not in refusals}
 # Memory is refused to these only if they fire a watch.
 RISING = {word for word, refusals in COMMANDS if b"Memory if a watch fires" in refusals}
@@ -50,7 +50,7 @@ class Words:
         return self.program.refused(growths, self.reading, *self.words)
 
     def wrong(self, run, lasts):
-        """Returns what is wrong with a run, or an empty text. With `lasts`, memory is refused to its end."""
+        """Returns what is wrong with a run, or an empty text. With `lasts`, memory stays refused until the run ends."""
         if run.status < 0:
             return f"it ends by signal {-run.status}"
         if run.threads != run.threads_ended:

@@ -59,7 +59,7 @@ def expecting(script, answer):
     lines = []
     for number, lines_of_answer in zip(script.commands, answers_of(answer(script.without([])))):
         lines += [script.line(number)] + [NOTE] * len(lines_of_answer)
-    # Answers that contain line numbers are those of the lines as they are now.
+    # The line numbers in answers are those of the script as it is now.
     silent = Script(b"\n".join(lines + [b""]))
     lines = []
     for number, lines_of_answer in zip(silent.commands, answers_of(answer(silent.without([])))):

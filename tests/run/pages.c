@@ -91,7 +91,7 @@ static void sealed(int memory, const struct bim_page *read)
     EXPECT(ftruncate(memory, 2 * sizeof *read), -1);
 }
 
-/* Without memory for a page nothing is left of it, not even a descriptor. */
+/* If memory for a page is refused, nothing is left over, not even a descriptor. */
 static void refused(void)
 {
     struct rlimit before, none;

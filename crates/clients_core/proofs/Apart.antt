@@ -22,7 +22,7 @@ pub top-before : (es fs : List Entry) (usage ctx : ℕ) → All (λ e. e.point.c
 top-before [] fs usage ctx apart = top-none fs usage ctx apart
 top-before (e ∷ es) fs usage ctx apart = ap (λ (t : Option ℕ). if applies e usage ctx then later e.point.value t else t) (top-before es fs usage ctx apart)
 
--- entries of the first contexts alone
+-- entries only of the first contexts
 pub top-past : (es : List Entry) (usage n ctx : ℕ) → n < ctx → All (λ e. e.point.ctx ≤ n) es → top es usage ctx ≡ None
 top-past es usage n ctx past within = top-none es usage ctx (All-weaker (λ (e : Entry). e.point.ctx ≤ n) (λ (e : Entry). e.point.ctx ≢ ctx) (λ e low is. absurd (omega arith)) es within)
 

@@ -52,7 +52,7 @@ value-raised : (v : ℕ) (t : Option ℕ) → v ≤ raised_to v t
 value-raised v None = omega arith
 value-raised v (Some p) = omega arith
 
--- the latest of a value and of what so many rounds put
+-- a value raised to the latest point that n rounds put
 abbrev after_rounds : ℕ → List Act → ℕ → ℕ → ℕ → ℕ → ℕ
 after_rounds buffer acts n usage ctx value = raised_to value (top (puts_of buffer (rounds_of acts n)) usage ctx)
 

@@ -30,7 +30,7 @@ within-round : (contexts buffers : ℕ) (acts : List Act) (number : ℕ) → lis
 within-round contexts buffers [] number = refl
 within-round contexts buffers (act ∷ acts) number = rw (within-act contexts buffers number act, within-round contexts buffers acts number) refl
 
--- so many rounds are, where there are some
+-- n + 1 rounds name existing contexts and buffers exactly if the acts do
 within-rounds : (contexts buffers : ℕ) (acts : List Act) (a n : ℕ) → list_all (is_within contexts buffers) (flat_map (round_of acts) (range_with_len a (suc n))) ≡ list_all (is_within contexts buffers) acts
 within-rounds contexts buffers acts a zero =
     ap (list_all (is_within contexts buffers)) (append-nil (round_of acts a)) ∙ within-round contexts buffers acts a
@@ -60,7 +60,7 @@ puts-round_more buffer acts number i act made low at is =
     ∙ flat_map-append (put_by buffer) (round_of (take i acts) number) (made ∷ [])
     ∙ ap (λ (es : List Entry). puts_of buffer (round_of (take i acts) number) ++ es) (append-nil (put_by buffer made))
 
--- what so many rounds advance by
+-- the increments of n rounds add up to n times those of one round
 pub increments-all : (acts : List Act) (n : ℕ) → increments_of (rounds_of acts n) ≡ increments_of acts * n
 increments-all acts n = increments-rounds acts 1 n
 

@@ -155,7 +155,7 @@ worked-from puts exports words number (p ∷ ps) (e ∷ es) ended ok even =
 
 -- ---- what comes of all of them
 
--- so many clients have ended, in the order of the plans, and their seats were taken in
+-- the first `count` clients have ended, in the order of the plans, and their seats are joined
 pub record HaveAllEnded (puts : Puts) (exports : Exports) (words : WordsModel) (plans : List (List Act)) (count : ℕ)
     (before after : SeatModel) (answer : Result (Unit {0}) Refusal) : Type 0 where
   pub endings : List Ended

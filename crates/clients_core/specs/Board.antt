@@ -65,8 +65,8 @@ look_at words buffer e = shown (word_at words buffer (place_of e)) e.point.value
 abbrev pub pending_point : List ℕ → List Entry → ℕ → ℕ → Option Point
 pending_point reach es level ctx = option_map (point_of ctx) (pending_top reach es level ctx)
 
--- one look at each of these places of a context, in order: the entries that these showed, none below what the seat knew
--- of its place, and a value, which becomes the latest of itself and them
+-- Each of these places of a context is looked at once, in order. Each shows an entry that is no earlier than the seat
+-- knew, and the value becomes the latest of `old` and these entries
 pub record HasShown (words : WordsModel) (buffer level ctx : ℕ) (places : List Place)
     (before after : SeatModel) (old new : ℕ) : Type 0 where
   pub entries : List Entry

@@ -36,7 +36,7 @@ abbrev pub rows_of_clients : ℕ → ℕ → Usage → List TopRow
 rows_of_clients clients point usage =
     map (λ client. record { usage = usage; ctx = client; point = point }) (range_with_len 1 clients)
 
--- what all rounds come to: each timeline's value is their number, and of each what the last round put is pending
+-- the settled state after all rounds: each timeline is at the number of rounds, and the points of the last round are pending
 abbrev pub settled_of_rounds : ℕ → ℕ → Settled
 settled_of_rounds clients rounds = record {
   values = replicate clients rounds;

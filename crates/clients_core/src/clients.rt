@@ -27,8 +27,8 @@ use words_core::{Seat, Words};
 /// order, each between the two calls of the gate; a look fails with `Torn` if it does not show an earlier put of its own
 /// client.
 ///
-/// What comes back is the settled table of the plans, whatever the number of clients and the schedule, and the table
-/// itself, to be read, on which each client has worked its plan off.
+/// Returns the settled table of the plans, which is equal in every schedule, and the table itself, on which each client
+/// has completed its plan.
 ///
 /// Before any thread starts it fails with `NoEntry` if a plan has a point of a context past the number of plans or a
 /// buffer that is not below `buffers`; with `Limit` of the clients, which are 1 to `CLIENTS`, of the buffers, at most

@@ -49,7 +49,7 @@ pub(crate) fn check_plans(buffers: usize, plans: &[Plan]) -> Result<(), Refusal>
     Ok(())
 }
 
-/// Whether each act is on a context and a buffer that there is.
+/// Whether each act names an existing context and an existing buffer.
 fn are_within(plans: &[Plan], contexts: usize, buffers: usize) -> bool
     ensures { result ≡ are_within contexts buffers plans.now }
 {

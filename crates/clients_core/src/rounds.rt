@@ -81,7 +81,7 @@ fn client_round(client: Context, next: Context) -> [Act; ROUND_ACTS]
     ]
 }
 
-/// The place of the client that comes next to the one of that place.
+/// The index of the client after the one at `place`; the first client follows the last.
 fn place_after(place: usize, clients: usize) -> usize
     requires place { place < clients }
     ensures next { result + 1 ≡ next_client clients (place + 1) }

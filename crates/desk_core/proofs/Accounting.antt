@@ -69,7 +69,7 @@ some-pending : (cookie : ℕ) (xs : List MadeWatch) → has_made_watch xs cookie
 some-pending cookie [] is = absurd (cc)
 some-pending cookie (x ∷ xs) is = some_by (nat_eq x.cookie cookie) (has_made_watch xs cookie) (pending cookie xs) (pending cookie (x ∷ xs)) is (sum_by-cons (one_of cookie) x xs) (some-pending cookie xs)
 
--- what is left without a cookie
+-- the pending watches after a cookie is removed
 
 out_by : (cookie : ℕ) (x : MadeWatch) (b : Bool) (less : List MadeWatch) → nat_eq x.cookie cookie ≡ b → pending cookie less ≡ 0 → pending cookie (cond (not b) (x ∷ less) less) ≡ 0
 out_by cookie x true less is none = none

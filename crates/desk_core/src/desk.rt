@@ -245,7 +245,7 @@ impl Desk {
 
     /// Why a watch for which the caller has no memory is refused: the first refusal whose cause holds, else `Memory`.
     ///
-    /// Takes no memory.
+    /// Does not allocate.
     pub fn watch_refusal(&self, file: &Name, cookie: u64) -> Refusal
         ensures { Answers self.now (Command.Watch file.now cookie) (Answer.Refused result) }
     {
@@ -447,7 +447,7 @@ impl Desk {
 
     /// Whether a watch of the file of that name may be registered under the cookie.
     ///
-    /// Takes no memory.
+    /// Does not allocate.
     fn watchable(&self, name: &Name, cookie: u64) -> Result<(), Refusal>
         ensures refused { IsRefusedFor (cause_of self.now (Command.Watch name.now cookie)) result }
         ensures sure { IfErr result (λ e. e ≢ Refusal.Memory) }

@@ -384,7 +384,7 @@ impl Device {
 
     /// The value of an open timeline.
     ///
-    /// Fails with `NoEntry`, or with `WrongKind` at a file or a buffer. Takes no memory.
+    /// Fails with `NoEntry`, or with `WrongKind` at a file or a buffer. Does not allocate.
     pub fn value(&self, timeline: u64) -> Result<u64, Errno>
         ensures known { MatchOption (timeline_at self.now timeline)
             (result ≡ Err (missing_timeline (objects_of self.now) timeline))
@@ -399,7 +399,7 @@ impl Device {
     /// The least point at which an increment by n would signal a fence of a file, if there is one. A caller that reads a
     /// clock only for signals asks this before. By the greatest n it is the least point of the timeline that is pending.
     ///
-    /// Fails with `NoEntry`, or with `WrongKind` at a file or a buffer. Takes no memory.
+    /// Fails with `NoEntry`, or with `WrongKind` at a file or a buffer. Does not allocate.
     pub fn first_due(&self, timeline: u64, n: u64) -> Result<Option<u64>, Errno>
         ensures { IsDueAnswer (objects_of self.now) timeline n result }
     {

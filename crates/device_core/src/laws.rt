@@ -61,7 +61,7 @@ pub fn a_file_has_signalled_once_all_is_reached()
         ↔ IsReached ((world_of history).put n) 0 (reach_of (world_of history).objects)) }
 {}
 
-/// What the timelines have reached after a history is said by its increments, and by what is open.
+/// The increments of a history, and which timelines are open after it, determine what each timeline has reached.
 pub fn the_reach_is_of_the_increments()
     ensures { (history : List Request) → AreAccepted empty_world history →
         reach_after history ≡ map (timeline_reach history) (range_with_len 1 (length (kinds history))) }

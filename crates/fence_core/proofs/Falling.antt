@@ -137,7 +137,7 @@ alike-turned a b = elim (cases_Bool (is_alike a b)) [
   ]
 ]
 
--- a watch at its place, or one that does not stand there and so nowhere
+-- a watch that is in the queue at its place, or is not in the queue at all
 module _ (w : Standing) (p : ℕ) (q : List Standing) (falling : IsFalling q) (at : IsPlaceOf w p q) where
   apart-from : ¬ StandsAt w p q → (k : ℕ) (d : Standing) → k < length q → get_or q k d ≢ w
   apart-from absent k d low is = elim (cases_lt k p) [

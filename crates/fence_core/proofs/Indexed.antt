@@ -64,7 +64,7 @@ place-other places other cookie q o is apart = is ∙ ap (λ b. cond b o (place_
 place-here : (places other : Places) (cookie q : ℕ) (o : Option WaitingPoint) → place_at other q ≡ cond (nat_eq cookie q) o (place_at places q) → cookie ≡ q → place_at other q ≡ o
 place-here places other cookie q o is same = is ∙ ap (λ b. cond b o (place_at places q)) (eq-eqb cookie q same)
 
--- where the same stands, and the same is held
+-- an index stays correct under equal places and equal queues
 pub IsIndexed-same : (es : List (ℕ × Watch)) (places other : Places) (index kept : List (List Standing)) → IsIndexed es places index → ((q : ℕ) → place_at other q ≡ place_at places q) → ((k : WaitingPoint) → holds kept k ≡ holds index k) → IsIndexed es other kept
 IsIndexed-same es places other index kept h place same = record {
   owned = λ k there. let old = h.owned k (sym (same k) ∙ there) in (old.0, old.1, old.2, place old.0.cookie ∙ old.3);
@@ -121,7 +121,7 @@ holds-undo es places index grown back made p place h before is put out k =
       | inr other ↦ ap (λ b. not b && (b || holds index k)) other
     ]
 
--- the cookie of a watch that was not there is that of no other
+-- a watch that was not pending has a cookie that no pending watch has
 new-cookie : (es : List (ℕ × Watch)) (r : ℕ) (w v : Watch) → list_any (is_for w.cookie) (values_of es) ≡ false → at es r ≡ Some v → w.cookie ≢ v.cookie
 new-cookie es r w v new is e = false≢true (sym (at-none (is_for w.cookie) es r v new is) ∙ eq-eqb v.cookie w.cookie (sym e))
 

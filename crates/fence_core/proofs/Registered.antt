@@ -211,7 +211,7 @@ AreRegistered-push es more places grown made w h new low is ordered put =
       by_cookie = λ q. put q ∙ ap (λ o. cond (nat_eq w.cookie q) (Some made) o) (h.by_cookie q) ∙ sym (registration_of-push es made w q new) ∙ ap (registration_of q) (sym last);
     }
 
--- none, and what comes to the same
+-- if no cookie has a place, nothing is registered
 none_registered : (places : Places) (made : ℕ) → ((q : ℕ) → place_at places q ≡ None) → AreRegistered [] places made
 unfolding IsStrictlySortedBy
 none_registered places made none = record { pending = ArePending-none; ordered = tt; before = tt; by_cookie = λ q. ap registration_at (none q) }

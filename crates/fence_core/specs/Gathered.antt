@@ -24,7 +24,7 @@ pub record AreGathered (es : List (ℕ × Watch)) (reach : List ℕ) (fired : Li
   pub before : (registration : ℕ) → IsAfter last registration → AllByRecursion (λ r. r < registration) (keys_of fired)
   pub only_firing : AreOnlyFiring es reach fired
 
--- the same once one more watch was looked at
+-- one more registration was examined: the earlier ones stay reported, and this one is reported if it fires
 pub record HasGathered (es : List (ℕ × Watch)) (reach : List ℕ) (registration : ℕ) (fired : List (ℕ × ℕ))
     (cookies : List ℕ) (last : Option ℕ) : Type 0 where
   pub more : List (ℕ × ℕ)

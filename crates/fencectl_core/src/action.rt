@@ -14,7 +14,7 @@ pub(crate) enum Action<'a> {
     Json(Input<'a>),
     /// Compare the answers of scripts with the answers that their notes expect.
     Check(Check<'a>),
-    /// Rewrite scripts so that they expect what they answer: files, and those below folders.
+    /// Rewrite files, and the scripts below folders, so that each expects its own answers.
     Update(Vec<&'a str>),
     /// Run a script, print its answers, and explain why lines were refused.
     Explain(Input<'a>),

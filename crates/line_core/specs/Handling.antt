@@ -63,8 +63,8 @@ pub record StopsAmong {S : Type 0} (failed : Handled S) (input : Option (List �
   pub begins : BeginsScript input lines said
   pub at : failed start lines said now
 
--- Bytes of a script were read, which end so, and their lines were handled: all of them, or, if a read failed, all but the one
--- in which it did (`unread`).
+-- The bytes of a script were read to the ending `end`, and their lines were handled: all of them, or, if a read failed, all
+-- but the line in which it failed (`unread`).
 pub record HandlesScript {S : Type 0} (handled : Handled S) (ended : Ending → Handled S) (before after : Option (List ℕ))
     (end : Ending) (start now : S) : Type 0 where
   pub bytes : List ℕ

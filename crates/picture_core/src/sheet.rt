@@ -260,8 +260,8 @@ fn word_widths(alloc: Global, columns: &[Column]) -> Result<Vec<u64>, AllocError
     Ok(widths)
 }
 
-/// The places of things of these lengths one after another: the start of each, then the end of the last, which is also
-/// returned by itself.
+/// Where parts of these lengths begin, one after another from `first`, and then the end of the last, which is also returned
+/// by itself.
 ///
 /// Fails only with `Memory`, also if a place is too great a number.
 fn places_of(alloc: Global, first: u64, lengths: &[u64]) -> Result<(Vec<u64>, u64), Refusal>

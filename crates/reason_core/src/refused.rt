@@ -278,7 +278,7 @@ fn explain_points<N: Write>(
     Ok(())
 }
 
-/// How far a point is from being reached, or nothing of one that is, or is cancelled.
+/// How far a point is from being reached; None if it is reached or cancelled.
 fn waiting_for(desk: &Desk, file: &Name, point: &Point) -> Option<Reason> {
     let timeline = desk.timeline_name(point.ctx)?;
     if desk.point_status(*point).is_signalled() {

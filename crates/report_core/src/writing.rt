@@ -34,7 +34,7 @@ pub fn write_whole<W: Write>(writer: &mut W, bytes: &[u8]) -> Result<(), Refusal
 
 /// Writes the output if it has `WRITE_BYTES` or more, and clears it.
 ///
-/// Fails as `write_whole`; the output then still has all of its bytes, of which a prefix was written.
+/// Fails as `write_whole`; a prefix was then written, and the output still holds all of its bytes.
 #[inline(always)]
 pub fn write_many<W: Write>(writer: &mut W, out: &mut Vec<u8>) -> Result<(), Refusal>
     ensures ok { OnOk result ((written : List ℕ) × (out.old.items ≡ written ++ out.new.items)

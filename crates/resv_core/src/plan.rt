@@ -108,8 +108,8 @@ impl Plan {
         }
     }
 
-    /// The acts of the round that is repeated: all acts, for a plan that `of` made. Does not allocate. For users of the
-    /// library; no program here calls it.
+    /// The acts of one round, which make all acts when they are repeated. `of` keeps its acts as one round, which is
+    /// tested. For users of the library; no program here calls it.
     pub fn as_slice(&self) -> &[Act]
         ensures round { (times : ℕ) × (rounds_of result.now times ≡ self.now) }
     {

@@ -134,7 +134,7 @@ impl Timelines {
     /// Adds n to the value of that timeline, as libsync's `sw_sync_timeline_inc` does, and answers the new value.
     ///
     /// Fails with `NoEntry`, with `Cancelled` if the timeline is closed, and with `Overflow` if the value would pass the
-    /// greatest u64; then nothing has changed. Takes no memory.
+    /// greatest u64; then nothing has changed. Does not allocate.
     pub fn inc(&mut self, name: &Name, n: u64) -> Result<u64, Refusal>
         ensures value { IfOk result (λ v. v ≡ value_of self.old name.now + n) }
         ensures raised { OnOk result (self.new ≡ raised self.old name.now n) }
@@ -159,7 +159,7 @@ impl Timelines {
     /// Closes that timeline, as the close of a sw_sync timeline's descriptor does, and answers its value, which stays. Its
     /// pending points are cancelled: each point of it is reached from now on.
     ///
-    /// Fails with `NoEntry`, and with `Cancelled` if it is closed already; then nothing has changed. Takes no memory.
+    /// Fails with `NoEntry`, and with `Cancelled` if it is closed already; then nothing has changed. Does not allocate.
     ///
     /// For users of the library; no program here calls it: the desk calls `current` and `close`.
     pub fn shut(&mut self, name: &Name) -> Result<u64, Refusal>
@@ -209,7 +209,7 @@ impl Timelines {
 
     /// The value of the timeline of that name. A closed timeline keeps its value.
     ///
-    /// Fails with `NoEntry`. Takes no memory.
+    /// Fails with `NoEntry`. Does not allocate.
     pub fn value(&self, name: &Name) -> Result<u64, Refusal>
         ensures value { IfOk result (λ v. v ≡ value_of self.now name.now) }
         ensures timeline { IfOk result (λ v. timeline_at self.now name.now ≡

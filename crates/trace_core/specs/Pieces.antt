@@ -16,7 +16,7 @@ pub record Unpassed : Type 0 where
   -- whether it begins within a line that is too long
   pub long : Bool
 
--- what was let go of the line that the bytes begin within: nothing, or more than a piece has
+-- the bytes already dropped from the line in which these bytes begin: none, or more than a piece may have
 pub record WasLetGo (s : Unpassed) (front : List ℕ) : Type 0 where
   pub short : s.long ≡ false → front ≡ []
   pub long : s.long ≡ true → PIECE_BYTES < length front

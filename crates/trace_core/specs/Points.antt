@@ -8,13 +8,13 @@ are_none None = true
 are_none (One n) = false
 are_none Several = false
 
--- whether that one was seen, and no other
+-- whether only `seqno` was seen
 unfoldable pub is_only : ℕ → Points → Bool
 is_only seqno None = false
 is_only seqno (One n) = n == seqno
 is_only seqno Several = false
 
--- with that one
+-- the set after `seqno` is seen
 unfoldable pub points_after : ℕ → Points → Points
 points_after seqno None = One seqno
 points_after seqno (One n) = if n == seqno then One n else Several

@@ -137,7 +137,7 @@ fn grouped_by(
     Ok(grouped)
 }
 
-/// The place of the first fence of its timeline, which it is itself where there was none.
+/// The place of the first fence of its timeline, which is this fence's own if its timeline has no earlier one.
 fn group_of(firsts: &mut IndexMap<TimelineKey, u64>, fence: &Pending) -> Result<u64, AllocError> {
     let timeline = fence.key.timeline_key();
     if let Some(first) = firsts.get(&timeline) {

@@ -2,12 +2,13 @@
 use crate::calls::{Calls, name};
 use desk_core::{Answer, Command, run};
 use point_core::Refusal;
-use script_core::{Line, LineCutter, print, read_script};
+use script_core::{Body, Line, LineCutter, print, read_script};
 use std::alloc::Global;
 
 pub(crate) fn make_calls(rt: &HostRuntime, calls: &mut Calls) {
     let lines = lines(rt.alloc(), calls);
     calls.tell(rt, "read_script", &lines);
+    calls.tell(rt, "the first line's command", &first_command(&lines));
     cut(rt, calls);
     if let Ok(a) = name(b'a') {
         run_commands(rt, calls, &[Command::Timeline(a), Command::Inc(a, 2)]);
@@ -19,6 +20,16 @@ pub(crate) fn make_calls(rt: &HostRuntime, calls: &mut Calls) {
 fn lines(alloc: Global, calls: &Calls) -> Result<Vec<Line>, Refusal> {
     calls.allow()?;
     read_script(alloc, b"value a\n\nxx")
+}
+
+fn first_command(lines: &Result<Vec<Line>, Refusal>) -> Option<Command> {
+    let Ok(lines) = lines else {
+        return None;
+    };
+    match lines.get(0)?.body {
+        Body::Cmd(command) => Some(command),
+        Body::Bad(_) => None,
+    }
 }
 
 /// Cuts a script of three lines byte by byte. The second is empty, and the third doesn't end.

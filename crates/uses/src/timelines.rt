@@ -1,7 +1,7 @@
 //! Calls of `timeline_core`, on two timelines.
 use crate::calls::{Calls, name};
 use point_core::{Context, Name, Refusal};
-use timeline_core::Timelines;
+use timeline_core::{TimelineRow, Timelines};
 
 pub(crate) fn make_calls(rt: &HostRuntime, calls: &mut Calls) {
     if let Ok(mut timelines) = Timelines::new(rt.alloc()) {
@@ -50,11 +50,13 @@ fn show(rt: &HostRuntime, calls: &mut Calls, timelines: &Timelines, timeline: &N
 }
 
 fn rows(rt: &HostRuntime, calls: &mut Calls, timelines: &Timelines) {
-    let rows = match calls.allow() {
-        Ok(()) => timelines.rows(),
-        Err(refusal) => Err(refusal),
-    };
+    let rows = listed(calls, timelines);
     calls.tell(rt, "rows", &rows);
+}
+
+fn listed(calls: &Calls, timelines: &Timelines) -> Result<Vec<TimelineRow>, Refusal> {
+    calls.allow()?;
+    timelines.rows()
 }
 
 /// The reach after one more increment, before and after the timeline is closed. A closed one keeps its value, and is never

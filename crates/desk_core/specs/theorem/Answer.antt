@@ -120,7 +120,7 @@ abbrev pub info_of : World → List ℕ → MadeFile → Info
 info_of w name f =
     record { name = name; status = file_status w f; fences = or_stub (map (fence_row w.timelines) (listed_points f)) }
 
--- what is reported of the file of a name: of no file nothing, though there always is one when this is asked
+-- the report on the file with that name; without such a file `Done`, which no accepted command reaches
 abbrev pub info_reported : World → List ℕ → Option MadeFile → Answer
 info_reported w name None = answer.Done
 info_reported w name (Some f) = answer.Info (info_of w name f)

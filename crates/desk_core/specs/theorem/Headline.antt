@@ -101,7 +101,7 @@ pub record ReportsWhatIsInBuffers (desk : DeskState) (history : List Command) : 
       → Answers desk (command.Test name usage) given → ((given ≡ answer.Value 1) ↔ IsBufferReached history name usage)
   pub tested_pending : (name : List ℕ) (usage : Usage) (given : Answer) → has_buffer desk.buffers name ≡ true
       → Answers desk (command.Test name usage) given → ((given ≡ answer.Value 0) ↔ (¬ IsBufferReached history name usage))
-  -- a reservation never holds more than its places
+  -- a reservation never holds more than its places, as no table of latest points can
   pub places : (name : List ℕ) → length (entries_of desk.buffers name) ≤ PLACES
 
 -- values are sums of increments, and the desk reports them
@@ -130,7 +130,7 @@ pub record ReportsWhatFires (desk : DeskState) (history : List Command) : Type 0
   -- `inc` reports the cookies of the watches that it fires, by registration
   pub reported : (name : List ℕ) (n value : ℕ) (fired : List ℕ) → Answers desk (command.Inc name n) (answer.Raised value fired)
       → fired ≡ cookies_of (fired_after history name n)
-  -- these are the pending watches of which every put point is reached at the new values
+  -- these are the pending watches whose put points are all reached at the new values
   pub due : (name : List ℕ) (n : ℕ) (x : MadeWatch) → (Contains (fired_after history name n) x
       ↔ (Contains (pending_after history) x × IsReached x.put 0 (values_after (history ++ command.Inc name n ∷ []))))
   -- and `shut` those that it fires

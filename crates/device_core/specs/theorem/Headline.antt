@@ -60,7 +60,7 @@ pub record ReportsBuffers (d : DeviceState) (history : List Request) : Type 0 wh
   -- each buffer agrees with the union of all that was put into it
   pub agrees : (n : ℕ) (b : BufferState) → buffer_at d n ≡ Some b →
       AgreesAbove (reach_after history) (entries_of b.fences) (put_into history n)
-  -- buffers into which the same was put agree
+  -- buffers with the same put entries agree
   pub same_put : (m n : ℕ) (a b : BufferState) → buffer_at d m ≡ Some a → buffer_at d n ≡ Some b →
       HasSameEntries (put_into history m) (put_into history n) →
       AgreesAbove (reach_after history) (entries_of a.fences) (entries_of b.fences)

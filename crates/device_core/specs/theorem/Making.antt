@@ -46,10 +46,10 @@ time_reached history number l = unwrap_or (reached_from number l.point empty_wor
 abbrev pub last_signal : List Request → ℕ → Making → ℕ
 last_signal history number m = fold max m.stub_at (map (time_reached history number) m.points)
 
--- what a request makes, after a history and what that made: a file of one point, as it was asked for; a merge or an
--- export, of the latest pending points of each timeline among all that was put in. A merge without any signalled when
--- the last fence of both files did, and an export when its buffer was made. Other requests make nothing, and theirs is
--- never looked at
+-- the file that a request makes, given the history and the files that it made: one point, as requested; or, for a merge
+-- or an export, the latest pending point of each timeline among all points put in. A merge without pending points has
+-- the signal of the last fence of both files, such an export the time at which its buffer was made. For any other request
+-- the value is unused
 abbrev pub made_as : (ℕ → Making) → List Request → Request → Making
 made_as made history (request.Open name) = making name [] 0
 made_as made history (request.Fence timeline point now) =

@@ -51,8 +51,7 @@ impl WaitingPoint {
     }
 }
 
-/// The points at which pending watches stand, one for each watch: a queue for each context up to the last one where any
-/// stood.
+/// The indexed point of each pending watch, in a queue for each context up to the last one that ever had such a point.
 #[derive(Drop)]
 pub(super) struct PointIndex {
     alloc: Global,

@@ -161,7 +161,7 @@ fn recorded<R: Threads + Wait + Abort + Sync, G: Gate>(
     puts.into_inner()
 }
 
-/// Checks that a table which records its puts has recorded both, of the two clients of `plans_of_two`.
+/// Checks that a table which records its puts has recorded the put of each client of `plans_of_two`.
 fn check_recorded<R: Threads + Wait + Abort + Sync>(rt: &R, alloc: Global, plans: &[Plan]) {
     let puts = recorded(rt, alloc, plans, &OpenGate);
     holds(rt, are_puts_of_two(puts.as_slice()));
