@@ -135,11 +135,11 @@ def differs(run, status, output, errors):
     return ""
 
 
-def tell_trials(program, trials):
+def tell_tests(program, tests):
     """Runs tests of a program, each of which yields cases with what is wrong, and prints a line for each test."""
-    for name, trial in trials:
+    for name, test in tests:
         before = program.runs
-        wrong = [f"{case}: {mistake}" for case, mistake in trial(program) if mistake]
+        wrong = [f"{case}: {mistake}" for case, mistake in test(program) if mistake]
         shown = "; ".join(wrong[:3]) + (f"; and {len(wrong) - 3} more" if len(wrong) > 3 else "")
         print(f"{name}, {program.runs - before} runs\t{shown}", flush=True)
 
