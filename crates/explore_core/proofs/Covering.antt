@@ -17,7 +17,7 @@ use Rattle.desk_core.proofs.Answering.{world_from-push}
 use Rattle.desk_core.proofs.Sound.{IsSound-history}
 use Rattle.explore_core.specs.declared.plan.Step.{Step}
 use Rattle.explore_core.specs.Alike.{AsksOnly, AreAlike, IsSameWatch, after_answer}
-use Rattle.explore_core.specs.Schedule.{Lines, Standing, Schedule, answer_now, history_with, history_along, beginning, lines_of, made_by, next_line, can_be_made, after_line, made_line, after_one, Leads, ComesTo, IsStuck, IsAnswered}
+use Rattle.explore_core.specs.Schedule.{Lines, Standing, Schedule, answer_now, history_with, history_along, beginning, lines_of, made_by, next_line, can_be_made, place_after, after_line, made_line, after_one, Leads, ComesTo, IsStuck, IsAnswered}
 use Rattle.explore_core.specs.Covering.{MayAsk, GoOnAlike, HasAlike, AreEnough, AnswersThere, IsStuckThere}
 use Rattle.explore_core.proofs.Answering.{same_answer}
 use Rattle.explore_core.proofs.Staying.{alike-answered, IsSound-answered}
@@ -81,7 +81,8 @@ module _ {asked : List ℕ → Bool} {plan : Lines} (may : MayAsk asked plan) {s
 
   line-alike : (client : ℕ) (step : Step) → AsksOnly asked step.command → GoOnAlike asked (after_line s client step) (after_line t client step)
   line-alike client step asks = record {
-    made = ap (λ made. set made client (get_or made client 0 + 1)) g.made;
+    made = ap (λ made. set made client (place_after step (get_or made client 0) (answer_now s.history step.command))) g.made
+        ∙ ap (λ given. set t.made client (place_after step (made_by t client) given)) (answer-same step asks);
     worlds = rw (world-with s.history step.command, world-with t.history step.command) (alike-answered g.worlds step.command asks sound);
   }
 

@@ -6,7 +6,7 @@ use Rattle.desk_core.specs.theorem.Answer.{is_refused}
 use Rattle.desk_core.specs.theorem.Desk.{HasHistory}
 use Rattle.explore_core.specs.declared.plan.Step.{Step}
 use Rattle.explore_core.specs.declared.position.Position.{Position}
-use Rattle.explore_core.specs.Schedule.{Lines, Standing, answer_now, history_with, made_by, next_line, after_line, made_line, after_one}
+use Rattle.explore_core.specs.Schedule.{Lines, Standing, answer_now, history_with, made_by, next_line, place_after, after_line, made_line, after_one}
 use Rattle.explore_core.specs.Search.{Answers, IsMade, IsAt, standing_after}
 
 module _ (plan : Lines) (now : Standing) (client : ℕ) (step : Step) (given : Answer) (old new : Position) (at : IsAt old now) (next : next_line plan now client ≡ Some step) (made : IsMade old.desk step.command given new.desk) where
@@ -37,7 +37,7 @@ module _ (plan : Lines) (now : Standing) (client : ℕ) (step : Step) (given : A
       subst (IsAt new) (sym (ap (λ (o : Option Standing). unwrap_or o now) (after-by true held)))
       (record { desk = subst (HasHistory new.desk) stays (made now.history at.desk).1; made = same ∙ at.made })
 
-  pub IsAt-made : (step.waits && is_refused given) ≡ false → new.made.items ≡ set old.made.items client (get_or old.made.items client 0 + 1) → IsAt new (standing_after plan now client)
+  pub IsAt-made : (step.waits && is_refused given) ≡ false → new.made.items ≡ set old.made.items client (place_after step (get_or old.made.items client 0) given) → IsAt new (standing_after plan now client)
   IsAt-made free set_is =
       subst (IsAt new) (sym (ap (λ (o : Option Standing). unwrap_or o now) (after-by false free)))
-      (record { desk = (made now.history at.desk).1; made = set_is ∙ ap (λ (ps : List ℕ). set ps client (get_or ps client 0 + 1)) at.made })
+      (record { desk = (made now.history at.desk).1; made = set_is ∙ ap (λ (ps : List ℕ). set ps client (place_after step (get_or ps client 0) given)) at.made ∙ ap (λ (g : Answer). set now.made client (place_after step (made_by now client) g)) given-is })

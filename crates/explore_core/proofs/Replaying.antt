@@ -9,7 +9,7 @@ use Rattle.desk_core.specs.theorem.World.{empty_world}
 use Rattle.desk_core.proofs.Answering.{AreAccepted-push}
 use Rattle.explore_core.specs.declared.plan.Step.{Step}
 use Rattle.explore_core.specs.declared.position.Position.{Position}
-use Rattle.explore_core.specs.Schedule.{Lines, Standing, answer_now, history_with, next_line, can_be_made, after_line, made_line, after_one}
+use Rattle.explore_core.specs.Schedule.{Lines, Standing, answer_now, history_with, next_line, can_be_made, place_after, after_line, made_line, after_one}
 use Rattle.explore_core.specs.Search.{IsAt, keeps_world}
 use Rattle.explore_core.proofs.Covering.{world-with}
 use Rattle.explore_core.proofs.Visiting.{stays-world}
@@ -35,11 +35,11 @@ asked-history d history c keeps has =
 -- a line that is made, or passed over
 pub IsAt-again : (plan : Lines) (now next : Standing) (client : ℕ) (step : Step) (old new : Position) → IsAt old now → next_line plan now client ≡ Some step
     → after_one plan now client ≡ Some next → HasHistory new.desk (history_with now.history step.command)
-    → new.made.items ≡ set old.made.items client (get_or old.made.items client 0 + 1) → IsAt new next
+    → new.made.items ≡ set old.made.items client (place_after step (get_or old.made.items client 0) (answer_now now.history step.command)) → IsAt new next
 IsAt-again plan now next client step old new at line goes desk made = by (can_be_made now step) (sym (ap (made_line now client) line) ∙ goes)
   where
     there : IsAt new (after_line now client step)
-    there = record { desk = desk; made = made ∙ ap (λ (ps : List ℕ). set ps client (get_or ps client 0 + 1)) at.made }
+    there = record { desk = desk; made = made ∙ ap (λ (ps : List ℕ). set ps client (place_after step (get_or ps client 0) (answer_now now.history step.command))) at.made }
 
     by : (b : Bool) → (if b then Some (after_line now client step) else None) ≡ Some next → IsAt new next
     by true goes = subst (IsAt new) (same_Some (after_line now client step) next goes) there

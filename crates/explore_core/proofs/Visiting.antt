@@ -13,7 +13,7 @@ use Rattle.desk_core.specs.theorem.World.{World, after}
 use Rattle.explore_core.specs.declared.plan.Step.{Step}
 use Rattle.explore_core.specs.declared.position.Position.{Position}
 use Rattle.explore_core.specs.Alike.{after_answer}
-use Rattle.explore_core.specs.Schedule.{Lines, Standing, answer_now, history_with, made_by, next_line, after_line, after_one}
+use Rattle.explore_core.specs.Schedule.{Lines, Standing, answer_now, history_with, made_by, next_line, place_after, after_line, after_one}
 use Rattle.explore_core.specs.Search.{Answers, IsAt, keeps_world, stays, standing_after}
 use Rattle.explore_core.proofs.Covering.{world-with}
 use Rattle.explore_core.proofs.Finding.{after-answers}
@@ -62,7 +62,7 @@ IsAt-back plan now client place given old new accepted a line next same at desk 
     let kept : stays step.command given ≡ true = subst (λ (s : Step). stays s.command given ≡ true) (same_Some line step (sym next ∙ a.next)) same in
     record {
       desk = subst (λ (d : DeskState). HasHistory d now.history) (sym desk) (back-history old.desk now.history step.command given accepted a.answer kept there.desk);
-      made = made ∙ ap (λ (ps : List ℕ). set ps client place) there.made ∙ set-set now.made client (made_by now client + 1) place
+      made = made ∙ ap (λ (ps : List ℕ). set ps client place) there.made ∙ set-set now.made client (place_after step (made_by now client) (answer_now now.history step.command)) place
           ∙ ap (set now.made client) (sym a.at) ∙ set-get_or now.made client 0;
     }
 

@@ -11,7 +11,7 @@ pub record MayAsk (asked : List ℕ → Bool) (plan : Lines) : Type 0 where
   pub lines : (client place : ℕ) (step : Step) → slice_get (lines_of plan client) place ≡ Some step → AsksOnly asked step.command
   pub last : All (AsksOnly asked) plan.last
 
--- in both, each client has made equally many lines, and the worlds are alike
+-- in both, each client is at the same line, and the worlds are alike
 pub record GoOnAlike (asked : List ℕ → Bool) (now other : Standing) : Type 0 where
   pub made : now.made ≡ other.made
   pub worlds : AreAlike asked (world_of now.history) (world_of other.history)
@@ -36,6 +36,6 @@ pub record AnswersThere (plan : Lines) (kept : List Standing) (client place : �
   pub made : can_be_made now step ≡ true
   pub answer : given ≡ answer_now now.history step.command
 
--- a kept standing, at which each client has made equally many lines, is stuck
+-- a kept standing, at which each client is at the same line, is stuck
 abbrev pub IsStuckThere : Lines → List Standing → Standing → Type 0
 IsStuckThere plan kept now = (other : Standing) × Contains kept other × IsStuck plan other × (now.made ≡ other.made)

@@ -1,4 +1,5 @@
 pub mod Alike
+pub mod Branch
 pub mod Covering
 pub mod Found
 pub mod Looks

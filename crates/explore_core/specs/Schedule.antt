@@ -1,7 +1,10 @@
 -- The schedules of a plan.
-use Rattle.std.specs.Prelude.{◌≡◌, ℕ, ◌+◌, Bool, true, not, ◌&&◌, if◌then◌else◌, List, [], ◌∷◌, length, replicate, get_or, set, slice_get, take, unwrap_or, Option, None, Some, IsSome}
+use Rattle.std.specs.Prelude.{◌≡◌, ℕ, ◌+◌, Bool, true, not, ◌&&◌, if◌then◌else◌, List, [], ◌∷◌, length, nat_eq, replicate, get_or, set, slice_get, take, unwrap_or, Option, None, Some, IsSome}
+use Rattle.std.specs.List.{starts_with}
 use Rattle.command_core.specs.declared.command.Command.{Command}
 use Rattle.command_core.specs.declared.answer.Answer.{Answer}
+use Rattle.report_core.specs.Answer.{text_of}
+use Rattle.explore_core.specs.Branch.{Branching}
 use Rattle.explore_core.specs.declared.plan.Step.{Step}
 use Rattle.desk_core.specs.theorem.Answer.{answer_to, is_refused}
 use Rattle.desk_core.specs.theorem.History.{world_of, history_after}
@@ -12,7 +15,7 @@ pub record Lines : Type 0 where
   pub clients : List (List Step)
   pub last : List Command
 
--- how many lines each client has made, and the commands accepted so far
+-- how many lines each client has made or skipped, and the commands accepted so far
 pub record Standing : Type 0 where
   pub made : List ℕ
   pub history : List Command
@@ -48,9 +51,22 @@ next_line plan now client = slice_get (lines_of plan client) (made_by now client
 abbrev pub can_be_made : Standing → Step → Bool
 can_be_made now step = not (step.waits && is_refused (answer_now now.history step.command))
 
+-- The client makes the lines of the branch: the answer's text begins with the branch's line. The text of a command's answer shows no
+-- number of a line, so any number will do.
+abbrev pub is_taken : Branching → Answer → Bool
+is_taken branch given = starts_with nat_eq (text_of 0 given) branch.text
+
+abbrev pub place_by : Option Branching → ℕ → Answer → ℕ
+place_by None place given = place + 1
+place_by (Some branch) place given = if is_taken branch given then place + 1 else branch.otherwise
+
+-- the place of the client's next line, after the line at this place has got that answer
+abbrev pub place_after : Step → ℕ → Answer → ℕ
+place_after step place given = place_by step.branch place given
+
 abbrev pub after_line : Standing → ℕ → Step → Standing
 after_line now client step = record {
-  made = set now.made client (made_by now client + 1);
+  made = set now.made client (place_after step (made_by now client) (answer_now now.history step.command));
   history = history_with now.history step.command;
 }
 

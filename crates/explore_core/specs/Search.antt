@@ -52,7 +52,7 @@ IsMade old command given new =
     (history : List Command) → HasHistory old history
     → (given ≡ answer_now history command) × HasHistory new (history_with history command)
 
--- the desk has the standing's history, and each client has made as many lines as at the standing
+-- the desk has the standing's history, and each client is at the same line as at the standing
 pub record IsAt (position : Position) (now : Standing) : Type 0 where
   pub desk : HasHistory position.desk now.history
   pub made : position.made.items ≡ now.made
@@ -186,7 +186,7 @@ abbrev pub HasLike : Lines → List State → Standing → Type 0
 HasLike plan states now =
     (state : State) × Contains states state × GoOnAlike (is_asked plan) now (standing_at plan state)
 
--- in both, each client has made equally many lines, and the desks look the same
+-- in both, each client is at the same line, and the desks look the same
 pub record AreSameSeen (a b : Seen) : Type 0 where
   pub made : a.state.made.items ≡ b.state.made.items
   pub look : AreSameLooks a.look b.look
@@ -238,7 +238,7 @@ pub record AreSamePlaces (a b : Places) : Type 0 where
   pub here : All (Contains a.files.items) b.files.items
   pub count : length a.files.items ≡ length b.files.items
 
--- in both, each client has made equally many lines, and the looks have the same parts
+-- in both, each client is at the same line, and the looks have the same parts
 pub record AreSameKept (a b : Kept) : Type 0 where
   pub made : a.state.made.items ≡ b.state.made.items
   pub places : AreSamePlaces a.places b.places

@@ -97,7 +97,7 @@ impl Level {
 }
 
 impl Kept {
-    /// Whether each client has made equally many lines in both states, and the looks have the same parts.
+    /// Whether each client is at the same line in both states, and the looks have the same parts.
     fn is_same(&self, other: &Kept) -> bool
         ensures { result ≡ true → AreSameKept self.now other.now }
     {

@@ -23,5 +23,5 @@ mod visit;
 pub use explorer::{STATES, explore};
 pub use found::{Found, Given};
 pub use list::SCHEDULED_CLIENTS;
-pub use plan::{Plan, Step};
-pub use position::line_at;
+pub use plan::{Branch, Plan, Step};
+pub use position::{line_at, make};

@@ -1,23 +1,44 @@
-//! `Plan`: the lines of each client, and the commands before and after them. `explore_report` makes it from a script, and `explore`
-//! decides it.
-ghost use Rattle.std.specs.Prelude.{◌≡◌, Vec, IfOk, OnOk};
+//! `Plan`: the lines of each client, and the commands before and after them. Some lines are in a branch, which the client makes only
+//! after one answer to the line above it. `explore_report` makes a plan from a script, and `explore` decides it.
+ghost use Rattle.std.specs.Prelude.{◌≡◌, ◌+◌, Vec, IfOk, OnOk};
 ghost use Rattle.std.specs.Global.{Global};
 ghost use Rattle.std.specs.List.{list_any};
 ghost use Rattle.explore_core.specs.declared.plan.Step.{Step as Line};
+ghost use Rattle.explore_core.specs.Schedule.{is_taken, place_after};
 ghost use Rattle.explore_core.specs.Search.{asked_file, asks_for, client_asks, AreAsked, Adds};
 
-use command_core::Command;
+use command_core::{Answer, Command};
 use point_core::Name;
+use report_core::print;
 use std::alloc::{AllocError, Global};
 use std::marker::Model;
 
 /// A line of a client.
-#[derive(Clone, Copy)]
+#[derive(Drop)]
 pub struct Step {
     pub command: Command,
     /// Whether the client waits with the line until it would be accepted. Any other line is made at once, whatever its
     /// answer is.
     pub waits: bool,
+    /// The branch that begins below the line.
+    pub branch: Option<Branch>,
+}
+
+/// Lines of a client, from the line below another one on, that the client makes only after one answer to that other line.
+#[derive(Drop)]
+pub struct Branch {
+    /// The first line of that answer, with its line feed.
+    pub text: Vec<u8>,
+    /// After any other answer the client continues at this place among its lines, behind the branch.
+    pub otherwise: usize,
+}
+
+impl Model for Branch {
+    ghost use Rattle.explore_core.specs.Branch.{Branching};
+
+    ghost Value = { Branching };
+
+    ghost view = { λ b. record { text = b.text.items; otherwise = b.otherwise } };
 }
 
 /// The commands that come first, the lines of each client, and the commands once all clients are done.
@@ -41,6 +62,49 @@ impl Model for Plan {
       clients = map (λ (steps : Vec Step Global). steps.items) p.clients.items;
       last = p.last.items;
     } };
+}
+
+impl Step {
+    /// The place of the client's next line, once the line, which is at this place, has got that answer.
+    ///
+    /// Fails if no memory is found for the text of the answer.
+    pub fn place_after(&self, place: usize, answer: &Answer) -> Result<usize, AllocError>
+        ensures next { IfOk result (λ next. next ≡ place_after self.now place answer.now) }
+    {
+        let Some(branch) = &self.branch else {
+            return next_place(place);
+        };
+        if !branch.is_taken(answer)? {
+            return Ok(branch.otherwise);
+        }
+        next_place(place)
+    }
+}
+
+impl Branch {
+    /// Whether the client makes the lines of the branch after this answer.
+    ///
+    /// Fails if no memory is found for the text of the answer.
+    fn is_taken(&self, answer: &Answer) -> Result<bool, AllocError>
+        ensures taken { IfOk result (λ taken. taken ≡ is_taken self.now answer.now) }
+    {
+        let mut text = Vec::new(*self.text.allocator());
+        let Ok(_done) = print(0, answer, &mut text) else {
+            return Err(AllocError);
+        };
+        Ok(text.as_slice().starts_with(self.text.as_slice()))
+    }
+}
+
+/// The place after this one.
+pub(crate) fn next_place(place: usize) -> Result<usize, AllocError>
+    ensures next { IfOk result (λ next. next ≡ place + 1) }
+{
+    let Some(next) = place.checked_add(1) else {
+        // This can't happen: there are fewer lines than a usize counts.
+        return Err(AllocError);
+    };
+    Ok(next)
 }
 
 impl Plan {

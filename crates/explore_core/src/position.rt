@@ -1,12 +1,12 @@
-//! `Position`: a desk along a schedule, and how many lines each client has made on it.
-ghost use Rattle.std.specs.Prelude.{◌≡◌, ◌+◌, ◌&&◌, true, List, Some, IsTrue, IfOk, OnOk, replicate, get_or, set, slice_get};
+//! `Position`: a desk along a schedule, and how many lines each client has made or skipped on it.
+ghost use Rattle.std.specs.Prelude.{◌≡◌, ◌+◌, ◌&&◌, true, List, Some, IsTrue, IfOk, OnOk, replicate, get_or, set, slice_get, option_copied};
 ghost use Rattle.command_core.specs.declared.command.Command.{Command};
 ghost use Rattle.desk_core.specs.theorem.Answer.{is_refused};
 ghost use Rattle.desk_core.specs.theorem.Desk.{HasHistory};
-ghost use Rattle.explore_core.specs.Schedule.{Lines, Standing, ComesTo, Leads, after_one, history_along, history_with, lines_of, made_by, next_line};
+ghost use Rattle.explore_core.specs.Schedule.{Lines, Standing, ComesTo, Leads, after_one, answer_now, history_along, history_with, lines_of, made_by, next_line, place_after};
 ghost use Rattle.explore_core.specs.Search.{IsMade, IsAt, IsTurn, keeps_world, standing_of};
 
-use crate::plan::{Plan, Step};
+use crate::plan::{Plan, Step, next_place};
 use command_core::{Answer, Command};
 use desk_core::Desk;
 use point_core::Refusal;
@@ -51,7 +51,7 @@ impl Position {
         Ok(())
     }
 
-    /// The client makes its next line, which can be made here. Its answer is known, so a line that only asks is not run.
+    /// The client makes its next line, which can be made here.
     fn go_again(&mut self, plan: &Plan, client: usize) -> Result<(), AllocError>
         ensures after { OnOk result ((now next : Standing) →
             IsAt self.old now → after_one plan.now now client ≡ Some next → IsAt self.new next) }
@@ -60,8 +60,7 @@ impl Position {
         let Some(step) = line_at(plan, client, place) else {
             return Ok(());
         };
-        let next = next_place(place)?;
-        make_again(&mut self.desk, step.command)?;
+        let next = pass(&mut self.desk, step, place)?;
         self.count_to(client, next);
         Ok(())
     }
@@ -76,12 +75,15 @@ impl Position {
         ensures made { IfOk result (λ made. (plan : Lines) (now : Standing) → IsAt self.old now →
             made_by now client ≡ place → next_line plan now client ≡ Some step.now → IsTurn plan now client place made self.new) }
     {
-        let next = next_place(place)?;
         let answer = make(&mut self.desk, step.command)?;
         if is_held(step, &answer) {
             drop(answer);
             return Ok(None);
         }
+        let Ok(next) = step.place_after(place, &answer) else {
+            drop(answer);
+            return Err(AllocError);
+        };
         self.count_to(client, next);
         Ok(Some(answer))
     }
@@ -112,17 +114,6 @@ pub(crate) fn place_of(made: &[usize], client: usize) -> usize
     made.get(client).copied().unwrap_or(0)
 }
 
-/// The place after this one.
-fn next_place(place: usize) -> Result<usize, AllocError>
-    ensures next { IfOk result (λ next. next ≡ place + 1) }
-{
-    let Some(next) = place.checked_add(1) else {
-        // This can't happen: there are fewer lines than a usize counts.
-        return Err(AllocError);
-    };
-    Ok(next)
-}
-
 fn set(made: &mut [usize], client: usize, place: usize)
     ensures { made.new ≡ set made.old client place }
 {
@@ -132,11 +123,11 @@ fn set(made: &mut [usize], client: usize, place: usize)
 }
 
 /// The client's line at this place, unless the client has fewer lines. A script of a schedule takes its lines from here.
-pub fn line_at(plan: &Plan, client: usize, place: usize) -> Option<Step>
-    ensures { result ≡ slice_get (lines_of plan.now client) place }
+pub fn line_at(plan: &Plan, client: usize, place: usize) -> Option<&Step>
+    ensures { option_copied result ≡ slice_get (lines_of plan.now client) place }
 {
     let lines = plan.clients.get(client)?;
-    lines.get(place).copied()
+    lines.get(place)
 }
 
 /// Whether the command only asks, or drops what no answer shows.
@@ -166,6 +157,23 @@ fn make_all(desk: &mut Desk, commands: &[Command]) -> Result<(), AllocError>
     Ok(())
 }
 
+/// Makes the line, whose answer is known, and gives the place of the client's next line. Only a branch depends on the answer.
+fn pass(desk: &mut Desk, step: &Step, place: usize) -> Result<usize, AllocError>
+    ensures along { OnOk result ((history : List Command) →
+        HasHistory desk.old history → HasHistory desk.new (history_with history step.now.command)) }
+    ensures next { IfOk result (λ next. (history : List Command) →
+        HasHistory desk.old history → next ≡ place_after step.now place (answer_now history step.now.command)) }
+{
+    if step.branch.is_none() {
+        make_again(desk, step.command)?;
+        return next_place(place);
+    }
+    let answer = make(desk, step.command)?;
+    let next = step.place_after(place, &answer);
+    drop(answer);
+    next
+}
+
 /// Makes the command, unless it only asks: the desk answers alike without it.
 fn make_again(desk: &mut Desk, command: Command) -> Result<(), AllocError>
     ensures along { OnOk result ((history : List Command) →
@@ -179,7 +187,7 @@ fn make_again(desk: &mut Desk, command: Command) -> Result<(), AllocError>
 }
 
 /// Makes the command, and fails if the desk finds no memory for it.
-pub(crate) fn make(desk: &mut Desk, command: Command) -> Result<Answer, AllocError>
+pub fn make(desk: &mut Desk, command: Command) -> Result<Answer, AllocError>
     ensures made { IfOk result (λ given. IsMade desk.old command given desk.new) }
 {
     let answer = desk.step(command);

@@ -285,7 +285,7 @@ fn try_client(
     let Ok(()) = visit.come_back(plan, schedule) else {
         return Err(Stop::Memory);
     };
-    let Ok(made) = visit.position.go(client, place, &step) else {
+    let Ok(made) = visit.position.go(client, place, step) else {
         return Err(Stop::Memory);
     };
     let Some(answer) = made else {

@@ -9,7 +9,7 @@ use crate::position::Position;
 use point_core::Name;
 use std::alloc::{AllocError, Global};
 
-/// The first schedule that leads to the state, and how many lines each client has made there.
+/// The first schedule that leads to the state, and how many lines each client has made or skipped there.
 #[derive(Drop)]
 pub(crate) struct State {
     pub(crate) schedule: Vec<u16>,

@@ -1,4 +1,4 @@
-use Rattle.std.proofs.Common.{◌+◌, refl, sym, ap, ◌∙◌, subst, Option, slice_get}
+use Rattle.std.proofs.Common.{◌+◌, refl, sym, ap, ◌∙◌, subst, Option, option_copied, slice_get}
 use Rattle.command_core.specs.declared.answer.Answer.{Answer}
 use Rattle.explore_core.specs.declared.position.Position.{Position}
 use Rattle.explore_core.specs.Schedule.{Schedule, ComesTo, lines_of}
@@ -49,7 +49,7 @@ returns-in_default-record-clause-grows c =
     let now = standing_of plan s in
     let at = c.in-Ok.ensures.at (subst (λ (s : Schedule). IsVisitOf c.args.visit.now (standing_of plan s)) (sym is) c.requires.at) in
     let here = place-here plan c.args.state.now s c.args.client c.place_of-place.result c.as_slice.result.now is (c.as_slice.ensures.value ∙ c.requires.state.made) c.place_of-place.ensures in
-    let next = ap (slice_get (lines_of plan c.args.client)) here ∙ sym c.line_at.ensures ∙ c.in-Some.is in
+    let next = ap (slice_get (lines_of plan c.args.client)) here ∙ sym c.line_at.ensures ∙ ap option_copied c.in-Some.is in
     let turn = c.in-Ok-go.ensures.made plan now at here next in
     let made = subst (λ (o : Option Answer). IsTurn plan now c.args.client c.place_of-place.result o c.go.new.self) c.in-Some-made.is turn in
     Grows-answered is c.requires.state made.0 c.args.found.now _ c.record.ensures.records refl refl
@@ -66,7 +66,7 @@ returns-in_default-of-clause-grows c =
     let now = standing_of plan s in
     let at = c.in-Ok.ensures.at (subst (λ (s : Schedule). IsVisitOf c.args.visit.now (standing_of plan s)) (sym is) c.requires.at) in
     let here = place-here plan c.args.state.now s c.args.client c.place_of-place.result c.as_slice.result.now is (c.as_slice.ensures.value ∙ c.requires.state.made) c.place_of-place.ensures in
-    let next = ap (slice_get (lines_of plan c.args.client)) here ∙ sym c.line_at.ensures ∙ c.in-Some.is in
+    let next = ap (slice_get (lines_of plan c.args.client)) here ∙ sym c.line_at.ensures ∙ ap option_copied c.in-Some.is in
     let turn = c.in-Ok-go.ensures.made plan now at here next in
     let made = subst (λ (o : Option Answer). IsTurn plan now c.args.client c.place_of-place.result o c.go.new.self) c.in-Some-made.is turn in
     Grows-answered is c.requires.state made.0 c.args.found.now _ c.record.ensures.records refl refl
@@ -78,7 +78,7 @@ returns-in_default-of-clause-extends c =
 pub returns-in_default-clause-tried : goal.returns-in_default-clause-tried
 returns-in_default-clause-tried c =
     let place = place-here c.args.plan.now c.args.state.now c.args.state.now.schedule.items c.args.client c.place_of-place.result c.as_slice.result.now refl (c.as_slice.ensures.value ∙ c.requires.state.made) c.place_of-place.ensures in
-    tried-done refl c.args.found.now (states_of c.args.next.now) (ap (slice_get (lines_of c.args.plan.now c.args.client)) place ∙ sym c.line_at.ensures ∙ c.in_default.is)
+    tried-done refl c.args.found.now (states_of c.args.next.now) (ap (slice_get (lines_of c.args.plan.now c.args.client)) place ∙ sym c.line_at.ensures ∙ ap option_copied c.in_default.is)
 
 pub come_back-requires : goal.come_back-requires
 come_back-requires c = record {
@@ -93,7 +93,7 @@ returns-in_default-made-clause-tried c =
     let now = standing_of plan s in
     let at = c.in-Ok.ensures.at (subst (λ (s : Schedule). IsVisitOf c.args.visit.now (standing_of plan s)) (sym is) c.requires.at) in
     let here = place-here plan c.args.state.now s c.args.client c.place_of-place.result c.as_slice.result.now is (c.as_slice.ensures.value ∙ c.requires.state.made) c.place_of-place.ensures in
-    let next = ap (slice_get (lines_of plan c.args.client)) here ∙ sym c.line_at.ensures ∙ c.in-Some.is in
+    let next = ap (slice_get (lines_of plan c.args.client)) here ∙ sym c.line_at.ensures ∙ ap option_copied c.in-Some.is in
     let turn = c.in-Ok-go.ensures.made plan now at here next in
     let waits = subst (λ (o : Option Answer). IsTurn plan now c.args.client c.place_of-place.result o c.go.new.self) c.in_default-made.is turn in
     tried-waits is c.args.found.now (states_of c.args.next.now) waits.0 waits.1
@@ -106,7 +106,7 @@ returns-in_default-made-clause-at c = λ fresh.
     let now = standing_of plan s in
     let at = c.in-Ok.ensures.at (subst (λ (s : Schedule). IsVisitOf c.args.visit.now (standing_of plan s)) (sym is) c.requires.at) in
     let here = place-here plan c.args.state.now s c.args.client c.place_of-place.result c.as_slice.result.now is (c.as_slice.ensures.value ∙ c.requires.state.made) c.place_of-place.ensures in
-    let next = ap (slice_get (lines_of plan c.args.client)) here ∙ sym c.line_at.ensures ∙ c.in-Some.is in
+    let next = ap (slice_get (lines_of plan c.args.client)) here ∙ sym c.line_at.ensures ∙ ap option_copied c.in-Some.is in
     let turn = c.in-Ok-go.ensures.made plan now at here next in
     let waits = subst (λ (o : Option Answer). IsTurn plan now c.args.client c.place_of-place.result o c.go.new.self) c.in_default-made.is turn in
     subst (λ (s : Schedule). IsAt c.go.new.self (standing_of plan s)) is waits.2
@@ -119,7 +119,7 @@ returns-in_err-keep-clause-grows c =
     let now = standing_of plan s in
     let at = c.in-Ok.ensures.at (subst (λ (s : Schedule). IsVisitOf c.args.visit.now (standing_of plan s)) (sym is) c.requires.at) in
     let here = place-here plan c.args.state.now s c.args.client c.place_of-place.result c.as_slice.result.now is (c.as_slice.ensures.value ∙ c.requires.state.made) c.place_of-place.ensures in
-    let next = ap (slice_get (lines_of plan c.args.client)) here ∙ sym c.line_at.ensures ∙ c.in-Some.is in
+    let next = ap (slice_get (lines_of plan c.args.client)) here ∙ sym c.line_at.ensures ∙ ap option_copied c.in-Some.is in
     let turn = c.in-Ok-go.ensures.made plan now at here next in
     let made = subst (λ (o : Option Answer). IsTurn plan now c.args.client c.place_of-place.result o c.go.new.self) c.in-Some-made.is turn in
     Grows-answered is c.requires.state made.0 c.args.found.now _ c.record.ensures.records refl refl
@@ -132,7 +132,7 @@ returns-clause-grows c =
     let now = standing_of plan s in
     let at = c.in-Ok.ensures.at (subst (λ (s : Schedule). IsVisitOf c.args.visit.now (standing_of plan s)) (sym is) c.requires.at) in
     let here = place-here plan c.args.state.now s c.args.client c.place_of-place.result c.as_slice.result.now is (c.as_slice.ensures.value ∙ c.requires.state.made) c.place_of-place.ensures in
-    let next = ap (slice_get (lines_of plan c.args.client)) here ∙ sym c.line_at.ensures ∙ c.in-Some.is in
+    let next = ap (slice_get (lines_of plan c.args.client)) here ∙ sym c.line_at.ensures ∙ ap option_copied c.in-Some.is in
     let turn = c.in-Ok-go.ensures.made plan now at here next in
     let made = subst (λ (o : Option Answer). IsTurn plan now c.args.client c.place_of-place.result o c.go.new.self) c.in-Some-made.is turn in
     Grows-answered is c.requires.state made.0 c.args.found.now _ c.record.ensures.records refl refl
@@ -149,7 +149,7 @@ returns-clause-extends c =
     let now = standing_of plan s in
     let at = c.in-Ok.ensures.at (subst (λ (s : Schedule). IsVisitOf c.args.visit.now (standing_of plan s)) (sym is) c.requires.at) in
     let here = place-here plan c.args.state.now s c.args.client c.place_of-place.result c.as_slice.result.now is (c.as_slice.ensures.value ∙ c.requires.state.made) c.place_of-place.ensures in
-    let next = ap (slice_get (lines_of plan c.args.client)) here ∙ sym c.line_at.ensures ∙ c.in-Some.is in
+    let next = ap (slice_get (lines_of plan c.args.client)) here ∙ sym c.line_at.ensures ∙ ap option_copied c.in-Some.is in
     let turn = c.in-Ok-go.ensures.made plan now at here next in
     let made = subst (λ (o : Option Answer). IsTurn plan now c.args.client c.place_of-place.result o c.go.new.self) c.in-Some-made.is turn in
     let there = subst (λ (p : Position). IsAt p (standing_after plan now c.args.client)) (sym c.note.ensures.position) made.1 in
@@ -164,7 +164,7 @@ returns-clause-tried c =
     let now = standing_of plan s in
     let at = c.in-Ok.ensures.at (subst (λ (s : Schedule). IsVisitOf c.args.visit.now (standing_of plan s)) (sym is) c.requires.at) in
     let here = place-here plan c.args.state.now s c.args.client c.place_of-place.result c.as_slice.result.now is (c.as_slice.ensures.value ∙ c.requires.state.made) c.place_of-place.ensures in
-    let next = ap (slice_get (lines_of plan c.args.client)) here ∙ sym c.line_at.ensures ∙ c.in-Some.is in
+    let next = ap (slice_get (lines_of plan c.args.client)) here ∙ sym c.line_at.ensures ∙ ap option_copied c.in-Some.is in
     let turn = c.in-Ok-go.ensures.made plan now at here next in
     let made = subst (λ (o : Option Answer). IsTurn plan now c.args.client c.place_of-place.result o c.go.new.self) c.in-Some-made.is turn in
     let there = subst (λ (p : Position). IsAt p (standing_after plan now c.args.client)) (sym c.note.ensures.position) made.1 in
@@ -179,10 +179,10 @@ returns-clause-at c = λ fresh.
     let now = standing_of plan s in
     let at = c.in-Ok.ensures.at (subst (λ (s : Schedule). IsVisitOf c.args.visit.now (standing_of plan s)) (sym is) c.requires.at) in
     let here = place-here plan c.args.state.now s c.args.client c.place_of-place.result c.as_slice.result.now is (c.as_slice.ensures.value ∙ c.requires.state.made) c.place_of-place.ensures in
-    let next = ap (slice_get (lines_of plan c.args.client)) here ∙ sym c.line_at.ensures ∙ c.in-Some.is in
+    let next = ap (slice_get (lines_of plan c.args.client)) here ∙ sym c.line_at.ensures ∙ ap option_copied c.in-Some.is in
     let turn = c.in-Ok-go.ensures.made plan now at here next in
     let made = subst (λ (o : Option Answer). IsTurn plan now c.args.client c.place_of-place.result o c.go.new.self) c.in-Some-made.is turn in
     let there = subst (λ (p : Position). IsAt p (standing_after plan now c.args.client)) (sym c.note.ensures.position) made.1 in
-    let back = IsAt-back plan now c.args.client c.place_of-place.result c.in-Some-made.answer c.note.new.self.position c.count_to.new.self at.desk.accepted made.0 c.in-Some.step next
-    (stays-here (stays c.in-Some.step.command c.in-Some-made.answer) (sym c.note.ensures.left ∙ fresh)) there c.count_to.ensures.desk c.count_to.ensures.made in
+    let back = IsAt-back plan now c.args.client c.place_of-place.result c.in-Some-made.answer c.note.new.self.position c.count_to.new.self at.desk.accepted made.0 c.in-Some.step.now next
+    (stays-here (stays c.in-Some.step.now.command c.in-Some-made.answer) (sym c.note.ensures.left ∙ fresh)) there c.count_to.ensures.desk c.count_to.ensures.made in
     subst (λ (s : Schedule). IsAt c.count_to.new.self (standing_of plan s)) is back

@@ -1,4 +1,5 @@
-use Rattle.std.proofs.Common.{◌+◌, sym, ap, ◌∙◌, subst, refl, is_some, get_or, set}
+use Rattle.std.proofs.Common.{sym, ap, ◌∙◌, subst, refl, is_some, get_or, set}
+use Rattle.explore_core.specs.Schedule.{place_after}
 use Rattle.explore_core.specs.Search.{IsMade}
 use Rattle.explore_core.proofs.Positions.{none-held, answers-free, IsAt-held, IsAt-made}
 use Rattle.explore_core.proofs.Visiting.{IsAt-stayed}
@@ -23,7 +24,7 @@ returns c = record {
       let made = subst (λ desk. IsMade old.desk step.command c.in_ok-answer.answer desk) (sym c.count_to.ensures.desk) c.in_ok-answer.ensures.made in
       let free = sym c.is_held.ensures ∙ c.if-is_held.false in
       let place = sym here ∙ ap (λ ps. get_or ps c.args.client 0) (sym at.made) in
-      let is = c.count_to.ensures.made ∙ ap (set old.made.items c.args.client) (c.in_ok-next.ensures.next ∙ ap (λ n. n + 1) place) in (
+      let is = c.count_to.ensures.made ∙ ap (set old.made.items c.args.client) (c.in-Ok.ensures.next ∙ ap (λ n. place_after step n c.in_ok-answer.answer) place) in (
         answers-free plan now c.args.client step c.in_ok-answer.answer old c.count_to.new.self at next made c.args.place here free,
         IsAt-made plan now c.args.client step c.in_ok-answer.answer old c.count_to.new.self at next made free is,
       );

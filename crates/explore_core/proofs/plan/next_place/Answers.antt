@@ -1,5 +1,5 @@
 use Rattle.std.proofs.Common.{arith}
-use Rattle.explore_core.proofs.position.next_place.Goals as goal
+use Rattle.explore_core.proofs.plan.next_place.Goals as goal
 
 pub returns : goal.returns
 returns c = record {
