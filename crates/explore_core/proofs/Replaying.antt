@@ -1,5 +1,5 @@
 -- A schedule that is run again, without the lines that only ask.
-use Rattle.std.proofs.Common.{◌≡◌, ℕ, ◌+◌, Bool, true, false, ◌||◌, refl, sym, ap, ◌∙◌, subst, List, [], ◌∷◌, ◌++◌, None, Some, if◌then◌else◌, get_or, set}
+use Rattle.std.proofs.Common.{◌≡◌, ℕ, Bool, true, false, ◌||◌, refl, sym, ap, ◌∙◌, subst, List, [], ◌∷◌, ◌++◌, None, Some, if◌then◌else◌, get_or, set}
 use Rattle.std.proofs.lemmas.Option.{same_Some, none-some}
 use Rattle.command_core.specs.declared.command.Command.{Command}
 use Rattle.desk_core.specs.theorem.Answer.{answer_to, is_refused}

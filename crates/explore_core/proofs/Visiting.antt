@@ -1,5 +1,5 @@
 -- A visit of a state, on which one client after another tries its next line.
-use Rattle.std.proofs.Common.{◌≡◌, ℕ, ◌+◌, Bool, true, false, not, ◌||◌, refl, sym, ap, ◌∙◌, subst, List, Option, None, Some, unwrap_or, if◌then◌else◌, set}
+use Rattle.std.proofs.Common.{◌≡◌, ℕ, Bool, true, false, not, ◌||◌, refl, sym, ap, ◌∙◌, subst, List, Option, None, Some, unwrap_or, if◌then◌else◌, set}
 use Rattle.std.proofs.lemmas.Bool.{false≢true}
 use Rattle.std.proofs.lemmas.List.{set-set, set-get_or}
 use Rattle.std.proofs.lemmas.Option.{same_Some}

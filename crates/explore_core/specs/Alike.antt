@@ -31,9 +31,9 @@ pub record IsSameWatch (reach : List ℕ) (x y : MadeWatch) : Type 0 where
   pub cookie : x.cookie ≡ y.cookie
   pub put : AgreesAbove reach x.put y.put
 
--- The same timelines. Files of the same names, whatever order they were made in; buffers and watches in the same order. Each
--- file, buffer and watch has the same still to come: at each usage the same latest pending point of each context. A file that may
--- be asked for it lists the same.
+-- The timelines are equal. The files have the same names, in any order; buffers and watches are in the same order. Each file, buffer
+-- and watch has the same pending points: at each usage the same latest pending point of each context. A file that `info` may query
+-- lists the same points.
 pub record AreAlike (asked : List ℕ → Bool) (w v : World) : Type 0 where
   pub timelines : w.timelines ≡ v.timelines
   pub file_counts : (name : List ℕ) → file_count w name ≡ file_count v name

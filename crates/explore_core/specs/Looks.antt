@@ -15,8 +15,8 @@ pub record WaitsAlike (reach : List ℕ) (x y : Watch) : Type 0 where
   pub cookie : x.cookie ≡ y.cookie
   pub points : AgreesAbove reach (as_entries x.points) (as_entries y.points)
 
--- The same timelines; files of the same names, in whatever order; the same buffers and watches, in order. Each file, buffer and
--- watch has the same still to come, and a file that may be asked for it lists the same.
+-- The timelines are equal. The files have the same names, in any order; buffers and watches are in the same order. Each file, buffer
+-- and watch has the same pending points, and a file that `info` may query lists the same points.
 pub record LooksAlike (asked : List ℕ → Bool) (d e : DeskState) : Type 0 where
   pub timelines : d.timelines ≡ e.timelines
   pub file_counts : (name : List ℕ) → count_by (is_named name) d.files ≡ count_by (is_named name) e.files

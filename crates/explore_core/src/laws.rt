@@ -1,5 +1,5 @@
-//! Laws of alike worlds, of desks that look alike, and of standings that are enough. Each law is the contract of a function with an
-//! empty body.
+//! Theorems about alike worlds, desks that look alike, and standings that cover all schedules. Each is the contract of a function
+//! with an empty body, which no caller runs.
 ghost use Rattle.std.specs.Prelude.{◌≡◌, ℕ, Bool, List, All};
 ghost use Rattle.command_core.specs.declared.command.Command.{Command};
 ghost use Rattle.desk_core.specs.theorem.World.{World};

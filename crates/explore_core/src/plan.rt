@@ -20,16 +20,16 @@ pub struct Step {
     /// Whether the client waits with the line until it would be accepted. Any other line is made at once, whatever its
     /// answer is.
     pub waits: bool,
-    /// The branch that begins below the line.
+    /// The branch that begins directly below the line.
     pub branch: Option<Branch>,
 }
 
-/// Lines of a client, from the line below another one on, that the client makes only after one answer to that other line.
+/// Lines below a line, which the client makes only if that line got one answer, and else skips.
 #[derive(Drop)]
 pub struct Branch {
     /// The first line of that answer, with its line feed.
     pub text: Vec<u8>,
-    /// After any other answer the client continues at this place among its lines, behind the branch.
+    /// The place, among the client's lines, of the first line behind the branch.
     pub otherwise: usize,
 }
 
@@ -65,7 +65,7 @@ impl Model for Plan {
 }
 
 impl Step {
-    /// The place of the client's next line, once the line, which is at this place, has got that answer.
+    /// The place of the client's next line, once this line, at that place, has got that answer.
     ///
     /// Fails if no memory is found for the text of the answer.
     pub fn place_after(&self, place: usize, answer: &Answer) -> Result<usize, AllocError>
@@ -96,17 +96,6 @@ impl Branch {
     }
 }
 
-/// The place after this one.
-pub(crate) fn next_place(place: usize) -> Result<usize, AllocError>
-    ensures next { IfOk result (λ next. next ≡ place + 1) }
-{
-    let Some(next) = place.checked_add(1) else {
-        // This can't happen: there are fewer lines than a usize counts.
-        return Err(AllocError);
-    };
-    Ok(next)
-}
-
 impl Plan {
     /// The names of the files for which a line of a client, or a command at the end, asks what they list.
     pub(crate) fn asked_files(&self, alloc: Global) -> Result<Vec<Name>, AllocError>
@@ -117,6 +106,17 @@ impl Plan {
         add_of_commands(&mut asked, self.last.as_slice())?;
         Ok(asked)
     }
+}
+
+/// The place after this one.
+pub(crate) fn next_place(place: usize) -> Result<usize, AllocError>
+    ensures next { IfOk result (λ next. next ≡ place + 1) }
+{
+    let Some(next) = place.checked_add(1) else {
+        // This can't happen: there are fewer lines than a usize counts.
+        return Err(AllocError);
+    };
+    Ok(next)
 }
 
 fn add_of_clients(asked: &mut Vec<Name>, clients: &[Vec<Step>]) -> Result<(), AllocError>
