@@ -6,5 +6,4 @@ mod Places
 mod Readings
 mod Replaying
 mod Rows
-mod Running
 mod Scheduled

@@ -5,14 +5,14 @@ use Rattle.command_core.specs.declared.answer.Answer.{Answer}
 use Rattle.command_core.specs.declared.command.Command.{Command}
 use Rattle.desk_core.specs.theorem.History.{world_of}
 use Rattle.desk_core.specs.theorem.World.{empty_world}
+use Rattle.explore_core.proofs.Covering.{world-with}
 use Rattle.explore_core.specs.declared.plan.Step.{Step}
 use Rattle.explore_core.specs.Alike.{answers_along}
 use Rattle.explore_core.specs.Schedule.{ComesTo, IsAnswered, IsEndAnswered, Leads, Lines, Schedule, Standing, after_line, answer_now, beginning, can_be_made, history_along, history_with, made_line, next_line}
-use Rattle.explore_report.specs.Making.{command_of, commands_along, commands_to, commands_with, line_after, made_along, made_by_schedule, made_if, none_made}
-use Rattle.explore_report.proofs.Running.{world-with}
+use Rattle.explore_report.specs.Making.{after_step, command_of, commands_along, commands_to, commands_with, standing_along, standing_to, standing_with}
 
 -- the answer of the last command
-answers-push : (history cs : List Command) (c : Command)
+pub answers-push : (history cs : List Command) (c : Command)
     → answers_along (world_of history) (cs ++ c ∷ []) ≡ answers_along (world_of history) cs ++ answer_now (history_along history cs) c ∷ []
 answers-push history [] c = refl
 answers-push history (d ∷ cs) c =
@@ -33,44 +33,41 @@ made-some : (b : Bool) (a next : Standing) → (if b then Some a else None) ≡ 
 made-some true a next is = same_Some a next is
 made-some false a next is = absurd (none-some next is)
 
-one-history : (now : Standing) (client : ℕ) (o : Option Step) (next : Standing) → made_line now client o ≡ Some next
-    → history_along now.history (command_of o) ≡ next.history
-one-history now client None next is = absurd (none-some next is)
-one-history now client (Some step) next is =
-    ap (λ (s : Standing). s.history) (made-some (can_be_made now step) (after_line now client step) next is)
+one-standing : (now : Standing) (client : ℕ) (o : Option Step) (next : Standing) → made_line now client o ≡ Some next → after_step now client o ≡ next
+one-standing now client None next is = absurd (none-some next is)
+one-standing now client (Some step) next is = made-some (can_be_made now step) (after_line now client step) next is
 
-one-made : (now : Standing) (client : ℕ) (o : Option Step) (next : Standing) → made_line now client o ≡ Some next
-    → made_if now.made client o ≡ next.made
-one-made now client None next is = absurd (none-some next is)
-one-made now client (Some step) next is =
-    ap (λ (s : Standing). s.made) (made-some (can_be_made now step) (after_line now client step) next is)
+one-history : (now : Standing) (client : ℕ) (o : Option Step) → history_along now.history (command_of o) ≡ (after_step now client o).history
+one-history now client None = refl
+one-history now client (Some step) = refl
 
 -- a schedule's commands lead to where the schedule leads
 
-leads-made : (plan : Lines) (from : Standing) (schedule : Schedule) (to : Standing) → Leads plan from schedule to
-    → made_along plan from.made schedule ≡ to.made
-leads-made plan from [] to leads = ap (λ (s : Standing). s.made) leads
-leads-made plan from (client ∷ schedule) to leads =
-    ap (λ made. made_along plan made schedule) (one-made from client (next_line plan from client) leads.0 leads.1)
-    ∙ leads-made plan leads.0 schedule to leads.2
+leads-standing : (plan : Lines) (from : Standing) (schedule : Schedule) (to : Standing) → Leads plan from schedule to → standing_along plan from schedule ≡ to
+leads-standing plan from [] to leads = leads
+leads-standing plan from (client ∷ schedule) to leads =
+    ap (λ s. standing_along plan s schedule) (one-standing from client (next_line plan from client) leads.0 leads.1)
+    ∙ leads-standing plan leads.0 schedule to leads.2
 
-leads-history : (plan : Lines) (from : Standing) (schedule : Schedule) (to : Standing) → Leads plan from schedule to
-    → history_along from.history (commands_along plan from.made schedule) ≡ to.history
-leads-history plan from [] to leads = ap (λ (s : Standing). s.history) leads
-leads-history plan from (client ∷ schedule) to leads =
+along-history : (plan : Lines) (from : Standing) (schedule : Schedule)
+    → history_along from.history (commands_along plan from schedule) ≡ (standing_along plan from schedule).history
+along-history plan from [] = refl
+along-history plan from (client ∷ schedule) =
     let o = next_line plan from client in
-    let rest = commands_along plan (made_if from.made client o) schedule in
+    let next = standing_with plan from client in
+    let rest = commands_along plan next schedule in
     history_along-append from.history (command_of o) rest
-    ∙ ap (λ history. history_along history rest) (one-history from client o leads.0 leads.1)
-    ∙ ap (λ made. history_along leads.0.history (commands_along plan made schedule)) (one-made from client o leads.0 leads.1)
-    ∙ leads-history plan leads.0 schedule to leads.2
+    ∙ ap (λ history. history_along history rest) (one-history from client o)
+    ∙ along-history plan next schedule
+
+comes-standing : (plan : Lines) (schedule : Schedule) (now : Standing) → ComesTo plan schedule now → standing_to plan schedule ≡ now
+comes-standing plan schedule now comes = leads-standing plan (beginning plan) schedule now comes
 
 comes-history : (plan : Lines) (schedule : Schedule) (now : Standing) → ComesTo plan schedule now → history_along [] (commands_to plan schedule) ≡ now.history
 comes-history plan schedule now comes =
-    history_along-append [] plan.first (commands_along plan (none_made plan) schedule) ∙ leads-history plan (beginning plan) schedule now comes
-
-comes-made : (plan : Lines) (schedule : Schedule) (now : Standing) → ComesTo plan schedule now → made_by_schedule plan schedule ≡ now.made
-comes-made plan schedule now comes = leads-made plan (beginning plan) schedule now comes
+    history_along-append [] plan.first (commands_along plan (beginning plan) schedule)
+    ∙ along-history plan (beginning plan) schedule
+    ∙ ap (λ (s : Standing). s.history) (comes-standing plan schedule now comes)
 
 -- what the command is answered after others that come to that history
 answered-after : (cs : List Command) (history : List Command) (c : Command) (given : Answer) → history_along [] cs ≡ history → given ≡ answer_now history c
@@ -82,8 +79,8 @@ answered-after cs history c given along is =
 pub line-replayed : (plan : Lines) (schedule : Schedule) (client place : ℕ) (given : Answer) → IsAnswered plan schedule client place given
     → answers_along empty_world (commands_with plan schedule client) ≡ answers_along empty_world (commands_to plan schedule) ++ given ∷ []
 line-replayed plan schedule client place given answered =
-    let line : line_after plan (made_by_schedule plan schedule) client ≡ Some answered.step =
-    ap (λ made. line_after plan made client) (comes-made plan schedule answered.now answered.comes) ∙ answered.next in
+    let line : next_line plan (standing_to plan schedule) client ≡ Some answered.step =
+    ap (λ now. next_line plan now client) (comes-standing plan schedule answered.now answered.comes) ∙ answered.next in
     ap (λ o. answers_along empty_world (commands_to plan schedule ++ command_of o)) line
     ∙ answered-after (commands_to plan schedule) answered.now.history answered.step.command given
     (comes-history plan schedule answered.now answered.comes) answered.answer

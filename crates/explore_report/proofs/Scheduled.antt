@@ -1,77 +1,141 @@
--- The commands that a schedule makes, client by client.
-use Rattle.std.proofs.Common.{◌≡◌, ℕ, ◌+◌, ◌<◌, ◌≤◌, List, [], ◌∷◌, ◌++◌, None, Some, length, get_or, set, drop, sym, ap, ◌∙◌, add-one, append_assoc, append-nil, drop-cons}
-use Rattle.std.proofs.lemmas.List.{drop_all}
+-- What a desk has made, command by command and line by line.
+use Rattle.std.proofs.Common.{◌≡◌, ℕ, ◌+◌, ◌<◌, List, [], ◌∷◌, ◌++◌, None, Some, length, get_or, set, take, refl, sym, ap, subst, ◌∙◌, append_assoc, append-nil}
+use Rattle.std.proofs.lemmas.List.{take_more}
+use Rattle.command_core.specs.declared.answer.Answer.{Answer}
 use Rattle.command_core.specs.declared.command.Command.{Command}
-use Rattle.explore_core.specs.Schedule.{Lines}
+use Rattle.desk_core.specs.theorem.Desk.{HasHistory}
+use Rattle.desk_core.specs.theorem.World.{empty_world}
+use Rattle.explore_core.specs.Alike.{answers_along}
+use Rattle.explore_core.specs.Schedule.{Lines, Schedule, Standing, answer_now, beginning, history_along, history_with, made_by, next_line}
+use Rattle.explore_core.specs.Search.{IsMade}
 use Rattle.explore_core.specs.declared.plan.Step.{Step}
-use Rattle.explore_report.specs.declared.schedule.Making.{Making}
+use Rattle.explore_core.proofs.Scheduling.{history_along-push}
 use Rattle.explore_report.specs.declared.context.Section.{Section}
-use Rattle.explore_report.specs.Making.{Makes, case_commands, command_at, command_of, commands_along, commands_to, line_after, made_along, made_if, made_with, none_made, own_command}
+use Rattle.explore_report.specs.declared.schedule.Making.{Making}
+use Rattle.explore_report.specs.Making.{HasMade, after_step, case_commands, case_standing, command_at, command_of, commands_along, fresh, standing_along, standing_past, standing_with}
+use Rattle.explore_report.proofs.Replaying.{answers-push}
 
--- one line of a client, if it is not done
-
-pub command-none : (plan : Lines) (made : List ℕ) (client : ℕ) (before : List Command) → line_after plan made client ≡ None
-    → before ≡ before ++ command_at plan made client
-command-none plan made client before line = sym (append-nil before) ∙ ap (λ o. before ++ command_of o) (sym line)
-
-pub made-none : (plan : Lines) (made : List ℕ) (client : ℕ) → line_after plan made client ≡ None → made ≡ made_with plan made client
-made-none plan made client line = ap (made_if made client) (sym line)
-
-pub command-some : (plan : Lines) (made : List ℕ) (client : ℕ) (step : Step) (before after : List Command) → line_after plan made client ≡ Some step
-    → after ≡ before ++ step.command ∷ [] → after ≡ before ++ command_at plan made client
-command-some plan made client step before after line pushed = pushed ∙ ap (λ o. before ++ command_of o) (sym line)
-
-pub made-some : (plan : Lines) (made next : List ℕ) (client : ℕ) (step : Step) → line_after plan made client ≡ Some step
-    → next ≡ set made client (get_or made client 0 + 1) → next ≡ made_with plan made client
-made-some plan made next client step line put = put ∙ ap (made_if made client) (sym line)
-
--- a schedule's lines, after the commands that come first
-pub schedule-made : (plan : Lines) (schedule : List ℕ) (making : Making) (before : List Command) (made : List ℕ) → before ≡ plan.first → made ≡ none_made plan
-    → making.commands.items ≡ before ++ commands_along plan made schedule → making.made.items ≡ made_along plan made schedule → Makes plan schedule making
-schedule-made plan schedule making before made first none commands counted = record {
-  commands = commands ∙ ap (λ cs. cs ++ commands_along plan made schedule) first ∙ ap (λ ns. plan.first ++ commands_along plan ns schedule) none;
-  made = counted ∙ ap (λ ns. made_along plan ns schedule) none;
+-- what else a making keeps does not matter
+pub made-same : (commands : List Command) (now : Standing) (old new : Making) → HasMade commands now old → new.desk ≡ old.desk
+    → new.made.items ≡ old.made.items → new.answers.items ≡ old.answers.items → HasMade commands now new
+made-same commands now old new has desk made answers = record {
+  desk = subst (λ d. HasHistory d now.history) (sym desk) has.desk;
+  made = made ∙ has.made;
+  answers = answers ∙ has.answers;
+  history = has.history;
 }
 
--- the lines of a schedule, one after another
+pub made-one : (commands : List Command) (now : Standing) (old new : Making) (c : Command) (given : Answer) → HasMade commands now old
+    → IsMade old.desk c given new.desk → new.made.items ≡ old.made.items → new.answers.items ≡ old.answers.items ++ given ∷ []
+    → HasMade (commands ++ c ∷ []) (standing_past now (c ∷ [])) new
+made-one commands now old new c given has made same pushed =
+    let is = made now.history has.desk in
+    record {
+      desk = is.1;
+      made = same ∙ has.made;
+      answers =
+          pushed
+          ∙ ap (λ before. before ++ given ∷ []) has.answers
+          ∙ ap (λ a. answers_along empty_world commands ++ a ∷ []) (is.0 ∙ ap (λ h. answer_now h c) has.history)
+          ∙ sym (answers-push [] commands c);
+      history = ap (λ h. history_with h c) has.history ∙ sym (history_along-push [] commands c);
+    }
 
-rest-of : (schedule : List ℕ) (i d : ℕ) → i < length schedule → drop i schedule ≡ get_or schedule i d ∷ drop (i + 1) schedule
-rest-of schedule i d low = drop-cons schedule i d low ∙ ap (λ k. get_or schedule i d ∷ drop k schedule) (sym (add-one i))
+-- no command
+pub own-none : (commands : List Command) (now : Standing) (making : Making) → HasMade commands now making → HasMade (commands ++ []) now making
+own-none commands now making has = subst (λ cs. HasMade cs now making) (sym (append-nil commands)) has
 
-pub commands-next : (plan : Lines) (schedule : List ℕ) (i d : ℕ) (made next : List ℕ) (before after all : List Command) → i < length schedule
-    → after ≡ before ++ command_at plan made (get_or schedule i d) → next ≡ made_with plan made (get_or schedule i d)
-    → before ++ commands_along plan made (drop i schedule) ≡ all → after ++ commands_along plan next (drop (i + 1) schedule) ≡ all
-commands-next plan schedule i d made next before after all low pushed counted same =
-    let client = get_or schedule i d in
-    let rest = drop (i + 1) schedule in
-    ap (λ cs. cs ++ commands_along plan next rest) pushed
-    ∙ ap (λ m. (before ++ command_at plan made client) ++ commands_along plan m rest) counted
-    ∙ append_assoc before (command_at plan made client) (commands_along plan (made_with plan made client) rest)
-    ∙ ap (λ s. before ++ commands_along plan made s) (sym (rest-of schedule i d low))
-    ∙ same
+-- commands of no client
 
-pub made-next : (plan : Lines) (schedule : List ℕ) (i d : ℕ) (made next all : List ℕ) → i < length schedule
-    → next ≡ made_with plan made (get_or schedule i d) → made_along plan made (drop i schedule) ≡ all
-    → made_along plan next (drop (i + 1) schedule) ≡ all
-made-next plan schedule i d made next all low counted same =
-    ap (λ m. made_along plan m (drop (i + 1) schedule)) counted ∙ ap (made_along plan made) (sym (rest-of schedule i d low)) ∙ same
+pub past-none : (commands : List Command) (now : Standing) (making : Making) → HasMade commands now making
+    → HasMade (commands ++ []) (standing_past now []) making
+past-none commands now making has =
+    subst (λ cs. HasMade cs (standing_past now []) making) (sym (append-nil commands))
+    (record { desk = has.desk; made = has.made; answers = has.answers; history = has.history })
 
-pub commands-end : (plan : Lines) (schedule : List ℕ) (i : ℕ) (made : List ℕ) (before all : List Command) → length schedule ≤ i
-    → before ++ commands_along plan made (drop i schedule) ≡ all → before ≡ all
-commands-end plan schedule i made before all past same =
-    sym (append-nil before) ∙ ap (λ s. before ++ commands_along plan made s) (sym (drop_all i schedule past)) ∙ same
+past-push : (commands own : List Command) (c : Command) (now : Standing) (making : Making)
+    → HasMade ((commands ++ own) ++ c ∷ []) (standing_past (standing_past now own) (c ∷ [])) making
+    → HasMade (commands ++ (own ++ c ∷ [])) (standing_past now (own ++ c ∷ [])) making
+past-push commands own c now making has =
+    let along = history_along-push now.history own c in
+    let all = append_assoc commands own (c ∷ []) in
+    record {
+      desk = subst (HasHistory making.desk) (sym along) has.desk;
+      made = has.made;
+      answers = has.answers ∙ ap (answers_along empty_world) all;
+      history = along ∙ has.history ∙ ap (history_along []) all;
+    }
 
-pub made-end : (plan : Lines) (schedule : List ℕ) (i : ℕ) (made all : List ℕ) → length schedule ≤ i
-    → made_along plan made (drop i schedule) ≡ all → made ≡ all
-made-end plan schedule i made all past same = ap (made_along plan made) (sym (drop_all i schedule past)) ∙ same
+pub past-next : (commands own : List Command) (i : ℕ) (c : Command) (now : Standing) (making : Making) → i < length own → c ≡ get_or own i c
+    → HasMade ((commands ++ take i own) ++ c ∷ []) (standing_past (standing_past now (take i own)) (c ∷ [])) making
+    → HasMade (commands ++ take (i + 1) own) (standing_past now (take (i + 1) own)) making
+past-next commands own i c now making low at has =
+    let more : take (i + 1) own ≡ take i own ++ c ∷ [] = take_more own i c low ∙ ap (λ d. take i own ++ d ∷ []) (sym at) in
+    subst (λ cs. HasMade (commands ++ cs) (standing_past now cs) making) (sym more) (past-push commands (take i own) c now making has)
+
+-- the commands that come first, on a fresh desk
+pub first-made : (plan : Lines) (clients : ℕ) (making : Making) → clients ≡ length plan.clients
+    → HasMade plan.first (standing_past (fresh clients) plan.first) making → HasMade plan.first (beginning plan) making
+first-made plan clients making count has = subst (λ n. HasMade plan.first (standing_past (fresh n) plan.first) making) count has
+
+-- a line of a client, if it is not done
+
+pub line-none : (plan : Lines) (commands : List Command) (now : Standing) (client : ℕ) (making : Making) → next_line plan now client ≡ None
+    → HasMade commands now making → HasMade (commands ++ command_at plan now client) (standing_with plan now client) making
+line-none plan commands now client making none has =
+    subst (λ o. HasMade (commands ++ command_of o) (after_step now client o) making) (sym none)
+    (own-none commands now making has)
+
+pub line-some : (plan : Lines) (commands : List Command) (now : Standing) (client next : ℕ) (step : Step) (mid new : Making) → next_line plan now client ≡ Some step
+    → HasMade (commands ++ step.command ∷ []) (standing_past now (step.command ∷ [])) mid → next ≡ made_by now client + 1
+    → new.desk ≡ mid.desk → new.answers.items ≡ mid.answers.items → new.made.items ≡ set mid.made.items client next
+    → HasMade (commands ++ command_at plan now client) (standing_with plan now client) new
+line-some plan commands now client next step mid new some has counted desk answers made =
+    subst (λ o. HasMade (commands ++ command_of o) (after_step now client o) new) (sym some) (record {
+      desk = subst (λ d. HasHistory d (history_with now.history step.command)) (sym desk) has.desk;
+      made = made ∙ ap (λ ns. set ns client next) has.made ∙ ap (set now.made client) counted;
+      answers = answers ∙ has.answers;
+      history = has.history;
+    })
 
 -- a schedule, and then the line that the section's client comes to
-pub case-made : (plan : Lines) (schedule given : List ℕ) (making : Making) (section own : Section) (after : List Command) → given ≡ schedule
-    → Makes plan given making → own ≡ section → after ≡ making.commands.items ++ own_command plan making.made.items own
-    → after ≡ case_commands plan section schedule
-case-made plan schedule given making section own after same makes is pushed =
-    pushed
-    ∙ ap (λ cs. cs ++ own_command plan making.made.items own) makes.commands
-    ∙ ap (λ made. commands_to plan given ++ own_command plan made own) makes.made
-    ∙ ap (case_commands plan own) same
-    ∙ ap (λ s. case_commands plan s schedule) is
+pub case-made : (plan : Lines) (schedule given : Schedule) (making : Making) (section own : Section) → given ≡ schedule → own ≡ section
+    → HasMade (case_commands plan own given) (case_standing plan own given) making
+    → HasMade (case_commands plan section schedule) (case_standing plan section schedule) making
+case-made plan schedule given making section own same is has =
+    subst (λ s. HasMade (case_commands plan s schedule) (case_standing plan s schedule) making) is
+    (subst (λ (s : Schedule). HasMade (case_commands plan own s) (case_standing plan own s) making) same has)
+
+-- lines of clients, one after another
+
+commands-push : (plan : Lines) (now : Standing) (schedule : Schedule) (client : ℕ)
+    → commands_along plan now (schedule ++ client ∷ []) ≡ commands_along plan now schedule ++ command_at plan (standing_along plan now schedule) client
+commands-push plan now [] client = append-nil (command_at plan now client)
+commands-push plan now (first ∷ schedule) client =
+    let next = standing_with plan now first in
+    let own = command_at plan now first in
+    ap (λ cs. own ++ cs) (commands-push plan next schedule client)
+    ∙ sym (append_assoc own (commands_along plan next schedule) (command_at plan (standing_along plan next schedule) client))
+
+standing-push : (plan : Lines) (now : Standing) (schedule : Schedule) (client : ℕ)
+    → standing_along plan now (schedule ++ client ∷ []) ≡ standing_with plan (standing_along plan now schedule) client
+standing-push plan now [] client = refl
+standing-push plan now (first ∷ schedule) client = standing-push plan (standing_with plan now first) schedule client
+
+pub lines-none : (plan : Lines) (commands : List Command) (now : Standing) (making : Making) → HasMade commands now making
+    → HasMade (commands ++ commands_along plan now []) (standing_along plan now []) making
+lines-none plan commands now making has = own-none commands now making has
+
+pub lines-next : (plan : Lines) (commands : List Command) (now : Standing) (schedule : Schedule) (i d : ℕ) (making : Making) → i < length schedule
+    → HasMade ((commands ++ commands_along plan now (take i schedule)) ++ command_at plan (standing_along plan now (take i schedule)) (get_or schedule i d))
+    (standing_with plan (standing_along plan now (take i schedule)) (get_or schedule i d)) making
+    → HasMade (commands ++ commands_along plan now (take (i + 1) schedule)) (standing_along plan now (take (i + 1) schedule)) making
+lines-next plan commands now schedule i d making low has =
+    let before = take i schedule in
+    let client = get_or schedule i d in
+    let mid = standing_along plan now before in
+    let more : take (i + 1) schedule ≡ before ++ client ∷ [] = take_more schedule i d low in
+    let all = ap (λ cs. commands ++ cs) (commands-push plan now before client) ∙ sym (append_assoc commands (commands_along plan now before) (command_at plan mid client)) in
+    subst (λ (s : Schedule). HasMade (commands ++ commands_along plan now s) (standing_along plan now s) making) (sym more)
+    (subst (λ cs. HasMade cs (standing_along plan now (before ++ client ∷ [])) making) (sym all)
+    (subst (λ to. HasMade ((commands ++ commands_along plan now before) ++ command_at plan mid client) to making) (sym (standing-push plan now before client)) has))

@@ -74,8 +74,8 @@ first_case p rows place given = case_of_row p (slice_get rows place) given
 abbrev pub first_cases : PlanScript → List Answer → List Judged
 first_cases p given = by_place (first_case p (command_rows section.First p.rows.items)) 0 given
 
--- All answers: of the commands that come first, of each client's lines, and of the commands at the end, of which what is found has
--- the number of clients.
+-- All answers in order: of the first section's commands, of each client's lines, and of the last section's commands, which `found`
+-- lists under the number of clients.
 abbrev pub cases_of : PlanScript → Found → List Judged
 cases_of p found =
     first_cases p (answers_along empty_world p.plan.first)

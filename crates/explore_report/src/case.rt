@@ -2,7 +2,7 @@
 ghost use Rattle.std.specs.Prelude.{◌≡◌, ◌++◌, ◌∷◌, [], IfOk, OnOk, map, slice_get};
 ghost use Rattle.explore_report.specs.Cases.{by_place, case_at, cases_of, client_cases, first_case, first_cases, is_of, judged, judged_of, line_cases, section_cases};
 ghost use Rattle.explore_core.specs.Alike.{answers_along};
-ghost use Rattle.explore_report.specs.Making.{case_commands, section_at};
+ghost use Rattle.explore_report.specs.Making.{HasMade, case_commands, case_standing, section_at};
 ghost use Rattle.desk_core.specs.theorem.World.{empty_world};
 
 use crate::context::Section;
@@ -29,29 +29,32 @@ pub(crate) struct Case {
 }
 
 impl Case {
-    /// The rows that are made up to this answer, and its own if it is a client's line.
-    pub(crate) fn making(&self, alloc: Global, plan: &PlanScript<'_>) -> Result<Making, AllocError>
-        ensures makes { IfOk result (λ making. making.commands.items
-            ≡ case_commands plan.now.plan (section_at plan.now self.now.row) self.now.schedule.items) }
+    /// Makes the rows up to this answer, and its own if it is a client's line.
+    pub(crate) fn make(&self, plan: &PlanScript<'_>, making: &mut Making) -> Result<(), AllocError>
+        ensures made { OnOk result (HasMade
+            (case_commands plan.now.plan (section_at plan.now self.now.row) self.now.schedule.items)
+            (case_standing plan.now.plan (section_at plan.now self.now.row) self.now.schedule.items)
+            making.new) }
     {
-        let mut making = Making::of(alloc, plan, self.schedule.as_slice())?;
+        making.follow(plan, self.schedule.as_slice())?;
         making.push_own(plan, plan.section_of(self.row))?;
-        Ok(making)
+        Ok(())
     }
 }
 
-/// The answers of all lines, in order of rows. `first` has the answers of the first section.
+/// The answers of all lines, in order of rows.
 pub(crate) fn cases_of(
     alloc: Global,
     plan: &PlanScript<'_>,
-    first: &[Answer],
     found: &Found,
+    making: &mut Making,
 ) -> Result<Vec<Case>, Refusal>
-    requires first { first.now ≡ answers_along empty_world plan.now.plan.first }
     ensures cases { IfOk result (λ cases. map judged_of cases.items ≡ cases_of plan.now found.now) }
 {
+    // The commands of the first section, whose answers no schedule changes.
+    making.follow(plan, &[])?;
     let mut cases = Vec::new(alloc);
-    push_cases(alloc, plan, first, found, &mut cases)?;
+    push_cases(alloc, plan, making.answers.as_slice(), found, &mut cases)?;
     Ok(cases)
 }
 

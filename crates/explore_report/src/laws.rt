@@ -7,8 +7,7 @@ ghost use Rattle.explore_core.specs.Alike.{answers_along};
 ghost use Rattle.explore_core.specs.Schedule.{IsAnswered, IsEndAnswered, Lines, Schedule};
 ghost use Rattle.explore_report.specs.Making.{commands_to, commands_with};
 
-/// A fresh desk answers the commands of a schedule as the plan's clients are answered: what a line is answered by a schedule
-/// comes last.
+/// A fresh desk that runs the commands of a schedule, and then the line, gives that line's answer last.
 pub fn a_replayed_schedule_gives_its_answers()
     ensures line { (plan : Lines) (schedule : Schedule) (client place : ℕ) (given : Answer) →
         IsAnswered plan schedule client place given →

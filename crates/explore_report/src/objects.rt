@@ -10,10 +10,10 @@ use desk_core::Desk;
 use point_core::Refusal;
 use text_core::Page;
 
-pub(crate) fn json_of(report: &Report<'_>) -> Result<Vec<u8>, Refusal> {
+pub(crate) fn json_of(report: &Report<'_>, making: &mut Making) -> Result<Vec<u8>, Refusal> {
     let mut page = Page::new(report.alloc);
     if let Some(schedule) = &report.found.stuck {
-        add_stuck(report, schedule.as_slice(), &mut page);
+        add_stuck(report, schedule.as_slice(), making, &mut page);
     }
     add_rows(report, &mut page);
     add_totals(report, &mut page);
@@ -29,14 +29,14 @@ fn add_rows(report: &Report<'_>, page: &mut Page) {
 }
 
 /// The object of a schedule that gets stuck.
-fn add_stuck(report: &Report<'_>, schedule: &[usize], page: &mut Page) {
+fn add_stuck(report: &Report<'_>, schedule: &[usize], making: &mut Making, page: &mut Page) {
     page.counted("{\"stuck\":{\"steps\":", schedule.len());
     add_schedule(report.plan, schedule, None, page);
     page.text(",\"waiting\":[");
-    match Making::of(report.alloc, report.plan, schedule) {
-        Ok(making) => add_stuck_lines(report, &making, Form::Json, page),
-        Err(_) => page.fail(),
+    if making.follow(report.plan, schedule).is_err() {
+        page.fail();
     }
+    add_stuck_lines(report, making, Form::Json, page);
     page.text("]}}\n");
 }
 

@@ -1,15 +1,12 @@
 //! `Report`: what is found of a plan, by its lines, to be written as text, as JSON, or as scripts of schedules. `fencectl explore`
 //! makes one.
 ghost use Rattle.std.specs.Prelude.{◌≡◌, IfOk, count_by};
-ghost use Rattle.desk_core.specs.theorem.World.{empty_world};
-ghost use Rattle.explore_core.specs.Alike.{answers_along};
 ghost use Rattle.explore_report.specs.Report.{IsReport, findings_in, is_wrong, outcome_of, stuck_in};
 
 use crate::case::{Case, cases_of};
 use crate::plan_script::PlanScript;
-use crate::schedule::answers_of;
+use crate::schedule::Making;
 use crate::{objects, text, witness};
-use command_core::Answer;
 use explore_core::Found;
 use point_core::Refusal;
 use std::alloc::Global;
@@ -45,13 +42,14 @@ impl<'a> Report<'a> {
     ) -> Result<Report<'a>, Refusal>
         ensures report { IfOk result (IsReport plan.now found.now) }
     {
-        let first = first_answers(alloc, plan)?;
-        let cases = cases_of(alloc, plan, first.as_slice(), found)?;
+        let mut making = Making::new(alloc);
+        let cases = cases_of(alloc, plan, found, &mut making);
+        drop(making);
         Ok(Report {
             alloc,
             plan,
             found,
-            cases,
+            cases: cases?,
         })
     }
 
@@ -59,14 +57,20 @@ impl<'a> Report<'a> {
     ///
     /// Fails with `Memory` only.
     pub fn text(&self, name: &str, everything: bool) -> Result<Vec<u8>, Refusal> {
-        text::text_of(self, name, everything)
+        let mut making = Making::new(self.alloc);
+        let text = text::text_of(self, name, everything, &mut making);
+        drop(making);
+        text
     }
 
     /// The report as JSON, an object on each line.
     ///
     /// Fails with `Memory` only.
     pub fn json(&self) -> Result<Vec<u8>, Refusal> {
-        objects::json_of(self)
+        let mut making = Making::new(self.alloc);
+        let json = objects::json_of(self, &mut making);
+        drop(making);
+        json
     }
 
     /// The schedule of that number as a script, with the answers as what it expects; none if the report shows fewer. The first
@@ -74,7 +78,10 @@ impl<'a> Report<'a> {
     ///
     /// Fails with `Memory` only.
     pub fn script(&self, number: usize) -> Result<Option<Vec<u8>>, Refusal> {
-        witness::script_of(self, number)
+        let mut making = Making::new(self.alloc);
+        let script = witness::script_of(self, number, &mut making);
+        drop(making);
+        script
     }
 
     /// How many answers are wrong.
@@ -117,7 +124,7 @@ impl<'a> Report<'a> {
     }
 }
 
-/// How many cases at the front are all of the row, or all of other rows.
+/// The length of the longest front of cases that are all of the row, or none of it.
 fn front(cases: &[Case], row: usize, is_of: bool) -> usize {
     for (place, case) in cases.iter().enumerate() {
         if (case.row == row) != is_of {
@@ -125,14 +132,6 @@ fn front(cases: &[Case], row: usize, is_of: bool) -> usize {
         }
     }
     cases.len()
-}
-
-/// The answers of the commands above the first client, which no schedule changes.
-fn first_answers(alloc: Global, plan: &PlanScript<'_>) -> Result<Vec<Answer>, Refusal>
-    ensures answers { IfOk result (λ answers. answers.items ≡ answers_along empty_world plan.now.plan.first) }
-{
-    let answers = answers_of(alloc, plan.plan.first.as_slice())?;
-    Ok(answers)
 }
 
 fn count_wrong(cases: &[Case]) -> usize

@@ -1,74 +1,122 @@
-//! `Making`: the rows of a plan in the order in which a schedule makes them. Reports and scripts of schedules go by it.
-ghost use Rattle.std.specs.Prelude.{◌≡◌, ◌+◌, ◌++◌, [], All, IfOk, IsTrue, OnOk, false, get_or, replicate, set};
-ghost use Rattle.desk_core.specs.theorem.History.{AreAnswers};
-ghost use Rattle.desk_core.specs.theorem.World.{empty_world};
-ghost use Rattle.explore_core.specs.Alike.{answers_along};
-ghost use Rattle.explore_report.specs.Making.{IsNotMemory, Makes, command_at, commands_along, made_along, made_with, own_command};
+//! `Making`: a desk on which the rows of a plan are made in the order of a schedule. Reports and scripts of schedules go by it.
+ghost use Rattle.std.specs.Prelude.{◌≡◌, ◌+◌, ◌++◌, ◌∷◌, [], IfOk, IsTrue, List, OnOk, get_or, replicate, set};
+ghost use Rattle.command_core.specs.declared.command.Command.{Command as Made};
+ghost use Rattle.explore_core.specs.Schedule.{Standing};
+ghost use Rattle.explore_core.specs.Search.{IsMade};
+ghost use Rattle.explore_report.specs.Making.{HasFollowed, HasMade, command_at, commands_along, fresh, own_command, own_standing, standing_along, standing_past, standing_with};
 
 use crate::context::Section;
 use crate::plan_script::PlanScript;
 use crate::row::push_commands;
 use command_core::{Answer, Command};
-use desk_core::run;
-use explore_core::line_at;
+use desk_core::Desk;
+use explore_core::{Step, line_at};
 use point_core::Refusal;
 use std::alloc::{AllocError, Global};
 
-/// The rows of a plan in the order in which a schedule makes them.
+/// The rows of a plan in the order in which a schedule makes them, and the desk that answers them.
 #[derive(Drop)]
 pub(crate) struct Making {
     /// The indices of the rows.
     pub rows: Vec<usize>,
-    /// Their commands.
-    pub commands: Vec<Command>,
+    /// The answers to their commands.
+    pub answers: Vec<Answer>,
+    pub desk: Desk,
     /// How many lines each client has made.
     pub made: Vec<usize>,
 }
 
 impl Making {
-    /// The commands of the first section, and then the schedule's lines.
-    pub(crate) fn of(
-        alloc: Global,
+    /// A fresh desk, which has made nothing.
+    pub(crate) fn new(alloc: Global) -> Making {
+        Making {
+            rows: Vec::new(alloc),
+            answers: Vec::new(alloc),
+            desk: Desk::new(alloc).unwrap(),
+            made: Vec::new(alloc),
+        }
+    }
+
+    /// Makes the commands of the first section, and then the schedule's lines, on the emptied desk.
+    ///
+    /// Fails also if a command is refused memory, since no schedule of the plan answers so.
+    pub(crate) fn follow(
+        &mut self,
         plan: &PlanScript<'_>,
         schedule: &[usize],
-    ) -> Result<Making, AllocError>
-        ensures makes { IfOk result (Makes plan.now.plan schedule.now) }
+    ) -> Result<(), AllocError>
+        ensures follows { OnOk result (HasFollowed plan.now.plan schedule.now self.new) }
     {
-        let made = none_made(alloc, plan.client_count())?;
-        let mut making = Making {
-            rows: Vec::new(alloc),
-            commands: Vec::new(alloc),
-            made,
-        };
-        making.push_first(plan)?;
-        making.push_lines(plan, schedule)?;
-        Ok(making)
+        self.clear(plan.client_count())?;
+        self.push_first(plan)?;
+        self.push_lines(plan, schedule)?;
+        Ok(())
+    }
+
+    fn clear(&mut self, clients: usize) -> Result<(), AllocError>
+        ensures cleared { OnOk result (HasMade [] (fresh clients) self.new) }
+    {
+        clear_made(&mut self.made, clients)?;
+        self.rows.clear();
+        self.answers.clear();
+        self.desk.clear();
+        Ok(())
     }
 
     /// The commands of the first section.
     fn push_first(&mut self, plan: &PlanScript<'_>) -> Result<(), AllocError>
-        ensures commands { OnOk result (self.new.commands.items ≡ self.old.commands.items ++ plan.now.plan.first) }
-        ensures made { self.new.made ≡ self.old.made }
+        ensures first { OnOk result ((commands : List Made) (now : Standing) → HasMade commands now self.old →
+            HasMade (commands ++ plan.now.plan.first) (standing_past now plan.now.plan.first) self.new) }
     {
-        push_commands(plan.rows.as_slice(), Section::First, &mut self.rows)?;
-        self.commands.extend_from_slice(plan.plan.first.as_slice())?;
-        Ok(())
+        self.push_section(plan, Section::First, plan.plan.first.as_slice())
     }
 
     /// The commands of the last section.
     pub(crate) fn push_last(&mut self, plan: &PlanScript<'_>) -> Result<(), AllocError>
-        ensures commands { OnOk result (self.new.commands.items ≡ self.old.commands.items ++ plan.now.plan.last) }
+        ensures last { OnOk result ((commands : List Made) (now : Standing) → HasMade commands now self.old →
+            HasMade (commands ++ plan.now.plan.last) (standing_past now plan.now.plan.last) self.new) }
     {
-        push_commands(plan.rows.as_slice(), Section::Last, &mut self.rows)?;
-        self.commands.extend_from_slice(plan.plan.last.as_slice())?;
+        self.push_section(plan, Section::Last, plan.plan.last.as_slice())
+    }
+
+    /// The commands of a section that is no client's.
+    fn push_section(
+        &mut self,
+        plan: &PlanScript<'_>,
+        section: Section,
+        own: &[Command],
+    ) -> Result<(), AllocError>
+        ensures own { OnOk result ((commands : List Made) (now : Standing) → HasMade commands now self.old →
+            HasMade (commands ++ own.now) (standing_past now own.now) self.new) }
+    {
+        push_commands(plan.rows.as_slice(), section, &mut self.rows)?;
+        self.make_all(own)?;
+        Ok(())
+    }
+
+    fn make_all(&mut self, own: &[Command]) -> Result<(), AllocError>
+        ensures made { OnOk result ((commands : List Made) (now : Standing) → HasMade commands now self.old →
+            HasMade (commands ++ own.now) (standing_past now own.now) self.new) }
+    {
+        for command in own {
+            self.make(*command)?;
+        }
+        Ok(())
+    }
+
+    fn make(&mut self, command: Command) -> Result<(), AllocError>
+        ensures made { OnOk result ((commands : List Made) (now : Standing) → HasMade commands now self.old →
+            HasMade (commands ++ command ∷ []) (standing_past now (command ∷ [])) self.new) }
+    {
+        let answer = make(&mut self.desk, command)?;
+        self.answers.push(answer)?;
         Ok(())
     }
 
     /// The next line of each client, one after another.
     fn push_lines(&mut self, plan: &PlanScript<'_>, schedule: &[usize]) -> Result<(), AllocError>
-        ensures commands { OnOk result (self.new.commands.items
-            ≡ self.old.commands.items ++ commands_along plan.now.plan self.old.made.items schedule.now) }
-        ensures made { OnOk result (self.new.made.items ≡ made_along plan.now.plan self.old.made.items schedule.now) }
+        ensures lines { OnOk result ((commands : List Made) (now : Standing) → HasMade commands now self.old →
+            HasMade (commands ++ commands_along plan.now.plan now schedule.now) (standing_along plan.now.plan now schedule.now) self.new) }
     {
         for client in schedule {
             self.push_line(plan, *client)?;
@@ -78,31 +126,37 @@ impl Making {
 
     /// The next line of a client, if it is not done.
     fn push_line(&mut self, plan: &PlanScript<'_>, client: usize) -> Result<(), AllocError>
-        ensures commands { OnOk result (self.new.commands.items
-            ≡ self.old.commands.items ++ command_at plan.now.plan self.old.made.items client) }
-        ensures made { OnOk result (self.new.made.items ≡ made_with plan.now.plan self.old.made.items client) }
+        ensures line { OnOk result ((commands : List Made) (now : Standing) → HasMade commands now self.old →
+            HasMade (commands ++ command_at plan.now.plan now client) (standing_with plan.now.plan now client) self.new) }
     {
         let place = place_of(self.made.as_slice(), client);
         let Some(step) = line_at(&plan.plan, client, place) else {
             return Ok(());
         };
         push_row(plan, client, place, &mut self.rows)?;
-        self.commands.push(step.command)?;
-        self.count(client, place)?;
+        let next = self.make_line(&step, place)?;
+        self.count_to(client, next);
         Ok(())
     }
 
-    /// Counts the client's line of this place as made.
-    fn count(&mut self, client: usize, place: usize) -> Result<(), AllocError>
-        ensures commands { self.new.commands ≡ self.old.commands }
-        ensures made { OnOk result (self.new.made.items ≡ set self.old.made.items client (place + 1)) }
+    /// Makes a client's line, which is at this place, and gives the place of the client's next line.
+    fn make_line(&mut self, step: &Step, place: usize) -> Result<usize, AllocError>
+        ensures made { OnOk result ((commands : List Made) (now : Standing) → HasMade commands now self.old →
+            HasMade (commands ++ step.now.command ∷ []) (standing_past now (step.now.command ∷ [])) self.new) }
+        ensures next { IfOk result (λ next. next ≡ place + 1) }
     {
-        let Some(next) = place.checked_add(1) else {
-            // This can't happen: there are fewer lines than a usize counts.
-            return Err(AllocError);
-        };
-        set(self.made.as_mut_slice(), client, next);
-        Ok(())
+        let next = next_place(place)?;
+        self.make(step.command)?;
+        Ok(next)
+    }
+
+    /// Counts the client's lines as made up to this place.
+    fn count_to(&mut self, client: usize, place: usize)
+        ensures desk { self.new.desk ≡ self.old.desk }
+        ensures answers { self.new.answers ≡ self.old.answers }
+        ensures made { self.new.made.items ≡ set self.old.made.items client place }
+    {
+        set(self.made.as_mut_slice(), client, place);
     }
 
     /// The next line of the section's client, if the section is a client's.
@@ -111,8 +165,8 @@ impl Making {
         plan: &PlanScript<'_>,
         section: Section,
     ) -> Result<(), AllocError>
-        ensures commands { OnOk result (self.new.commands.items
-            ≡ self.old.commands.items ++ own_command plan.now.plan self.old.made.items section) }
+        ensures own { OnOk result ((commands : List Made) (now : Standing) → HasMade commands now self.old →
+            HasMade (commands ++ own_command plan.now.plan now section) (own_standing plan.now.plan now section) self.new) }
     {
         match section {
             Section::First => Ok(()),
@@ -136,48 +190,18 @@ impl Making {
         }
         Ok(())
     }
-
-    /// The answers to the commands on a fresh desk.
-    ///
-    /// Fails with `Memory` only, as `answers_of`.
-    pub(crate) fn answers(&self, alloc: Global) -> Result<Vec<Answer>, Refusal>
-        ensures answers { IfOk result (λ answers. answers.items ≡ answers_along empty_world self.now.commands.items) }
-    {
-        answers_of(alloc, self.commands.as_slice())
-    }
 }
 
-/// The answers to the commands on a fresh desk.
-///
-/// Fails with `Memory` only, also if a command was refused memory, since no schedule of the plan answers so.
-pub(crate) fn answers_of(alloc: Global, commands: &[Command]) -> Result<Vec<Answer>, Refusal>
-    ensures answers { IfOk result (λ answers. answers.items ≡ answers_along empty_world commands.now) }
+/// Makes the command, and fails if the desk finds no memory for it.
+fn make(desk: &mut Desk, command: Command) -> Result<Answer, AllocError>
+    ensures made { IfOk result (λ given. IsMade desk.old command given desk.new) }
 {
-    let answers = all_answers(alloc, commands)?;
-    if lacks_memory(answers.as_slice()) {
-        return Err(Refusal::Memory);
+    let answer = desk.step(command);
+    if is_memory(&answer) {
+        drop(answer);
+        return Err(AllocError);
     }
-    Ok(answers)
-}
-
-/// The answers to the commands, also those that were refused memory.
-fn all_answers(alloc: Global, commands: &[Command]) -> Result<Vec<Answer>, Refusal>
-    ensures answers { IfOk result (λ answers. AreAnswers [] commands.now answers.items) }
-{
-    let (_, answers) = run(alloc, commands)?;
-    Ok(answers)
-}
-
-/// Whether a command was refused memory.
-pub(crate) fn lacks_memory(answers: &[Answer]) -> bool
-    ensures { result ≡ false → All IsNotMemory answers.now }
-{
-    for answer in answers {
-        if is_memory(answer) {
-            return true;
-        }
-    }
-    false
+    Ok(answer)
 }
 
 fn is_memory(answer: &Answer) -> bool
@@ -189,14 +213,15 @@ fn is_memory(answer: &Answer) -> bool
     }
 }
 
-fn none_made(alloc: Global, clients: usize) -> Result<Vec<usize>, AllocError>
-    ensures none { IfOk result (λ made. made.items ≡ replicate clients 0) }
+/// No lines made, for each client.
+fn clear_made(made: &mut Vec<usize>, clients: usize) -> Result<(), AllocError>
+    ensures none { OnOk result (made.new.items ≡ replicate clients 0) }
 {
-    let mut made = Vec::new(alloc);
+    made.clear();
     for _ in 0..clients {
         made.push(0)?;
     }
-    Ok(made)
+    Ok(())
 }
 
 /// How many lines the client has made.
@@ -204,6 +229,17 @@ fn place_of(made: &[usize], client: usize) -> usize
     ensures { result ≡ get_or made.now client 0 }
 {
     made.get(client).copied().unwrap_or(0)
+}
+
+/// The place after this one.
+fn next_place(place: usize) -> Result<usize, AllocError>
+    ensures next { IfOk result (λ next. next ≡ place + 1) }
+{
+    let Some(next) = place.checked_add(1) else {
+        // This can't happen: there are fewer lines than a usize counts.
+        return Err(AllocError);
+    };
+    Ok(next)
 }
 
 fn set(made: &mut [usize], client: usize, place: usize)

@@ -21,10 +21,11 @@ pub(crate) fn text_of(
     report: &Report<'_>,
     name: &str,
     everything: bool,
+    making: &mut Making,
 ) -> Result<Vec<u8>, Refusal> {
     let mut page = Page::new(report.alloc);
-    add_stuck(report, name, &mut page);
-    add_findings(report, name, &mut page);
+    add_stuck(report, name, making, &mut page);
+    add_findings(report, name, making, &mut page);
     add_answers(report, name, everything, &mut page);
     if report.found.covered {
         add_unreached(report, name, &mut page);
@@ -36,15 +37,16 @@ pub(crate) fn text_of(
 }
 
 /// The schedule that gets stuck, and why each client waits.
-fn add_stuck(report: &Report<'_>, name: &str, page: &mut Page) {
+fn add_stuck(report: &Report<'_>, name: &str, making: &mut Making, page: &mut Page) {
     let Some(schedule) = &report.found.stuck else {
         return;
     };
     add_stuck_head(report, name, schedule.len(), page);
-    match Making::of(report.alloc, report.plan, schedule.as_slice()) {
-        Ok(making) => add_stuck_making(report, name, &making, page),
-        Err(_) => page.fail(),
+    if making.follow(report.plan, schedule.as_slice()).is_err() {
+        page.fail();
     }
+    add_stuck_lines(report, making, Form::Text(name), page);
+    add_making(report.plan, making.rows.as_slice(), page);
 }
 
 fn add_stuck_head(report: &Report<'_>, name: &str, steps: usize, page: &mut Page) {
@@ -56,12 +58,6 @@ fn add_stuck_head(report: &Report<'_>, name: &str, steps: usize, page: &mut Page
         page.text("; no schedule gets stuck sooner");
     }
     page.text(" (schedule 1)\n");
-}
-
-/// The lines at which the clients wait, and the lines that are made before.
-fn add_stuck_making(report: &Report<'_>, name: &str, making: &Making, page: &mut Page) {
-    add_stuck_lines(report, making, Form::Text(name), page);
-    add_making(report.plan, making.rows.as_slice(), page);
 }
 
 /// A line at which a client waits. The desk refuses it, and so stays as it is.
@@ -156,14 +152,23 @@ impl Run {
 }
 
 /// Each answer that is wrong, with the number of its schedule.
-fn add_findings(report: &Report<'_>, name: &str, page: &mut Page) {
+fn add_findings(report: &Report<'_>, name: &str, making: &mut Making, page: &mut Page) {
     let mut number = report.stuck();
     for case in report.cases.as_slice() {
         if let Some(finding) = case.finding {
             number = number.saturating_add(1);
             add_finding(report, name, case, finding, number, page);
+            add_case(report, case, making, page);
         }
     }
+}
+
+/// The lines that are made up to an answer.
+fn add_case(report: &Report<'_>, case: &Case, making: &mut Making, page: &mut Page) {
+    if case.make(report.plan, making).is_err() {
+        page.fail();
+    }
+    add_making(report.plan, making.rows.as_slice(), page);
 }
 
 fn add_finding(
@@ -190,10 +195,6 @@ fn add_finding(
     add_others(report, case, page);
     page.counted(" (schedule ", number);
     page.text(")\n");
-    match case.making(report.alloc, report.plan) {
-        Ok(making) => add_making(report.plan, making.rows.as_slice(), page),
-        Err(_) => page.fail(),
-    }
 }
 
 /// The answers that are expected of a row.

@@ -1,10 +1,10 @@
 //! Why a client waits: what the desk refuses. The text of a report and its JSON say why for each client of a schedule that
 //! gets stuck.
 use crate::report::Report;
-use crate::schedule::{Making, lacks_memory};
+use crate::schedule::Making;
 use crate::{objects, text};
 use command_core::{Answer, Command};
-use desk_core::{Desk, run};
+use desk_core::Desk;
 use point_core::{Name, Point};
 use text_core::Page;
 
@@ -19,33 +19,14 @@ pub(crate) enum Form<'a> {
 /// The lines at which the clients wait once the schedule is made.
 pub(crate) fn add_stuck_lines(
     report: &Report<'_>,
-    making: &Making,
+    making: &mut Making,
     form: Form<'_>,
-    page: &mut Page,
-) {
-    let Ok(made) = run(report.alloc, making.commands.as_slice()) else {
-        page.fail();
-        return;
-    };
-    let (mut desk, answers) = made;
-    if lacks_memory(answers.as_slice()) {
-        page.fail();
-    }
-    drop(answers);
-    add_all_waiting(report, making, form, &mut desk, page);
-}
-
-fn add_all_waiting(
-    report: &Report<'_>,
-    making: &Making,
-    form: Form<'_>,
-    desk: &mut Desk,
     page: &mut Page,
 ) {
     let mut follows = false;
     for client in 0..report.plan.client_count() {
         if let Some(index) = making.next_of(report.plan, client) {
-            add_waiting(report, index, form, follows, desk, page);
+            add_waiting(report, index, form, follows, &mut making.desk, page);
             follows = true;
         }
     }

@@ -10,9 +10,13 @@ use report_core::print;
 use std::alloc::Global;
 use text_core::Page;
 
-pub(crate) fn script_of(report: &Report<'_>, number: usize) -> Result<Option<Vec<u8>>, Refusal> {
+pub(crate) fn script_of(
+    report: &Report<'_>,
+    number: usize,
+    making: &mut Making,
+) -> Result<Option<Vec<u8>>, Refusal> {
     let mut page = Page::new(report.alloc);
-    if !add_script(report, number, &mut page) {
+    if !add_script(report, number, making, &mut page) {
         return Ok(None);
     }
     let script = page.finish()?;
@@ -20,26 +24,27 @@ pub(crate) fn script_of(report: &Report<'_>, number: usize) -> Result<Option<Vec
 }
 
 /// Whether the report shows a schedule of that number.
-fn add_script(report: &Report<'_>, number: usize, page: &mut Page) -> bool {
+fn add_script(
+    report: &Report<'_>,
+    number: usize,
+    making: &mut Making,
+    page: &mut Page,
+) -> bool {
     match &report.found.stuck {
         Some(schedule) if number == 1 => {
-            add_stuck(report, schedule.as_slice(), page);
+            add_stuck(report, schedule.as_slice(), making, page);
             true
         }
-        _ => add_finding(report, number, page),
+        _ => add_finding(report, number, making, page),
     }
 }
 
 /// A schedule that gets stuck, with the lines at which the clients wait.
-fn add_stuck(report: &Report<'_>, schedule: &[usize], page: &mut Page) {
+fn add_stuck(report: &Report<'_>, schedule: &[usize], making: &mut Making, page: &mut Page) {
     page.text("# a shortest schedule that gets stuck\n");
-    match Making::of(report.alloc, report.plan, schedule) {
-        Ok(mut making) => add_stuck_steps(report, &mut making, page),
-        Err(_) => page.fail(),
+    if making.follow(report.plan, schedule).is_err() {
+        page.fail();
     }
-}
-
-fn add_stuck_steps(report: &Report<'_>, making: &mut Making, page: &mut Page) {
     let going = making.rows.len();
     if making.push_next(report.plan).is_err() {
         page.fail();
@@ -48,7 +53,12 @@ fn add_stuck_steps(report: &Report<'_>, making: &mut Making, page: &mut Page) {
 }
 
 /// The schedule of an answer that is wrong.
-fn add_finding(report: &Report<'_>, number: usize, page: &mut Page) -> bool {
+fn add_finding(
+    report: &Report<'_>,
+    number: usize,
+    making: &mut Making,
+    page: &mut Page,
+) -> bool {
     let mut reached = report.stuck();
     for case in report.cases.as_slice() {
         if case.finding.is_none() {
@@ -56,26 +66,22 @@ fn add_finding(report: &Report<'_>, number: usize, page: &mut Page) -> bool {
         }
         reached = reached.saturating_add(1);
         if reached == number {
-            add_case(report, case, page);
+            add_case(report, case, making, page);
             return true;
         }
     }
     false
 }
 
-fn add_case(report: &Report<'_>, case: &Case, page: &mut Page) {
+fn add_case(report: &Report<'_>, case: &Case, making: &mut Making, page: &mut Page) {
     page.counted(
         "# a schedule that gives line ",
         report.plan.number_of(case.row),
     );
     page.text(" a wrong answer\n");
-    match case.making(report.alloc, report.plan) {
-        Ok(mut making) => add_case_steps(report, case, &mut making, page),
-        Err(_) => page.fail(),
+    if case.make(report.plan, making).is_err() {
+        page.fail();
     }
-}
-
-fn add_case_steps(report: &Report<'_>, case: &Case, making: &mut Making, page: &mut Page) {
     let is_last = report.plan.section_of(case.row).is_same(Section::Last);
     if is_last && making.push_last(report.plan).is_err() {
         page.fail();
@@ -86,20 +92,7 @@ fn add_case_steps(report: &Report<'_>, case: &Case, making: &mut Making, page: &
 
 /// Each command with its answer; the commands from `going` on are refused.
 fn add_steps(report: &Report<'_>, making: &Making, going: usize, page: &mut Page) {
-    match making.answers(report.alloc) {
-        Ok(answers) => add_answers(report, making, answers.as_slice(), going, page),
-        Err(_) => page.fail(),
-    }
-}
-
-fn add_answers(
-    report: &Report<'_>,
-    making: &Making,
-    answers: &[Answer],
-    going: usize,
-    page: &mut Page,
-) {
-    for (place, answer) in answers.iter().enumerate() {
+    for (place, answer) in making.answers.as_slice().iter().enumerate() {
         if let Some(index) = making.rows.get(place) {
             add_step(report.plan, *index, place >= going, page);
             add_answer(report.alloc, answer, page);

@@ -1,0 +1,4 @@
+use Rattle.explore_report.proofs.schedule.clear_made.Goals as goal
+
+pub loop-init : goal.loop-init
+loop-init c = c.clear.ensures.items
