@@ -16,6 +16,8 @@ import sys
 
 TIMELINES, FILES, BUFFERS = ("t", "u"), ("f", "g", "h", "i"), ("b", "c")
 USAGES, FLAGS = ("kernel", "write", "read", "bookkeep"), ("read", "write", "rw")
+# Commands that are answered with a number, which may depend on the schedule.
+COUNTING = ("inc", "value", "test", "shut", "show")
 
 
 def command(rng):
@@ -45,17 +47,18 @@ def command(rng):
 
 
 class Plan:
-    """A random plan: its commands by number of line, and the lines of its sections."""
+    """A random plan: its commands by number of line, the lines of its sections, and the branches below lines of its clients."""
 
     def __init__(self, seed):
         rng = random.Random(seed)
         self.text, self.commands = [], {}
         self.first = [self.add(line) for line in ["timeline t", "timeline u", "buffer b", "buffer c"][:rng.randint(2, 4)]]
         self.first += [self.add(f"fence {name} {rng.choice(TIMELINES)} {rng.randint(1, 3)}") for name in FILES[:rng.randint(0, 2)]]
-        self.clients, self.waits = [], set()
+        self.clients, self.waits, self.branches = [], set(), {}
         for client, most in enumerate(rng.choice(((4, 4), (3, 4), (2, 2, 2), (3, 3)))):
             self.text.append(f"#client c{client}")
-            self.clients.append([self.add_line(rng) for _ in range(rng.randint(1, most))])
+            self.clients.append([])
+            self.add_lines(rng, self.clients[-1], rng.randint(1, most))
         self.text.append("#finally")
         self.last = [self.add(command(rng)) for _ in range(rng.randint(0, 3))]
 
@@ -63,6 +66,20 @@ class Plan:
         self.text.append(line)
         self.commands[len(self.text)] = line
         return len(self.text)
+
+    def add_lines(self, rng, lines, most):
+        """Adds so many lines, some of them in branches."""
+        most += len(lines)
+        while len(lines) < most:
+            number = self.add_line(rng)
+            lines.append(number)
+            if len(lines) < most and rng.random() < 0.5:
+                counts = self.commands[number].startswith(COUNTING)
+                text = rng.choice(("ok 0", "ok 1", "ok 2") if counts else ("ok", "ok", "err 2 NoEntry", "err 3 Exists"))
+                self.text.append(f"#if {text}")
+                self.add_lines(rng, lines, rng.randint(1, most - len(lines)))
+                self.text.append("#end")
+                self.branches[number] = text, len(lines)
 
     def add_line(self, rng):
         awaited = rng.random() < 0.1
@@ -97,8 +114,16 @@ class Schedules:
 
     def made(self, schedule):
         """Returns the lines that a schedule makes, those of the first section included."""
-        left = [iter(lines) for lines in self.plan.clients]
-        return tuple(self.plan.first) + tuple(next(left[client]) for client in schedule)
+        made, at = tuple(self.plan.first), [0 for _ in self.plan.clients]
+        for client in schedule:
+            made += (self.plan.clients[client][at[client]],)
+            at[client] = self.place_after(made, at[client])
+        return made
+
+    def place_after(self, made, place):
+        """Returns the place of a client's next line, once it has made the last of these lines, which is at this place."""
+        text, otherwise = self.plan.branches.get(made[-1], (None, place + 1))
+        return place + 1 if self.answers(made)[-1][0] == text else otherwise
 
     def decide(self):
         first = tuple(self.plan.first)
@@ -118,13 +143,14 @@ class Schedules:
                 continue
             moved = True
             self.given.add((number, answer))
-            self.go(made + (number,), at[:client] + (at[client] + 1,) + at[client + 1:])
+            place = self.place_after(made + (number,), at[client])
+            self.go(made + (number,), at[:client] + (place,) + at[client + 1:])
         if not moved:
             self.end(made, at)
 
     def end(self, made, at):
         if any(place < len(lines) for place, lines in zip(at, self.plan.clients)):
-            steps = sum(at)
+            steps = len(made) - len(self.plan.first)
             self.stuck = steps if self.stuck is None else min(steps, self.stuck)
             return
         ended = self.answers(made + tuple(self.plan.last))[len(made):]

@@ -5,7 +5,7 @@ use Rattle.explore_report.specs.declared.plan_script.PlanScript.{PlanScript}
 use Rattle.explore_report.specs.declared.row.Row.{Row}
 use Rattle.explore_report.specs.Finding.{begins_answer, line_expected, more_lines}
 
-drop-at : (notes : List Row) (i : ℕ) (note : Row) → i < length notes → note ≡ get_or notes i note → drop i notes ≡ note ∷ drop (i + 1) notes
+pub drop-at : (notes : List Row) (i : ℕ) (note : Row) → i < length notes → note ≡ get_or notes i note → drop i notes ≡ note ∷ drop (i + 1) notes
 drop-at notes i note low at =
     drop-cons notes i note low
     ∙ ap (λ k. get_or notes i note ∷ drop k notes) (sym (add-one i))

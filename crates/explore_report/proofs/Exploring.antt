@@ -1,5 +1,5 @@
 -- A plan of rows that are placed can be explored.
-use Rattle.std.proofs.Common.{◌≡◌, ℕ, ◌+◌, Bool, true, false, refl, sym, subst, List, [], ◌∷◌, Option, None, Some, All, slice_get}
+use Rattle.std.proofs.Common.{◌≡◌, ℕ, ◌+◌, Bool, true, false, refl, sym, subst, List, [], ◌∷◌, length, Option, None, Some, All, slice_get}
 use Rattle.std.specs.Prelude.{unwrap_or, option_map, nat_lt, if◌then◌else◌}
 use Rattle.std.specs.List.{flat_map}
 use Rattle.std.specs.Option.{option_to_list}
@@ -22,7 +22,7 @@ use Rattle.explore_report.specs.declared.context.Above.{Above}
 use Rattle.explore_report.specs.declared.context.Above.TheVariants as above
 use Rattle.explore_report.specs.declared.context.Context.{Context}
 use Rattle.explore_report.specs.Mistake.{IsPlaced, cause_of, client_below, command_cause, unless_awaited}
-use Rattle.explore_report.specs.Plan.{clients_at, clients_in, commands_at, commands_in, lines_begun, plan_of, step_of, steps_at, steps_in}
+use Rattle.explore_report.specs.Plan.{clients_at, clients_in, commands_at, commands_in, lines_begun, plan_of, step_of, steps_at, steps_from, steps_in}
 use Rattle.explore_report.specs.Rows.{command_in, command_said}
 
 -- a client's lines ask for no report, and register no watch
@@ -89,6 +89,8 @@ mark_stands at (mark.Command d) c placed is = subst (may_stand at.section) (same
 mark_stands at (mark.Client name) c placed is = absurd (none-some c is)
 mark_stands at mark.Finally c placed is = absurd (none-some c is)
 mark_stands at mark.Await c placed is = absurd (none-some c is)
+mark_stands at mark.If c placed is = absurd (none-some c is)
+mark_stands at mark.End c placed is = absurd (none-some c is)
 mark_stands at mark.Expected c placed is = absurd (none-some c is)
 mark_stands at mark.OrExpected c placed is = absurd (none-some c is)
 mark_stands at (mark.Wrong why) c placed is = absurd (none-some c is)
@@ -110,44 +112,54 @@ commands_stand s rows all =
 abbrev quiet_step : Step → Type 0
 quiet_step step = IsQuiet step.command
 
-listed_step : (o : Option Command) (row : Row) → ((c : Command) → o ≡ Some c → IsQuiet c)
-    → All quiet_step (option_to_list (option_map (step_of row) o))
-listed_step None row each = All-nil quiet_step
-listed_step (Some c) row each = All-cons quiet_step (step_of row c) [] (each c refl) (All-nil quiet_step)
+listed_step : (lines : List (List ℕ)) (place : ℕ) (o : Option Command) (row : Row) (below : List Row) → ((c : Command) → o ≡ Some c → IsQuiet c)
+    → All quiet_step (option_to_list (option_map (step_of lines place row below) o))
+listed_step lines place None row below each = All-nil quiet_step
+listed_step lines place (Some c) row below each = All-cons quiet_step (step_of lines place row below c) [] (each c refl) (All-nil quiet_step)
 
-steps_quiet : (k : ℕ) (rows : List Row) → All IsPlaced rows → All quiet_step (steps_in (section.Client k) rows)
-steps_quiet k rows all =
-    All-flat_map quiet_step IsPlaced (steps_at (section.Client k))
-    (λ row placed. listed_step (command_in (section.Client k) row) row (λ c is. row_stands (section.Client k) row c placed is)) rows all
+steps_quiet : (lines : List (List ℕ)) (k place : ℕ) (rows : List Row) → All IsPlaced rows → All quiet_step (steps_from lines (section.Client k) place rows)
+steps_quiet lines k place [] all = All-nil quiet_step
+steps_quiet lines k place (row ∷ below) all =
+    let s = section.Client k in
+    let own = steps_at lines s place row below in
+    let placed = All-head IsPlaced row below all in
+    All-append quiet_step own (steps_from lines s (place + length own) below)
+    (listed_step lines place (command_in s row) row below (λ c is. row_stands s row c placed is))
+    (steps_quiet lines k (place + length own) below (All-tail IsPlaced row below all))
 
 -- the section that a placed client begins is a client's
 next_of : (b : Bool) (n : ℕ) → (k : ℕ) × ((if b then section.Client (n + 1) else section.Client n) ≡ section.Client k)
 next_of true n = (n + 1, refl)
 next_of false n = (n, refl)
 
-next_is_client : (a : Above) (s : Section) → unless_awaited a (client_below s) ≡ None → (k : ℕ) × (next_client s ≡ section.Client k)
-next_is_client a section.First is = (0, refl)
-next_is_client a (section.Client n) is = next_of (nat_lt n PLAN_CLIENTS) n
-next_is_client above.Nothing section.Last is = absurd (none-some cause.ClientBelowFinally (sym is))
-next_is_client above.Command section.Last is = absurd (none-some cause.ClientBelowFinally (sym is))
-next_is_client above.Await section.Last is = absurd (none-some cause.AwaitsNothing (sym is))
+next_is_client : (a : Above) (inside : Bool) (s : Section) → unless_awaited a (if inside then Some cause.NotEnded else client_below s) ≡ None
+    → (k : ℕ) × (next_client s ≡ section.Client k)
+next_is_client a inside section.First is = (0, refl)
+next_is_client a inside (section.Client n) is = next_of (nat_lt n PLAN_CLIENTS) n
+next_is_client above.Await inside section.Last is = absurd (none-some cause.AwaitsNothing (sym is))
+next_is_client above.Nothing true section.Last is = absurd (none-some cause.NotEnded (sym is))
+next_is_client above.Nothing false section.Last is = absurd (none-some cause.ClientBelowFinally (sym is))
+next_is_client above.Command true section.Last is = absurd (none-some cause.NotEnded (sym is))
+next_is_client above.Command false section.Last is = absurd (none-some cause.ClientBelowFinally (sym is))
 
-begun_quiet : (rows : List Row) → All IsPlaced rows → (at : Context) (m : Mark) → cause_of at m ≡ None
-    → All (All quiet_step) (lines_begun rows at.section m)
-begun_quiet rows all at (mark.Client name) placed =
-    let next = next_is_client at.above at.section placed in
-    All-cons (All quiet_step) (steps_in (next_client at.section) rows) []
-    (subst (λ s. All quiet_step (steps_in s rows)) (sym next.1) (steps_quiet next.0 rows all)) (All-nil (All quiet_step))
-begun_quiet rows all at mark.Finally placed = All-nil (All quiet_step)
-begun_quiet rows all at mark.Await placed = All-nil (All quiet_step)
-begun_quiet rows all at mark.Expected placed = All-nil (All quiet_step)
-begun_quiet rows all at mark.OrExpected placed = All-nil (All quiet_step)
-begun_quiet rows all at (mark.Command command) placed = All-nil (All quiet_step)
-begun_quiet rows all at (mark.Wrong why) placed = All-nil (All quiet_step)
+begun_quiet : (lines : List (List ℕ)) (rows : List Row) → All IsPlaced rows → (at : Context) (m : Mark) → cause_of at m ≡ None
+    → All (All quiet_step) (lines_begun lines rows at.section m)
+begun_quiet lines rows all at (mark.Client name) placed =
+    let next = next_is_client at.above (nat_lt 0 at.depth) at.section placed in
+    All-cons (All quiet_step) (steps_in lines (next_client at.section) rows) []
+    (subst (λ s. All quiet_step (steps_in lines s rows)) (sym next.1) (steps_quiet lines next.0 0 rows all)) (All-nil (All quiet_step))
+begun_quiet lines rows all at mark.Finally placed = All-nil (All quiet_step)
+begun_quiet lines rows all at mark.Await placed = All-nil (All quiet_step)
+begun_quiet lines rows all at mark.If placed = All-nil (All quiet_step)
+begun_quiet lines rows all at mark.End placed = All-nil (All quiet_step)
+begun_quiet lines rows all at mark.Expected placed = All-nil (All quiet_step)
+begun_quiet lines rows all at mark.OrExpected placed = All-nil (All quiet_step)
+begun_quiet lines rows all at (mark.Command command) placed = All-nil (All quiet_step)
+begun_quiet lines rows all at (mark.Wrong why) placed = All-nil (All quiet_step)
 
-clients_quiet : (rows : List Row) → All IsPlaced rows → All (All quiet_step) (clients_in rows)
-clients_quiet rows all =
-    All-flat_map (All quiet_step) IsPlaced (clients_at rows) (λ row placed. begun_quiet rows all row.context row.mark placed) rows all
+clients_quiet : (lines : List (List ℕ)) (rows : List Row) → All IsPlaced rows → All (All quiet_step) (clients_in lines rows)
+clients_quiet lines rows all =
+    All-flat_map (All quiet_step) IsPlaced (clients_at lines rows) (λ row placed. begun_quiet lines rows all row.context row.mark placed) rows all
 
 line_quiet : (lines : List (List Step)) (client place : ℕ) (step : Step) → All (All quiet_step) lines
     → (found : Option (List Step)) → slice_get lines client ≡ found → slice_get (unwrap_or found []) place ≡ Some step → quiet_step step
@@ -156,14 +168,14 @@ line_quiet lines client place step all (Some steps) at is =
     All-at quiet_step steps place step (All-at (All quiet_step) lines client steps all at) is
 
 -- a plan of rows that are all placed can be explored
-pub placed-explorable : (rows : List Row) → All IsPlaced rows → CanBeExplored (plan_of rows)
-placed-explorable rows all = record {
+pub placed-explorable : (lines : List (List ℕ)) (rows : List Row) → All IsPlaced rows → CanBeExplored (plan_of lines rows)
+placed-explorable lines rows all = record {
   asks = record {
     lines = λ client place step is.
-        (line_quiet (clients_in rows) client place step (clients_quiet rows all) (slice_get (clients_in rows) client) refl is).asks;
+        (line_quiet (clients_in lines rows) client place step (clients_quiet lines rows all) (slice_get (clients_in lines rows) client) refl is).asks;
     last = commands_stand section.Last rows all;
   };
   first = commands_stand section.First rows all;
   lines = λ client place step is.
-      (line_quiet (clients_in rows) client place step (clients_quiet rows all) (slice_get (clients_in rows) client) refl is).registers;
+      (line_quiet (clients_in lines rows) client place step (clients_quiet lines rows all) (slice_get (clients_in lines rows) client) refl is).registers;
 }

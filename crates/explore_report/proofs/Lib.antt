@@ -7,3 +7,4 @@ mod Readings
 mod Replaying
 mod Rows
 mod Scheduled
+mod Steps

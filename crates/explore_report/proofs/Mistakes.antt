@@ -1,6 +1,6 @@
 -- Why rows make no plan, row by row.
 use Rattle.std.proofs.Common.{◌≡◌, ◌⊎◌, inl, inr, ℕ, ◌+◌, ◌-◌, ◌<◌, ◌≤◌, Bool, true, false, true≢false, cond, refl, sym, ap, subst, ◌∙◌, List, [], ◌∷◌, ◌++◌, length, get_or, slice_get, take, All, Option, None, Some, arith, below_more}
-use Rattle.std.specs.Prelude.{MatchOption, count_by}
+use Rattle.std.specs.Prelude.{MatchOption, count_by, nat_lt}
 use Rattle.std.proofs.lemmas.List.{take_all, take_more}
 use Rattle.std.proofs.lemmas.List.Elements.{All-push}
 use Rattle.std.proofs.lemmas.List.Sums.{count_by_more_yes, sum_by-take-le}
@@ -9,7 +9,7 @@ use Rattle.explore_report.specs.declared.cause.Cause.TheVariants as cause
 use Rattle.explore_report.specs.declared.cause.TheConstants.{PLAN_LINES}
 use Rattle.explore_report.specs.declared.mistake.Mistake.{Mistake}
 use Rattle.explore_report.specs.declared.row.Row.{Row}
-use Rattle.explore_report.specs.Mistake.{AreFew, EndsWhole, HasOwnName, HaveOwnNames, IsLaterMistake, IsMisplaced, IsMissing, IsMistake, IsPastLimit, IsPlaced, IsPlan, IsRow, IsTaken, IsWhole, cause_of, is_await, is_line, is_taken}
+use Rattle.explore_report.specs.Mistake.{AreFew, EndsClosed, EndsWhole, HasOwnName, HaveOwnNames, IsClientless, IsLaterMistake, IsMisplaced, IsMissing, IsMistake, IsOpen, IsPastLimit, IsPlaced, IsPlan, IsRow, IsTaken, IsWhole, cause_of, is_await, is_line, is_taken, depth_below}
 use Rattle.explore_report.proofs.Exploring.{All-at}
 
 row-at : (rows : List Row) (i : ℕ) (row : Row) → i < length rows → row ≡ get_or rows i row → IsRow rows i row
@@ -62,6 +62,14 @@ pub or_missing : (rows : List Row) (last : ℕ) (o : Option Mistake) → All IsP
 or_missing rows last None placed named few whole = record { placed = placed; named = named; few = few; whole = whole }
 or_missing rows last (Some m) placed named few found = inr (placed, inr (named, inr (few, found)))
 
+-- no `#if` is open below the last row, if there is one
+
+pub closed-none : (rows : List Row) → None ≡ slice_get rows (length rows - 1) → EndsClosed rows
+closed-none rows is row at = absurd (none-some row (is ∙ at))
+
+pub closed-row : (rows : List Row) (last : Row) → Some last ≡ slice_get rows (length rows - 1) → nat_lt 0 (depth_below last) ≡ false → EndsClosed rows
+closed-row rows last is closed row at = subst (λ r. nat_lt 0 (depth_below r) ≡ false) (same_Some last row (is ∙ at)) closed
+
 -- an element that passes is counted beyond those before it
 counted-at : {X : Type 0} (p : X → Bool) (xs : List X) (i : ℕ) (x : X) → slice_get xs i ≡ Some x → p x ≡ true
     → count_by p (take i xs) < count_by p xs
@@ -79,9 +87,13 @@ not-taken rows m found named = true≢false (sym found.taken ∙ named found.ind
 not-past : (rows : List Row) (m : Mistake) → IsPastLimit rows m → AreFew rows → ⊥
 not-past rows m found few = absurd (omega (arith, found.full, counted-at is_line rows found.index found.row found.at found.counted))
 
+not-incomplete : (rows : List Row) (last : ℕ) (m : Mistake) → IsOpen rows m ⊎ (EndsClosed rows × IsClientless rows last m) → IsWhole rows → ⊥
+not-incomplete rows last m (inl found) whole = true≢false (sym found.inside ∙ whole.closed found.row found.last)
+not-incomplete rows last m (inr found) whole = true≢false (sym whole.client ∙ found.1.none)
+
 not-missing : (rows : List Row) (last : ℕ) (m : Mistake) → IsMissing rows last m → IsWhole rows → ⊥
 not-missing rows last m (inl found) whole = true≢false (sym found.await ∙ whole.ended found.row found.last)
-not-missing rows last m (inr found) whole = true≢false (sym whole.client ∙ found.1.none)
+not-missing rows last m (inr found) whole = not-incomplete rows last m found.1 whole
 
 not-last : (rows : List Row) (last : ℕ) (m : Mistake) → IsPastLimit rows m ⊎ (AreFew rows × IsMissing rows last m) → IsPlan rows → ⊥
 not-last rows last m (inl found) plan = not-past rows m found plan.few

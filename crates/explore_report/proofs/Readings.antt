@@ -22,14 +22,14 @@ rows-are : (script : List ℕ) (items cut : List (Bor (List ℕ))) (rows : List 
 rows-are script items cut rows same lines are = are ∙ ap (λ ls. rows_of (map text_of ls)) same ∙ ap rows_of lines
 
 pub plan-read : (script : List ℕ) (p : PlanScript) (cut : List (Bor (List ℕ))) → cut ≡ p.lines.items → map text_of p.lines.items ≡ lines_of script
-    → p.rows.items ≡ rows_of (map text_of cut) → p.plan ≡ plan_of p.rows.items → length script ≤ SCRIPT_BYTES → IsPlan p.rows.items
+    → p.rows.items ≡ rows_of (map text_of cut) → p.plan ≡ plan_of (map text_of cut) p.rows.items → length script ≤ SCRIPT_BYTES → IsPlan p.rows.items
     → IsPlanOf script p
 plan-read script p cut same lines rows plan short found =
     let are : p.rows.items ≡ rows_of (lines_of script) = rows-are script p.lines.items cut p.rows.items same lines rows in
     record {
       valid = record { short = short; plan = subst IsPlan are found };
-      is = plan ∙ ap plan_of are;
-      explorable = subst CanBeExplored (sym plan) (placed-explorable p.rows.items found.placed);
+      is = plan ∙ ap (plan_of (map text_of cut)) are ∙ ap (λ ls. plan_of ls (rows_of (lines_of script))) (ap (map text_of) same ∙ lines);
+      explorable = subst CanBeExplored (sym plan) (placed-explorable (map text_of cut) p.rows.items found.placed);
       lines = lines;
       rows = are;
     }

@@ -6,7 +6,7 @@ use Rattle.command_core.specs.declared.command.Command.{Command}
 use Rattle.desk_core.specs.theorem.Desk.{HasHistory}
 use Rattle.desk_core.specs.theorem.World.{empty_world}
 use Rattle.explore_core.specs.Alike.{answers_along}
-use Rattle.explore_core.specs.Schedule.{Lines, Schedule, Standing, answer_now, beginning, history_along, history_with, made_by, next_line}
+use Rattle.explore_core.specs.Schedule.{Lines, Schedule, Standing, answer_now, beginning, history_along, history_with, made_by, next_line, place_after}
 use Rattle.explore_core.specs.Search.{IsMade}
 use Rattle.explore_core.specs.declared.plan.Step.{Step}
 use Rattle.explore_core.proofs.Scheduling.{history_along-push}
@@ -87,7 +87,8 @@ line-none plan commands now client making none has =
     (own-none commands now making has)
 
 pub line-some : (plan : Lines) (commands : List Command) (now : Standing) (client next : ℕ) (step : Step) (mid new : Making) → next_line plan now client ≡ Some step
-    → HasMade (commands ++ step.command ∷ []) (standing_past now (step.command ∷ [])) mid → next ≡ made_by now client + 1
+    → HasMade (commands ++ step.command ∷ []) (standing_past now (step.command ∷ [])) mid
+    → next ≡ place_after step (made_by now client) (answer_now now.history step.command)
     → new.desk ≡ mid.desk → new.answers.items ≡ mid.answers.items → new.made.items ≡ set mid.made.items client next
     → HasMade (commands ++ command_at plan now client) (standing_with plan now client) new
 line-some plan commands now client next step mid new some has counted desk answers made =

@@ -18,6 +18,8 @@ abbrev pub is_expectation : Mark → Bool
 is_expectation (mark.Client name) = false
 is_expectation mark.Finally = false
 is_expectation mark.Await = false
+is_expectation mark.If = false
+is_expectation mark.End = false
 is_expectation mark.Expected = true
 is_expectation mark.OrExpected = true
 is_expectation (mark.Command command) = false
@@ -31,6 +33,8 @@ abbrev pub is_beginning : Mark → Bool
 is_beginning (mark.Client name) = false
 is_beginning mark.Finally = false
 is_beginning mark.Await = false
+is_beginning mark.If = false
+is_beginning mark.End = false
 is_beginning mark.Expected = false
 is_beginning mark.OrExpected = true
 is_beginning (mark.Command command) = false

@@ -31,6 +31,11 @@ abbrev pub without_words : List ℕ → Mark → Mark
 without_words [] said = said
 without_words (b ∷ words) said = mark.Wrong cause.WordFollows
 
+-- the first line of an answer has to follow
+abbrev pub if_mark : List ℕ → Mark
+if_mark [] = mark.Wrong cause.NoText
+if_mark (b ∷ words) = mark.If
+
 -- the words would be a directive directly behind a `#`
 abbrev pub is_directive : List ℕ → List ℕ → Bool
 is_directive word words =
@@ -49,6 +54,8 @@ directive_of word words =
     if bytes_eq word (codes "#client") then Some (client_mark words)
     else if bytes_eq word (codes "#finally") then Some (without_words words mark.Finally)
     else if bytes_eq word (codes "#await") then Some (without_words words mark.Await)
+    else if bytes_eq word (codes "#if") then Some (if_mark words)
+    else if bytes_eq word (codes "#end") then Some (without_words words mark.End)
     else if bytes_eq word (codes "#") then blank_note words
     else if begins_directive word then Some (mark.Wrong cause.NoDirective)
     else None
@@ -81,3 +88,7 @@ abbrev pub expected_text : List ℕ → List ℕ
 expected_text line =
     let text = after_mark (drop_spaces line) in
     unwrap_or (strip_prefix text (codes " ")) text
+
+-- the first line of an answer that an `#if` names: what follows its mark, without the spaces between
+abbrev pub branch_text : List ℕ → List ℕ
+branch_text line = words_after (drop_spaces line)

@@ -1,5 +1,5 @@
 -- Why a script is no plan.
-use Rattle.std.specs.Prelude.{◌≡◌, ◌⊎◌, ◌<◌, ◌≤◌, ℕ, ◌-◌, ◌&&◌, nat_le, All, Bool, true, false, if◌then◌else◌, List, length, take, count_by, slice_get, Option, None, Some, is_some}
+use Rattle.std.specs.Prelude.{◌≡◌, ◌⊎◌, ◌<◌, ◌≤◌, ℕ, ◌-◌, ◌&&◌, nat_le, nat_lt, All, Bool, true, false, if◌then◌else◌, List, length, take, count_by, slice_get, Option, None, Some, is_some}
 use Rattle.std.specs.List.{list_any}
 use Rattle.std.specs.Str.{bytes_eq}
 use Rattle.command_core.specs.declared.command.Command.{Command}
@@ -16,6 +16,7 @@ use Rattle.explore_report.specs.declared.mark.Mark.{Mark}
 use Rattle.explore_report.specs.declared.mark.Mark.TheVariants as mark
 use Rattle.explore_report.specs.declared.mistake.Mistake.{Mistake}
 use Rattle.explore_report.specs.declared.row.Row.{Row}
+use Rattle.explore_report.specs.Context.{after}
 use Rattle.explore_report.specs.Rows.{command_said}
 
 -- a command has to follow `#await` directly; else that cause counts
@@ -23,6 +24,10 @@ abbrev pub unless_awaited : Above → Option Cause → Option Cause
 unless_awaited above.Nothing other = other
 unless_awaited above.Command other = other
 unless_awaited above.Await other = Some cause.AwaitsNothing
+
+-- no `#if` is open where a section ends
+abbrev pub unless_open : ℕ → Option Cause → Option Cause
+unless_open depth other = if nat_lt 0 depth then Some cause.NotEnded else other
 
 -- there can be PLAN_CLIENTS clients, all above `#finally`
 abbrev pub client_below : Section → Option Cause
@@ -39,6 +44,21 @@ abbrev pub await_in : Section → Option Cause
 await_in section.First = Some cause.AwaitOutside
 await_in (section.Client number) = None
 await_in section.Last = Some cause.AwaitOutside
+
+-- branches are of clients only
+abbrev pub branch_in : Section → Option Cause → Option Cause
+branch_in section.First other = Some cause.BranchOutside
+branch_in (section.Client number) other = other
+branch_in section.Last other = Some cause.BranchOutside
+
+-- an `#if` is about the answer to the client's command directly above
+abbrev pub if_below : Above → Option Cause
+if_below above.Nothing = Some cause.IfBelowNothing
+if_below above.Command = None
+if_below above.Await = None
+
+abbrev pub end_below : ℕ → Option Cause
+end_below depth = if nat_lt 0 depth then None else Some cause.EndsNothing
 
 -- an answer is expected of a command of the same section
 abbrev pub expected_below : Above → Option Cause
@@ -64,13 +84,19 @@ command_cause section (command.Watch f cookie) = watch_in section
 command_cause section _ = None
 
 abbrev pub client_cause : Context → Option Cause
-client_cause at = unless_awaited at.above (client_below at.section)
+client_cause at = unless_awaited at.above (unless_open at.depth (client_below at.section))
 
 abbrev pub finally_cause : Context → Option Cause
-finally_cause at = unless_awaited at.above (finally_below at.section)
+finally_cause at = unless_awaited at.above (unless_open at.depth (finally_below at.section))
 
 abbrev pub await_cause : Context → Option Cause
 await_cause at = unless_awaited at.above (await_in at.section)
+
+abbrev pub if_cause : Context → Option Cause
+if_cause at = unless_awaited at.above (branch_in at.section (if_below at.above))
+
+abbrev pub end_cause : Context → Option Cause
+end_cause at = unless_awaited at.above (branch_in at.section (end_below at.depth))
 
 abbrev pub expected_cause : Context → Option Cause
 expected_cause at = unless_awaited at.above (expected_below at.above)
@@ -80,6 +106,8 @@ abbrev pub cause_of : Context → Mark → Option Cause
 cause_of at (mark.Client name) = client_cause at
 cause_of at mark.Finally = finally_cause at
 cause_of at mark.Await = await_cause at
+cause_of at mark.If = if_cause at
+cause_of at mark.End = end_cause at
 cause_of at mark.Expected = expected_cause at
 cause_of at mark.OrExpected = expected_cause at
 cause_of at (mark.Command command) = command_cause at.section command
@@ -107,6 +135,8 @@ abbrev pub is_named : List ℕ → Mark → Bool
 is_named name (mark.Client other) = bytes_eq other name
 is_named name mark.Finally = false
 is_named name mark.Await = false
+is_named name mark.If = false
+is_named name mark.End = false
 is_named name mark.Expected = false
 is_named name mark.OrExpected = false
 is_named name (mark.Command command) = false
@@ -124,6 +154,8 @@ abbrev pub is_taken : List Row → Mark → Bool
 is_taken above (mark.Client name) = has_client above name
 is_taken above mark.Finally = false
 is_taken above mark.Await = false
+is_taken above mark.If = false
+is_taken above mark.End = false
 is_taken above mark.Expected = false
 is_taken above mark.OrExpected = false
 is_taken above (mark.Command command) = false
@@ -174,6 +206,8 @@ abbrev pub begins_client : Mark → Bool
 begins_client (mark.Client name) = true
 begins_client mark.Finally = false
 begins_client mark.Await = false
+begins_client mark.If = false
+begins_client mark.End = false
 begins_client mark.Expected = false
 begins_client mark.OrExpected = false
 begins_client (mark.Command command) = false
@@ -189,6 +223,8 @@ abbrev pub is_await : Mark → Bool
 is_await (mark.Client name) = false
 is_await mark.Finally = false
 is_await mark.Await = true
+is_await mark.If = false
+is_await mark.End = false
 is_await mark.Expected = false
 is_await mark.OrExpected = false
 is_await (mark.Command command) = false
@@ -201,9 +237,18 @@ IsLastRow rows row = slice_get rows (length rows - 1) ≡ Some row
 abbrev pub EndsWhole : List Row → Type 0
 EndsWhole rows = (row : Row) → IsLastRow rows row → is_await row.mark ≡ false
 
+-- how many `#if` are open below the row
+abbrev pub depth_below : Row → ℕ
+depth_below row = (after row.context row.mark).depth
+
+-- no `#if` is open below the last row
+abbrev pub EndsClosed : List Row → Type 0
+EndsClosed rows = (row : Row) → IsLastRow rows row → nat_lt 0 (depth_below row) ≡ false
+
 -- nothing is missing at the end
 pub record IsWhole (rows : List Row) : Type 0 where
   pub ended : EndsWhole rows
+  pub closed : EndsClosed rows
   pub client : has_some_client rows ≡ true
 
 -- the last row is `#await`, which no command follows
@@ -214,6 +259,14 @@ pub record IsAwaiting (rows : List Row) (m : Mistake) : Type 0 where
   pub await : is_await row.mark ≡ true
   pub why : m.cause ≡ cause.AwaitsNothing
 
+-- an `#if` is open below the last row
+pub record IsOpen (rows : List Row) (m : Mistake) : Type 0 where
+  pub row : Row
+  pub last : IsLastRow rows row
+  pub line : m.line ≡ row.number
+  pub inside : nat_lt 0 (depth_below row) ≡ true
+  pub why : m.cause ≡ cause.NotEnded
+
 -- no row begins the lines of a client; reported of the last line
 pub record IsClientless (rows : List Row) (last : ℕ) (m : Mistake) : Type 0 where
   pub none : has_some_client rows ≡ false
@@ -221,7 +274,7 @@ pub record IsClientless (rows : List Row) (last : ℕ) (m : Mistake) : Type 0 wh
   pub why : m.cause ≡ cause.NoClient
 
 abbrev pub IsMissing : List Row → ℕ → Mistake → Type 0
-IsMissing rows last m = IsAwaiting rows m ⊎ (EndsWhole rows × IsClientless rows last m)
+IsMissing rows last m = IsAwaiting rows m ⊎ (EndsWhole rows × (IsOpen rows m ⊎ (EndsClosed rows × IsClientless rows last m)))
 
 -- rows that make a plan
 pub record IsPlan (rows : List Row) : Type 0 where

@@ -20,7 +20,7 @@ pub record IsPlanText (script : List ℕ) : Type 0 where
 -- the script is a plan, which is exactly what its sections say, and can be explored
 pub record IsPlanOf (script : List ℕ) (p : PlanScript) : Type 0 where
   pub valid : IsPlanText script
-  pub is : p.plan ≡ plan_of (rows_of (lines_of script))
+  pub is : p.plan ≡ plan_of (lines_of script) (rows_of (lines_of script))
   pub explorable : CanBeExplored p.plan
   pub lines : map (λ line. line.now) p.lines.items ≡ lines_of script
   pub rows : p.rows.items ≡ rows_of (lines_of script)

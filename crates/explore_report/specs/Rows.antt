@@ -1,5 +1,5 @@
 -- The rows of a plan: its lines that say something.
-use Rattle.std.specs.Prelude.{ℕ, ◌+◌, if◌then◌else◌, List, [], ◌∷◌, ◌++◌, Option, None, Some}
+use Rattle.std.specs.Prelude.{ℕ, ◌+◌, Bool, true, false, if◌then◌else◌, List, [], ◌∷◌, ◌++◌, Option, None, Some}
 use Rattle.command_core.specs.declared.command.Command.{Command}
 use Rattle.explore_report.specs.declared.context.Context.{Context}
 use Rattle.explore_report.specs.declared.context.Section.{Section}
@@ -38,6 +38,8 @@ abbrev pub command_said : Mark → Option Command
 command_said (mark.Client name) = None
 command_said mark.Finally = None
 command_said mark.Await = None
+command_said mark.If = None
+command_said mark.End = None
 command_said mark.Expected = None
 command_said mark.OrExpected = None
 command_said (mark.Command command) = Some command
@@ -46,3 +48,25 @@ command_said (mark.Wrong why) = None
 -- the command of a row, if it is in that section
 abbrev pub command_in : Section → Row → Option Command
 command_in section row = if is_same row.context.section section then command_said row.mark else None
+
+abbrev pub is_if : Mark → Bool
+is_if (mark.Client name) = false
+is_if mark.Finally = false
+is_if mark.Await = false
+is_if mark.If = true
+is_if mark.End = false
+is_if mark.Expected = false
+is_if mark.OrExpected = false
+is_if (mark.Command command) = false
+is_if (mark.Wrong why) = false
+
+abbrev pub is_end : Mark → Bool
+is_end (mark.Client name) = false
+is_end mark.Finally = false
+is_end mark.Await = false
+is_end mark.If = false
+is_end mark.End = true
+is_end mark.Expected = false
+is_end mark.OrExpected = false
+is_end (mark.Command command) = false
+is_end (mark.Wrong why) = false

@@ -21,8 +21,10 @@ pub enum Cause {
     BlankFollows,
     #[error("#client takes one name")]
     NoName,
-    #[error("#finally and #await take no words")]
+    #[error("#finally, #await and #end take no words")]
     WordFollows,
+    #[error("#if takes the first line of an answer")]
+    NoText,
     #[error("there is already a client with this name")]
     NameTaken,
     #[error("a plan can have {0} clients")]
@@ -37,6 +39,14 @@ pub enum Cause {
     AwaitOutside,
     #[error("a command of the client has to follow #await directly")]
     AwaitsNothing,
+    #[error("#if and #end are only allowed in a client's section")]
+    BranchOutside,
+    #[error("a command of the client has to be directly above #if")]
+    IfBelowNothing,
+    #[error("there is no #if above it that this could end")]
+    EndsNothing,
+    #[error("an #if has no #end in its client's section")]
+    NotEnded,
     #[error("there is no command above it whose answer this could be")]
     ExpectsNothing,
     #[error("report is only allowed above the first client; its rows are in the order of making, which schedules change")]

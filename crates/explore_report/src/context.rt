@@ -1,9 +1,9 @@
-//! `Context`: the section of a plan's line, and what is directly above the line. `row.rt` carries it from line to line, and
-//! `mistake.rt` judges lines by it.
+//! `Context`: the section of a plan's line, what is directly above the line, and how many branches the line is in. `row.rt`
+//! carries it from line to line, and `mistake.rt` judges lines by it.
 ghost use Rattle.std.specs.Prelude.{◌≡◌};
-ghost use Rattle.explore_report.specs.Context.{after, is_same, next_client, start};
+ghost use Rattle.explore_report.specs.Context.{after, is_same, next_client, one_more, start};
 
-use crate::cause::PLAN_CLIENTS;
+use crate::cause::{PLAN_CLIENTS, PLAN_LINES};
 use crate::mark::Mark;
 
 /// A part of a plan.
@@ -27,11 +27,13 @@ pub enum Above {
     Await,
 }
 
-/// The section of a line, and what is directly above it.
+/// The section of a line, what is directly above it, and how many branches it is in.
 #[derive(Clone, Copy)]
 pub struct Context {
     pub section: Section,
     pub above: Above,
+    /// How many `#if` of its section are above the line whose `#end` is not.
+    pub depth: usize,
 }
 
 impl Context {
@@ -42,6 +44,7 @@ impl Context {
         Context {
             section: Section::First,
             above: Above::Nothing,
+            depth: 0,
         }
     }
 
@@ -53,24 +56,39 @@ impl Context {
             Mark::Client(_) => Context {
                 section: self.section.next_client(),
                 above: Above::Nothing,
+                depth: 0,
             },
             Mark::Finally => Context {
                 section: Section::Last,
                 above: Above::Nothing,
+                depth: 0,
             },
             Mark::Await => self.below(Above::Await),
+            Mark::If => self.with_depth(one_more(self.depth)),
+            Mark::End => self.with_depth(self.depth.saturating_sub(1)),
             Mark::Expected | Mark::OrExpected | Mark::Command(_) | Mark::Wrong(_) => {
                 self.below(Above::Command)
             }
         }
     }
 
+    fn with_depth(self, depth: usize) -> Context
+        ensures { result ≡ record { section = self.section; above = Above.Nothing; depth = depth } }
+    {
+        Context {
+            section: self.section,
+            above: Above::Nothing,
+            depth,
+        }
+    }
+
     fn below(self, above: Above) -> Context
-        ensures { result ≡ record { section = self.section; above = above } }
+        ensures { result ≡ record { section = self.section; above = above; depth = self.depth } }
     {
         Context {
             section: self.section,
             above,
+            depth: self.depth,
         }
     }
 }
@@ -98,4 +116,11 @@ impl Section {
             _ => false,
         }
     }
+}
+
+/// One more open branch. Each has a line of its own above its `#if`, so a plan has no more of them than lines.
+fn one_more(depth: usize) -> usize
+    ensures { result ≡ one_more depth }
+{
+    if depth < PLAN_LINES { depth + 1 } else { depth }
 }

@@ -1,8 +1,8 @@
 //! `Mark`: what a line says to the reader of a plan. `row.rt` asks for it line by line.
 ghost use Rattle.std.specs.Prelude.{◌≡◌};
 ghost use Rattle.explore_report.specs.Mistake.{is_await, is_named};
-ghost use Rattle.explore_report.specs.Rows.{command_said};
-ghost use Rattle.explore_report.specs.Mark.{after_mark, begins_directive, blank_note, client_mark, client_named, directive_of, expected_text, is_directive, mark_of, mark_of_body, note_of, without_words};
+ghost use Rattle.explore_report.specs.Rows.{command_said, is_end, is_if};
+ghost use Rattle.explore_report.specs.Mark.{after_mark, begins_directive, blank_note, branch_text, client_mark, client_named, directive_of, expected_text, if_mark, is_directive, mark_of, mark_of_body, note_of, without_words};
 
 use crate::cause::Cause;
 use crate::words::{first_word, words_after};
@@ -19,6 +19,10 @@ pub enum Mark {
     Finally,
     /// `#await`: the next line waits until it would be accepted.
     Await,
+    /// `#if TEXT`: the client makes the lines below only if TEXT is the first line of the answer above.
+    If,
+    /// `#end`: ends the lines of an `#if`.
+    End,
     /// `#= TEXT`: a line of the answer that is expected of the line above.
     Expected,
     /// `#| TEXT`: the first line of another right answer.
@@ -53,6 +57,18 @@ impl Mark {
     {
         matches!(self, Mark::Await)
     }
+
+    pub(crate) fn is_if(&self) -> bool
+        ensures { result ≡ is_if self.now }
+    {
+        matches!(self, Mark::If)
+    }
+
+    pub(crate) fn is_end(&self) -> bool
+        ensures { result ≡ is_end self.now }
+    {
+        matches!(self, Mark::End)
+    }
 }
 
 const CLIENT: &[u8] = b"#client";
@@ -60,6 +76,10 @@ const CLIENT: &[u8] = b"#client";
 const FINALLY: &[u8] = b"#finally";
 
 const AWAIT: &[u8] = b"#await";
+
+const IF: &[u8] = b"#if";
+
+const END: &[u8] = b"#end";
 
 /// The first word of a note with a blank behind its `#`.
 const BLANK: &[u8] = b"#";
@@ -120,6 +140,12 @@ fn directive_of(word: &[u8], rest: &[u8]) -> Option<Mark>
     }
     if word == AWAIT {
         return Some(without_words(rest, Mark::Await));
+    }
+    if word == IF {
+        return Some(if_mark(rest));
+    }
+    if word == END {
+        return Some(without_words(rest, Mark::End));
     }
     if word == BLANK {
         return blank_note(rest);
@@ -188,6 +214,17 @@ fn without_words(rest: &[u8], mark: Mark) -> Mark
     }
 }
 
+/// The mark of `#if`, which the first line of an answer has to follow.
+fn if_mark(rest: &[u8]) -> Mark
+    ensures mark { result ≡ if_mark rest.now }
+{
+    if rest.is_empty() {
+        Mark::Wrong(Cause::NoText)
+    } else {
+        Mark::If
+    }
+}
+
 /// Whether a letter follows the `#`.
 fn begins_directive(word: &[u8]) -> bool
     ensures letter { result ≡ begins_directive word.now }
@@ -213,4 +250,11 @@ fn after_mark(note: &[u8]) -> &[u8]
         Some(text) => text,
         None => strip_prefix(note, OR_EXPECTED).unwrap_or(note),
     }
+}
+
+/// The first line of an answer that an `#if` names: what follows its mark, without the spaces between.
+pub(crate) fn branch_text(line: &[u8]) -> &[u8]
+    ensures text { result.now ≡ branch_text line.now }
+{
+    words_after(without_spaces(line))
 }

@@ -1,6 +1,6 @@
 //! `Mistake`: the first line that makes a script no plan, and why. `PlanScript::read` looks for one.
 ghost use Rattle.std.specs.Prelude.{◌≡◌, All, MatchOption};
-ghost use Rattle.explore_report.specs.Mistake.{AreFew, EndsWhole, HaveOwnNames, IsAwaiting, IsMisplaced, IsMissing, IsMistake, IsPastLimit, IsPlaced, IsPlan, IsTaken, IsWhole, await_cause, cause_of, client_cause, command_cause, expected_cause, finally_cause, has_client, has_some_client, is_taken};
+ghost use Rattle.explore_report.specs.Mistake.{AreFew, EndsClosed, EndsWhole, HaveOwnNames, IsAwaiting, IsMisplaced, IsMissing, IsMistake, IsOpen, IsPastLimit, IsPlaced, IsPlan, IsTaken, IsWhole, await_cause, cause_of, client_cause, command_cause, end_cause, expected_cause, finally_cause, has_client, has_some_client, if_cause, is_taken};
 
 use crate::cause::{Cause, LAST_CLIENT, PLAN_CLIENTS, PLAN_LINES};
 use crate::context::{Above, Context, Section};
@@ -57,6 +57,8 @@ fn cause_of(context: &Context, mark: &Mark) -> Option<Cause>
         Mark::Client(_) => client_cause(context),
         Mark::Finally => finally_cause(context),
         Mark::Await => await_cause(context),
+        Mark::If => if_cause(context),
+        Mark::End => end_cause(context),
         Mark::Expected | Mark::OrExpected => expected_cause(context),
         Mark::Command(command) => command_cause(context.section, command),
         Mark::Wrong(cause) => Some(*cause),
@@ -68,6 +70,7 @@ fn client_cause(context: &Context) -> Option<Cause>
 {
     match (context.above, context.section) {
         (Above::Await, _) => Some(Cause::AwaitsNothing),
+        _ if context.depth > 0 => Some(Cause::NotEnded),
         (_, Section::Last) => Some(Cause::ClientBelowFinally),
         (_, Section::Client(number)) if number >= LAST_CLIENT => Some(Cause::Clients(PLAN_CLIENTS)),
         _ => None,
@@ -79,6 +82,7 @@ fn finally_cause(context: &Context) -> Option<Cause>
 {
     match (context.above, context.section) {
         (Above::Await, _) => Some(Cause::AwaitsNothing),
+        _ if context.depth > 0 => Some(Cause::NotEnded),
         (_, Section::Last) => Some(Cause::FinallyTwice),
         _ => None,
     }
@@ -91,6 +95,28 @@ fn await_cause(context: &Context) -> Option<Cause>
         (Above::Await, _) => Some(Cause::AwaitsNothing),
         (_, Section::Client(_)) => None,
         _ => Some(Cause::AwaitOutside),
+    }
+}
+
+fn if_cause(context: &Context) -> Option<Cause>
+    ensures cause { result ≡ if_cause context.now }
+{
+    match (context.above, context.section) {
+        (Above::Await, _) => Some(Cause::AwaitsNothing),
+        (Above::Command, Section::Client(_)) => None,
+        (_, Section::Client(_)) => Some(Cause::IfBelowNothing),
+        _ => Some(Cause::BranchOutside),
+    }
+}
+
+fn end_cause(context: &Context) -> Option<Cause>
+    ensures cause { result ≡ end_cause context.now }
+{
+    match (context.above, context.section) {
+        (Above::Await, _) => Some(Cause::AwaitsNothing),
+        (_, Section::Client(_)) if context.depth > 0 => None,
+        (_, Section::Client(_)) => Some(Cause::EndsNothing),
+        _ => Some(Cause::BranchOutside),
     }
 }
 
@@ -175,6 +201,9 @@ fn missing(rows: &[Row], last: usize) -> Option<Mistake>
     if let Some(mistake) = awaiting(rows) {
         return Some(mistake);
     }
+    if let Some(mistake) = unclosed(rows) {
+        return Some(mistake);
+    }
     if has_some_client(rows) {
         return None;
     }
@@ -193,6 +222,20 @@ fn awaiting(rows: &[Row]) -> Option<Mistake>
         return Some(Mistake {
             line: row.number,
             cause: Cause::AwaitsNothing,
+        });
+    }
+    None
+}
+
+/// The last row, if an `#if` is open below it.
+fn unclosed(rows: &[Row]) -> Option<Mistake>
+    ensures found { MatchOption result (EndsClosed rows.now) (IsOpen rows.now) }
+{
+    let last = rows.last()?;
+    if last.depth_below() > 0 {
+        return Some(Mistake {
+            line: last.number,
+            cause: Cause::NotEnded,
         });
     }
     None

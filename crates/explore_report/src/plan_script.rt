@@ -5,6 +5,7 @@ ghost use Rattle.line_core.specs.Script.{lines_of};
 ghost use Rattle.explore_core.specs.Found.{CanBeExplored, IsAll, IsTrue};
 ghost use Rattle.explore_report.specs.Finding.{expectations, expected, expecting, expects};
 ghost use Rattle.explore_report.specs.Making.{section_at};
+ghost use Rattle.explore_report.specs.Plan.{after_notes};
 ghost use Rattle.explore_report.specs.Reading.{IsReading};
 
 use crate::cause::Cause;
@@ -55,7 +56,7 @@ impl<'a> PlanScript<'a> {
         if let Some(mistake) = mistake_of(rows.as_slice(), last) {
             return Ok(Reading::NoPlan(mistake));
         }
-        let plan = plan_of(alloc, rows.as_slice())?;
+        let plan = plan_of(alloc, lines.as_slice(), rows.as_slice())?;
         Ok(Reading::Plan(PlanScript { lines, rows, plan }))
     }
 
@@ -165,6 +166,13 @@ impl<'a> PlanScript<'a> {
         count
     }
 
+    /// Which row is the first command below the row of that index.
+    pub(crate) fn command_below(&self, index: usize) -> Option<usize> {
+        let rows = below(self.rows.as_slice(), index);
+        let place = rows.iter().position(|row| row.is_command())?;
+        Some(place.saturating_add(index).saturating_add(1))
+    }
+
     /// Which row is the command of that place in its section.
     pub(crate) fn row_at(&self, section: Section, place: usize) -> Option<usize> {
         let mut left = place;
@@ -182,7 +190,7 @@ impl<'a> PlanScript<'a> {
 }
 
 /// The rows below the row of that index.
-fn below(rows: &[Row], index: usize) -> &[Row]
+pub(crate) fn below(rows: &[Row], index: usize) -> &[Row]
     ensures below { result.now ≡ drop (index + 1) rows.now }
 {
     if index < rows.len() {
@@ -198,6 +206,14 @@ fn expecting(rows: &[Row]) -> &[Row]
 {
     let count = first_other(rows).unwrap_or(rows.len());
     &rows[..count]
+}
+
+/// The rows from the first on that expects no answer.
+pub(crate) fn after_notes(rows: &[Row]) -> &[Row]
+    ensures rows { result.now ≡ after_notes rows.now }
+{
+    let count = first_other(rows).unwrap_or(rows.len());
+    &rows[count..]
 }
 
 /// The first row that expects no answer.

@@ -3,8 +3,9 @@ ghost use Rattle.std.specs.Prelude.{◌≡◌, ◌+◌, ◌++◌, OnOk, IfOk, So
 ghost use Rattle.explore_report.specs.Cases.{command_rows, index_at};
 ghost use Rattle.explore_report.specs.Context.{after};
 ghost use Rattle.explore_report.specs.Finding.{begins_answer, expects};
-ghost use Rattle.explore_report.specs.Mistake.{is_client_row, is_line};
-ghost use Rattle.explore_report.specs.Rows.{command_in, command_said, context_below, row_if, rows_at, rows_of};
+ghost use Rattle.explore_report.specs.Mistake.{is_client_row, is_line, depth_below};
+ghost use Rattle.explore_report.specs.Plan.{closes};
+ghost use Rattle.explore_report.specs.Rows.{command_in, command_said, context_below, is_if, row_if, rows_at, rows_of};
 
 use crate::context::{Context, Section};
 use crate::mark::{Mark, mark_of};
@@ -56,6 +57,26 @@ impl Row {
         ensures { result ≡ is_client_row self.now }
     {
         matches!(self.mark, Mark::Client(_))
+    }
+
+    /// How many `#if` are open below it.
+    pub(crate) fn depth_below(&self) -> usize
+        ensures { result ≡ depth_below self.now }
+    {
+        self.context.after(&self.mark).depth
+    }
+
+    pub(crate) fn is_if(&self) -> bool
+        ensures { result ≡ is_if self.now.mark }
+    {
+        self.mark.is_if()
+    }
+
+    /// Whether it is an `#end` below which this many `#if` are open.
+    pub(crate) fn closes(&self, depth: usize) -> bool
+        ensures { result ≡ closes depth self.now }
+    {
+        self.mark.is_end() && self.depth_below() == depth
     }
 
     /// Whether it expects a line of an answer.

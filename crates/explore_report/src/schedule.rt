@@ -1,8 +1,7 @@
 //! `Making`: a desk on which the rows of a plan are made in the order of a schedule. Reports and scripts of schedules go by it.
-ghost use Rattle.std.specs.Prelude.{◌≡◌, ◌+◌, ◌++◌, ◌∷◌, [], IfOk, IsTrue, List, OnOk, get_or, replicate, set};
+ghost use Rattle.std.specs.Prelude.{◌≡◌, ◌++◌, ◌∷◌, [], IfOk, List, OnOk, get_or, replicate, set};
 ghost use Rattle.command_core.specs.declared.command.Command.{Command as Made};
-ghost use Rattle.explore_core.specs.Schedule.{Standing};
-ghost use Rattle.explore_core.specs.Search.{IsMade};
+ghost use Rattle.explore_core.specs.Schedule.{Standing, answer_now, place_after};
 ghost use Rattle.explore_report.specs.Making.{HasFollowed, HasMade, command_at, commands_along, fresh, own_command, own_standing, standing_along, standing_past, standing_with};
 
 use crate::context::Section;
@@ -10,8 +9,7 @@ use crate::plan_script::PlanScript;
 use crate::row::push_commands;
 use command_core::{Answer, Command};
 use desk_core::Desk;
-use explore_core::{Step, line_at};
-use point_core::Refusal;
+use explore_core::{Step, line_at, make};
 use std::alloc::{AllocError, Global};
 
 /// The rows of a plan in the order in which a schedule makes them, and the desk that answers them.
@@ -22,7 +20,7 @@ pub(crate) struct Making {
     /// The answers to their commands.
     pub answers: Vec<Answer>,
     pub desk: Desk,
-    /// How many lines each client has made.
+    /// How many lines each client has made or skipped.
     pub made: Vec<usize>,
 }
 
@@ -134,7 +132,7 @@ impl Making {
             return Ok(());
         };
         push_row(plan, client, place, &mut self.rows)?;
-        let next = self.make_line(&step, place)?;
+        let next = self.make_line(step, place)?;
         self.count_to(client, next);
         Ok(())
     }
@@ -143,14 +141,19 @@ impl Making {
     fn make_line(&mut self, step: &Step, place: usize) -> Result<usize, AllocError>
         ensures made { OnOk result ((commands : List Made) (now : Standing) → HasMade commands now self.old →
             HasMade (commands ++ step.now.command ∷ []) (standing_past now (step.now.command ∷ [])) self.new) }
-        ensures next { IfOk result (λ next. next ≡ place + 1) }
+        ensures next { IfOk result (λ next. (commands : List Made) (now : Standing) → HasMade commands now self.old →
+            next ≡ place_after step.now place (answer_now now.history step.now.command)) }
     {
-        let next = next_place(place)?;
-        self.make(step.command)?;
+        let answer = make(&mut self.desk, step.command)?;
+        let Ok(next) = step.place_after(place, &answer) else {
+            drop(answer);
+            return Err(AllocError);
+        };
+        self.answers.push(answer)?;
         Ok(next)
     }
 
-    /// Counts the client's lines as made up to this place.
+    /// Counts the client's lines as made or skipped up to this place.
     fn count_to(&mut self, client: usize, place: usize)
         ensures desk { self.new.desk ≡ self.old.desk }
         ensures answers { self.new.answers ≡ self.old.answers }
@@ -192,27 +195,6 @@ impl Making {
     }
 }
 
-/// Makes the command, and fails if the desk finds no memory for it.
-fn make(desk: &mut Desk, command: Command) -> Result<Answer, AllocError>
-    ensures made { IfOk result (λ given. IsMade desk.old command given desk.new) }
-{
-    let answer = desk.step(command);
-    if is_memory(&answer) {
-        drop(answer);
-        return Err(AllocError);
-    }
-    Ok(answer)
-}
-
-fn is_memory(answer: &Answer) -> bool
-    ensures { answer.now ≡ Answer.Refused Refusal.Memory → IsTrue result }
-{
-    match answer {
-        Answer::Refused(refusal) => *refusal == Refusal::Memory,
-        _ => false,
-    }
-}
-
 /// No lines made, for each client.
 fn clear_made(made: &mut Vec<usize>, clients: usize) -> Result<(), AllocError>
     ensures none { OnOk result (made.new.items ≡ replicate clients 0) }
@@ -224,22 +206,11 @@ fn clear_made(made: &mut Vec<usize>, clients: usize) -> Result<(), AllocError>
     Ok(())
 }
 
-/// How many lines the client has made.
+/// How many lines the client has made or skipped.
 fn place_of(made: &[usize], client: usize) -> usize
     ensures { result ≡ get_or made.now client 0 }
 {
     made.get(client).copied().unwrap_or(0)
-}
-
-/// The place after this one.
-fn next_place(place: usize) -> Result<usize, AllocError>
-    ensures next { IfOk result (λ next. next ≡ place + 1) }
-{
-    let Some(next) = place.checked_add(1) else {
-        // This can't happen: there are fewer lines than a usize counts.
-        return Err(AllocError);
-    };
-    Ok(next)
 }
 
 fn set(made: &mut [usize], client: usize, place: usize)

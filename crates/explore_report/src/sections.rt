@@ -1,23 +1,25 @@
 //! The plan that rows make: the commands of its first section, the lines of each client, and the commands of its last section.
 //! `plan_script.rt` calls it.
-ghost use Rattle.std.specs.Prelude.{◌≡◌, ◌++◌, IfOk, OnOk, Vec, map};
+ghost use Rattle.std.specs.Prelude.{◌≡◌, ◌+◌, ◌++◌, IfOk, OnOk, Vec, count_by, length, map, position};
 ghost use Rattle.std.specs.Global.{Global};
 ghost use Rattle.explore_core.specs.declared.plan.Step.{Step};
-ghost use Rattle.explore_report.specs.Plan.{clients_at, clients_in, commands_at, commands_in, plan_of, steps_at, steps_in, waits};
+ghost use Rattle.explore_report.specs.Mistake.{is_line};
+ghost use Rattle.explore_report.specs.Plan.{branch_below, branch_line, branch_rows, clients_at, clients_in, closes, commands_at, commands_in, plan_of, steps_at, steps_in, text_at, texts_of, waits};
 
 use crate::context::{Above, Section};
-use crate::mark::Mark;
+use crate::mark::{Mark, branch_text};
+use crate::plan_script::{after_notes, below};
 use crate::row::Row;
 use command_core::Command;
-use explore_core::{Plan, Step};
+use explore_core::{Branch, Plan, Step};
 use std::alloc::{AllocError, Global};
 
-/// The plan of the rows.
-pub(crate) fn plan_of(alloc: Global, rows: &[Row]) -> Result<Plan, AllocError>
-    ensures plan { IfOk result (λ plan. plan ≡ plan_of rows.now) }
+/// The plan of the rows, which are of these lines.
+pub(crate) fn plan_of(alloc: Global, lines: &[&[u8]], rows: &[Row]) -> Result<Plan, AllocError>
+    ensures plan { IfOk result (λ plan. plan ≡ plan_of (texts_of lines.now) rows.now) }
 {
     let first = commands_in(alloc, rows, Section::First)?;
-    let clients = clients_of(alloc, rows)?;
+    let clients = clients_of(alloc, lines, rows)?;
     let last = commands_in(alloc, rows, Section::Last)?;
     Ok(Plan {
         first,
@@ -47,49 +49,74 @@ fn push_command(row: &Row, section: Section, commands: &mut Vec<Command>) -> Res
 }
 
 /// The lines of each client, which are in the section that the client's row begins.
-fn clients_of(alloc: Global, rows: &[Row]) -> Result<Vec<Vec<Step>>, AllocError>
-    ensures clients { IfOk result (λ clients. map (λ (steps : Vec Step Global). steps.items) clients.items ≡ clients_in rows.now) }
+fn clients_of(
+    alloc: Global,
+    lines: &[&[u8]],
+    rows: &[Row],
+) -> Result<Vec<Vec<Step>>, AllocError>
+    ensures clients { IfOk result (λ clients. map (λ (steps : Vec Step Global). steps.items) clients.items
+        ≡ clients_in (texts_of lines.now) rows.now) }
 {
     let mut clients = Vec::new(alloc);
     for row in rows {
-        push_client(alloc, rows, row, &mut clients)?;
+        push_client(alloc, lines, rows, row, &mut clients)?;
     }
     Ok(clients)
 }
 
 fn push_client(
     alloc: Global,
+    lines: &[&[u8]],
     rows: &[Row],
     row: &Row,
     clients: &mut Vec<Vec<Step>>,
 ) -> Result<(), AllocError>
     ensures pushed { OnOk result (map (λ (steps : Vec Step Global). steps.items) clients.new.items
-        ≡ map (λ (steps : Vec Step Global). steps.items) clients.old.items ++ clients_at rows.now row.now) }
+        ≡ map (λ (steps : Vec Step Global). steps.items) clients.old.items ++ clients_at (texts_of lines.now) rows.now row.now) }
 {
     if let Mark::Client(_) = row.mark {
         let section = row.context.section.next_client();
-        clients.push(steps_in(alloc, rows, section)?)?;
+        clients.push(steps_in(alloc, lines, rows, section)?)?;
     }
     Ok(())
 }
 
 /// The lines of a section.
-fn steps_in(alloc: Global, rows: &[Row], section: Section) -> Result<Vec<Step>, AllocError>
-    ensures steps { IfOk result (λ steps. steps.items ≡ steps_in section rows.now) }
+fn steps_in(
+    alloc: Global,
+    lines: &[&[u8]],
+    rows: &[Row],
+    section: Section,
+) -> Result<Vec<Step>, AllocError>
+    ensures steps { IfOk result (λ steps. steps.items ≡ steps_in (texts_of lines.now) section rows.now) }
 {
     let mut steps = Vec::new(alloc);
-    for row in rows {
-        push_step(row, section, &mut steps)?;
+    for (index, row) in rows.iter().enumerate() {
+        push_step(alloc, lines, row, below(rows, index), section, &mut steps)?;
     }
     Ok(steps)
 }
 
-fn push_step(row: &Row, section: Section, steps: &mut Vec<Step>) -> Result<(), AllocError>
-    ensures pushed { OnOk result (steps.new.items ≡ steps.old.items ++ steps_at section row.now) }
+/// Appends the line of a row that has these rows below it, if the row is in the section.
+fn push_step(
+    alloc: Global,
+    lines: &[&[u8]],
+    row: &Row,
+    below: &[Row],
+    section: Section,
+    steps: &mut Vec<Step>,
+) -> Result<(), AllocError>
+    ensures pushed { OnOk result (steps.new.items
+        ≡ steps.old.items ++ steps_at (texts_of lines.now) section (length steps.old.items) row.now below.now) }
 {
     if let Some(command) = row.command_in(section) {
         let waits = waits(row.context.above, &command);
-        steps.push(Step { command, waits })?;
+        let branch = branch_below(alloc, lines, steps.len() + 1, below)?;
+        steps.push(Step {
+            command,
+            waits,
+            branch,
+        })?;
     }
     Ok(())
 }
@@ -103,4 +130,75 @@ fn waits(above: Above, command: &Command) -> bool
         (_, Command::Wait(_)) => true,
         _ => false,
     }
+}
+
+/// The branch that begins directly below a line with these rows below it. That many lines of the client are above the branch.
+fn branch_below(
+    alloc: Global,
+    lines: &[&[u8]],
+    above: usize,
+    rows: &[Row],
+) -> Result<Option<Branch>, AllocError>
+    ensures branch { IfOk result (λ branch. branch ≡ branch_below (texts_of lines.now) above rows.now) }
+{
+    let Some((row, below)) = after_notes(rows).split_first() else {
+        return Ok(None);
+    };
+    if !row.is_if() {
+        return Ok(None);
+    }
+    let otherwise = place_behind(above, row.context.depth, below)?;
+    let text = branch_line(alloc, lines, row)?;
+    Ok(Some(Branch { text, otherwise }))
+}
+
+/// The first line of an answer that an `#if` names, with its line feed.
+fn branch_line(alloc: Global, lines: &[&[u8]], row: &Row) -> Result<Vec<u8>, AllocError>
+    ensures line { IfOk result (λ line. line.items ≡ branch_line (texts_of lines.now) row.now) }
+{
+    let mut line = Vec::new(alloc);
+    line.extend_from_slice(branch_text(text_at(lines, row.number)))?;
+    line.push(b'\n')?;
+    Ok(line)
+}
+
+fn text_at<'a>(lines: &[&'a [u8]], number: usize) -> &'a [u8]
+    ensures text { result.now ≡ text_at (texts_of lines.now) number }
+{
+    match lines.get(number.saturating_sub(1)) {
+        Some(line) => line,
+        None => b"",
+    }
+}
+
+/// The place of the client's first line behind a branch that has that many lines of the client above it. The branch has these rows
+/// below its `#if`.
+fn place_behind(above: usize, depth: usize, below: &[Row]) -> Result<usize, AllocError>
+    ensures place { IfOk result (λ place. place ≡ above + count_by is_line (branch_rows depth below.now)) }
+{
+    let Some(place) = above.checked_add(count_lines(branch_rows(depth, below))) else {
+        // This can't happen: there are fewer lines than a usize counts.
+        return Err(AllocError);
+    };
+    Ok(place)
+}
+
+/// The rows up to the `#end` below which that many `#if` are open.
+fn branch_rows(depth: usize, rows: &[Row]) -> &[Row]
+    ensures rows { result.now ≡ branch_rows depth rows.now }
+{
+    let end = end_of(depth, rows).unwrap_or(rows.len());
+    &rows[..end]
+}
+
+fn end_of(depth: usize, rows: &[Row]) -> Option<usize>
+    ensures end { result ≡ position (closes depth) rows.now }
+{
+    rows.iter().position(|row| row.closes(depth))
+}
+
+fn count_lines(rows: &[Row]) -> usize
+    ensures count { result ≡ count_by is_line rows.now }
+{
+    rows.iter().filter(|row| row.is_line()).count()
 }

@@ -1,6 +1,5 @@
 //! A report as text: a line for each finding, as editors read them, and the totals last.
 use crate::case::Case;
-use crate::context::Section;
 use crate::expected::Finding;
 use crate::plan_script::PlanScript;
 use crate::report::Report;
@@ -89,7 +88,8 @@ fn add_head(plan: &PlanScript<'_>, name: &str, index: usize, page: &mut Page) {
     page.text(": ");
 }
 
-/// `    by CLIENT LINE..LINE, ..`: the lines of clients, in the order of making; `    at the beginning` without any.
+/// `    by CLIENT LINE..LINE, ..`: the lines of clients, in the order of making; `    at the beginning` without any. A range has no
+/// lines that a client skipped.
 fn add_making(plan: &PlanScript<'_>, rows: &[usize], page: &mut Page) {
     let mut front = "    by ";
     let mut run: Option<Run> = None;
@@ -98,7 +98,7 @@ fn add_making(plan: &PlanScript<'_>, rows: &[usize], page: &mut Page) {
             continue;
         };
         run = match run {
-            Some(run) if run.client == line.client => Some(Run {
+            Some(run) if run.leads_to(plan, &line) => Some(Run {
                 last: line.last,
                 ..run
             }),
@@ -119,7 +119,7 @@ fn add_making(plan: &PlanScript<'_>, rows: &[usize], page: &mut Page) {
     page.text("\n");
 }
 
-/// Lines of one client that are made one after another, by the numbers of the first and the last.
+/// Lines of one client that follow each other in the plan and are made one after another, by the rows of the first and the last.
 #[derive(Clone, Copy)]
 struct Run {
     client: usize,
@@ -130,23 +130,25 @@ struct Run {
 impl Run {
     /// The line of that row, if it is a client's.
     fn of(plan: &PlanScript<'_>, index: usize) -> Option<Run> {
-        let row = plan.rows.get(index)?;
-        match row.context.section {
-            Section::Client(client) => Some(Run {
-                client,
-                first: row.number,
-                last: row.number,
-            }),
-            Section::First | Section::Last => None,
-        }
+        let client = plan.client_at(index)?;
+        Some(Run {
+            client,
+            first: index,
+            last: index,
+        })
+    }
+
+    /// Whether the line is the client's next one in the plan.
+    fn leads_to(&self, plan: &PlanScript<'_>, line: &Run) -> bool {
+        self.client == line.client && plan.command_below(self.last) == Some(line.first)
     }
 
     fn add(&self, plan: &PlanScript<'_>, front: &str, page: &mut Page) {
         page.text(front);
         page.bytes(plan.client_name(self.client));
-        page.counted(" ", self.first);
+        page.counted(" ", plan.number_of(self.first));
         if self.last != self.first {
-            page.counted("..", self.last);
+            page.counted("..", plan.number_of(self.last));
         }
     }
 }

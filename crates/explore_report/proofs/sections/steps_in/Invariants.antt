@@ -1,6 +1,7 @@
-use Rattle.std.proofs.Common.{◌≡◌, take}
-use Rattle.explore_report.specs.Plan.{steps_in}
+use Rattle.std.proofs.Common.{◌≡◌, ◌++◌, drop, length}
+use Rattle.explore_report.specs.Plan.{steps_from, steps_in, texts_of}
 use Rattle.explore_report.proofs.sections.steps_in.Given as goal
 
-abbrev pub invariant-loop-row : goal.invariant-loop-row
-invariant-loop-row l = l.steps.items ≡ steps_in l.section (take l.row-index l.rows)
+abbrev pub invariant-loop-index : goal.invariant-loop-index
+invariant-loop-index l =
+    l.steps.items ++ steps_from (texts_of l.lines) l.section (length l.steps.items) (drop l.index l.rows) ≡ steps_in (texts_of l.lines) l.section l.rows

@@ -1,0 +1,18 @@
+use Rattle.std.proofs.Common.{◌++◌, ◌∙◌, ap, length}
+use Rattle.explore_report.specs.Plan.{steps_at, texts_of}
+use Rattle.explore_report.proofs.Steps.{steps-end, steps-next}
+use Rattle.explore_report.proofs.sections.steps_in.Goals as goal
+
+pub loop-index-preserved : goal.loop-index-preserved
+loop-index-preserved c =
+    let lines = texts_of c.args.lines.now in
+    let steps = c.loop-index.steps.items in
+    let row = c.index-rows-index.result in
+    steps-next lines c.args.section c.args.rows.now c.loop-index.index row steps c.push_step.new.steps.items _ c.loop-index-test.true c.index-rows-index.is
+    (c.in_ok-push_step.ensures.pushed ∙ ap (λ below. steps ++ steps_at lines c.args.section (length steps) row below) c.below.ensures.below)
+    c.loop-index.invariant
+
+pub returns : goal.returns
+returns c = record {
+  steps = steps-end (texts_of c.args.lines.now) c.args.section c.args.rows.now c.loop-index.index c.loop-index.steps.items _ c.loop-index-test.false c.loop-index.invariant;
+}
