@@ -1,3 +1,4 @@
+mod Asking
 mod Comparing
 mod Counts
 mod Keeping

@@ -1,4 +1,5 @@
 pub mod Answering
+pub mod Asked
 pub mod Check
 pub mod Checked
 pub mod Expected

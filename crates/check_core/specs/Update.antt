@@ -5,6 +5,7 @@ use Rattle.std.specs.Io.KnownBytes.{Appends}
 use Rattle.point_core.specs.Refusal.{refusal_number, refusal_name}
 use Rattle.point_core.specs.declared.refusal.Refusal.{Refusal}
 use Rattle.point_core.specs.declared.refusal.Refusal.TheVariants.{Read as ReadFault}
+use Rattle.check_core.specs.Asked.{asked, asked_by_update}
 use Rattle.check_core.specs.Check.{ChecksScript}
 use Rattle.check_core.specs.Kept.{kept}
 use Rattle.check_core.specs.declared.outcome.Verdict.{Verdict}
@@ -19,14 +20,20 @@ pub record Passes (script : List ℕ) : Type 0 where
   pub checks : ChecksScript script tally
   pub none : tally.differing ≡ 0
 
+-- The text is an update of the script: no answer of it differs from what its notes expect; these expect the answers that the
+-- script expects, or each if it expects nothing; and its other lines are the script's.
+pub record Updates (script text : List ℕ) : Type 0 where
+  pub passes : Passes text
+  pub asked : asked text ≡ asked_by_update script
+  pub kept : kept text ≡ kept script
+
 -- What an update made of a file. `reads` says of bytes that a file has them, and `given` that a file was given them: the script
--- that was read passes; or another text was written that passes and keeps the lines of the script that expect nothing; or the
--- script was read and not updated, or not read.
+-- that was read is its own update; or another text was written that is an update of it; or the script was read and not
+-- updated, or not read.
 abbrev pub IsUpdate : (List ℕ → Type 0) → (List ℕ → Type 0) → Update → Type 0
-IsUpdate reads given Same = (script : List ℕ) × reads script × Passes script
+IsUpdate reads given Same = (script : List ℕ) × reads script × Updates script script
 IsUpdate reads given Written =
-    (script : List ℕ) × (text : List ℕ) × reads script × (text ≢ script)
-    × Passes text × (kept text ≡ kept script) × given text
+    (script : List ℕ) × (text : List ℕ) × reads script × (text ≢ script) × Updates script text × given text
 IsUpdate reads given (Failed refusal) = (refusal ≡ ReadFault) ⊎ ((script : List ℕ) × reads script)
 
 abbrev pub is_failed : Update → Bool

@@ -1,10 +1,10 @@
-//! The lines of a script that an update keeps: all but empty ones and notes that expect a line of an answer. `update.rt` checks
-//! that a rewritten script has them.
-ghost use Rattle.std.specs.Prelude.{◌≡◌, ◌++◌, IfOk, OnOk};
-ghost use Rattle.check_core.specs.Expected.{ended};
-ghost use Rattle.check_core.specs.Kept.{is_passing, kept, kept_line};
+//! The lines of a script that an update keeps: all but notes that expect a line of an answer. `update.rt` checks that a
+//! rewritten script has them.
+ghost use Rattle.std.specs.Prelude.{◌≡◌, ◌∷◌, ◌++◌, flat_map, drop, IfOk, OnOk};
+ghost use Rattle.line_core.specs.Script.{lines_of};
+ghost use Rattle.check_core.specs.Kept.{kept, kept_line};
 
-use crate::expected::expected_text;
+use crate::expected::is_expectation;
 use line_core::first_line;
 use point_core::Refusal;
 use std::alloc::{AllocError, Global};
@@ -17,16 +17,16 @@ pub(crate) fn compare_kept(alloc: Global, script: &[u8], text: &[u8]) -> Result<
 {
     let before = kept(alloc, script)?;
     let after = kept(alloc, text)?;
-    if after.as_slice() == before.as_slice() {
+    if without_first(after.as_slice()) == without_first(before.as_slice()) {
         Ok(())
     } else {
         Err(Refusal::Torn)
     }
 }
 
-/// The lines that are kept, each with a line feed.
+/// The lines that are kept, each behind a line feed.
 fn kept(alloc: Global, script: &[u8]) -> Result<Vec<u8>, AllocError>
-    ensures kept { IfOk result (λ text. text.items ≡ kept script.now) }
+    ensures kept { IfOk result (λ text. text.items ≡ flat_map kept_line (lines_of script.now)) }
 {
     let mut text = Vec::new(alloc);
     push_kept(script, &mut text)?;
@@ -34,7 +34,7 @@ fn kept(alloc: Global, script: &[u8]) -> Result<Vec<u8>, AllocError>
 }
 
 fn push_kept(script: &[u8], text: &mut Vec<u8>) -> Result<(), AllocError>
-    ensures kept { OnOk result (text.new.items ≡ text.old.items ++ kept script.now) }
+    ensures kept { OnOk result (text.new.items ≡ text.old.items ++ flat_map kept_line (lines_of script.now)) }
 {
     let mut rest = script;
     while let Some((line, more)) = first_line(rest) {
@@ -48,24 +48,27 @@ fn push_kept(script: &[u8], text: &mut Vec<u8>) -> Result<(), AllocError>
 fn push_line(line: &[u8], text: &mut Vec<u8>) -> Result<(), AllocError>
     ensures kept { OnOk result (text.new.items ≡ text.old.items ++ kept_line line.now) }
 {
-    if is_passing(line) {
+    if is_expectation(line) {
         return Ok(());
     }
-    push_ended(line, text)?;
+    push_begun(line, text)?;
     Ok(())
 }
 
-/// Whether the line says nothing, or what is expected of an answer.
-fn is_passing(line: &[u8]) -> bool
-    ensures { result ≡ is_passing line.now }
+fn push_begun(line: &[u8], text: &mut Vec<u8>) -> Result<(), AllocError>
+    ensures begun { OnOk result (text.new.items ≡ text.old.items ++ 10 ∷ line.now) }
 {
-    line.is_empty() || expected_text(line).is_some()
-}
-
-fn push_ended(line: &[u8], text: &mut Vec<u8>) -> Result<(), AllocError>
-    ensures ended { OnOk result (text.new.items ≡ text.old.items ++ ended line.now) }
-{
-    text.extend_from_slice(line)?;
     text.extend_from_slice(b"\n")?;
+    text.extend_from_slice(line)?;
     Ok(())
+}
+
+/// The text without its first byte: no line feed is before the first line of a script.
+fn without_first(text: &[u8]) -> &[u8]
+    ensures { result.now ≡ drop 1 text.now }
+{
+    match text.split_first() {
+        Some((_, rest)) => rest,
+        None => text,
+    }
 }

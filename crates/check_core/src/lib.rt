@@ -3,6 +3,7 @@
 //! What a note expects, and when an answer is as expected, is defined by functions of the bytes (`specs/`).
 #![tactic(auto)]
 
+mod asked;
 mod checker;
 mod expected;
 mod finding;

@@ -1,10 +1,12 @@
 //! Rewrites a script so that it expects its answers, and checks the result before it is returned: so a returned script
-//! passes and keeps the other lines of the script, whatever `Rewriter` does.
+//! passes, expects the answers that it should, and keeps the other lines of the script, whatever `Rewriter` does.
 ghost use Rattle.std.specs.Prelude.{◌≡◌, IfOk, OnOk};
+ghost use Rattle.check_core.specs.Asked.{asked, asked_by_update, expects};
 ghost use Rattle.check_core.specs.Kept.{kept};
-ghost use Rattle.check_core.specs.Update.{Passes};
+ghost use Rattle.check_core.specs.Update.{Passes, Updates};
 
-use crate::expected::expected_text;
+use crate::asked::compare_asked;
+use crate::expected::is_expectation;
 use crate::form::{CheckForm, CheckPlace};
 use crate::kept::compare_kept;
 use crate::reading::check;
@@ -19,10 +21,9 @@ use std::alloc::{AllocError, Global};
 /// The new script is checked before it is returned.
 ///
 /// Fails with `Limit` if the script or the new one has more than `SCRIPT_BYTES` bytes, with `Memory` if memory was refused,
-/// also to a command, and with `Torn` if an answer of the new script differs or another line was changed, which none is.
+/// also to a command, and with `Torn` if the new script is no update of the script, which would be an error in `Rewriter`.
 pub fn updated(alloc: Global, script: &[u8]) -> Result<Vec<u8>, Refusal>
-    ensures passes { IfOk result (λ text. Passes text.items) }
-    ensures kept { IfOk result (λ text. kept text.items ≡ kept script.now) }
+    ensures updates { IfOk result (λ text. Updates script.now text.items) }
 {
     if script.len() > SCRIPT_BYTES {
         return Err(Refusal::Limit(LimitKind::Script));
@@ -37,13 +38,16 @@ pub fn updated(alloc: Global, script: &[u8]) -> Result<Vec<u8>, Refusal>
 }
 
 fn rewrite(alloc: Global, script: &[u8], text: &mut ScriptText) -> Result<(), Refusal>
+    ensures asked { OnOk result (asked text.new.bytes.items ≡ asked_by_update script.now) }
     ensures kept { OnOk result (kept text.new.bytes.items ≡ kept script.now) }
 {
-    let mut rewriter = Rewriter::new(alloc, !expects(script));
+    let fills = !expects(script);
+    let mut rewriter = Rewriter::new(alloc, fills);
     let rewritten = rewrite_lines(&mut rewriter, script, text);
     // For the proof: what a call drops is taken apart once, and not here.
     drop(rewriter);
     rewritten?;
+    compare_asked(alloc, script, fills, text.bytes.as_slice())?;
     compare_kept(alloc, script, text.bytes.as_slice())
 }
 
@@ -70,19 +74,18 @@ fn rewrite_lines(
     Ok(())
 }
 
-/// Whether a line expects one of an answer.
-fn expects(script: &[u8]) -> bool {
+/// Whether a note of the script expects a line.
+fn expects(script: &[u8]) -> bool
+    ensures { result ≡ expects script.now }
+{
     let mut rest = script;
-    for _ in 0..script.len() {
-        let Some((line, more)) = first_line(rest) else {
-            break;
-        };
-        if expected_text(line).is_some() {
+    while let Some((line, more)) = first_line(rest) {
+        if is_expectation(line) {
             return true;
         }
         rest = more;
     }
-    expected_text(rest).is_some()
+    is_expectation(rest)
 }
 
 /// How many answers of the script differ.

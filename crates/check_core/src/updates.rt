@@ -5,8 +5,7 @@ ghost use Rattle.std.specs.List.{list_any};
 ghost use Rattle.line_core.specs.declared.script.TheConstants.{SCRIPT_BYTES};
 ghost use Rattle.point_core.specs.declared.refusal.Refusal.TheVariants.{Write as WriteFault, Memory};
 ghost use Rattle.source_core.specs.FileBytes.{HasFront, WasGiven};
-ghost use Rattle.check_core.specs.Kept.{kept};
-ghost use Rattle.check_core.specs.Update.{HasReported, IsUpdate, Passes, failure_text, is_failed, one_if_written, update_text, updates_text, update_totals, verdict_of_updates, written_count};
+ghost use Rattle.check_core.specs.Update.{HasReported, IsUpdate, Updates, failure_text, is_failed, one_if_written, update_text, updates_text, update_totals, verdict_of_updates, written_count};
 
 use crate::outcome::Verdict;
 use crate::update::updated;
@@ -100,7 +99,7 @@ fn rewrite_file<R: Files + Eprint + AllocGlobal>(
     }
 }
 
-/// Replaces the script by a text that passes and keeps its other lines.
+/// Replaces the script by its update.
 fn put_text<R: Files + Eprint + AllocGlobal>(
     rt: &R,
     name: &str,
@@ -108,8 +107,7 @@ fn put_text<R: Files + Eprint + AllocGlobal>(
     text: &[u8],
 ) -> Update
     requires front { HasFront R.File.remaining (SCRIPT_BYTES + 1) script.now }
-    requires passes { Passes text.now }
-    requires kept { kept text.now ≡ kept script.now }
+    requires updates { Updates script.now text.now }
     ensures update { IsUpdate (HasFront R.File.remaining (SCRIPT_BYTES + 1)) (WasGiven R.File.contents) result }
 {
     if text == script {
