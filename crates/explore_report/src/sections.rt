@@ -49,11 +49,7 @@ fn push_command(row: &Row, section: Section, commands: &mut Vec<Command>) -> Res
 }
 
 /// The lines of each client, which are in the section that the client's row begins.
-fn clients_of(
-    alloc: Global,
-    lines: &[&[u8]],
-    rows: &[Row],
-) -> Result<Vec<Vec<Step>>, AllocError>
+fn clients_of(alloc: Global, lines: &[&[u8]], rows: &[Row]) -> Result<Vec<Vec<Step>>, AllocError>
     ensures clients { IfOk result (λ clients. map (λ (steps : Vec Step Global). steps.items) clients.items
         ≡ clients_in (texts_of lines.now) rows.now) }
 {

@@ -24,12 +24,7 @@ pub(crate) fn script_of(
 }
 
 /// Whether the report shows a schedule of that number.
-fn add_script(
-    report: &Report<'_>,
-    number: usize,
-    making: &mut Making,
-    page: &mut Page,
-) -> bool {
+fn add_script(report: &Report<'_>, number: usize, making: &mut Making, page: &mut Page) -> bool {
     match &report.found.stuck {
         Some(schedule) if number == 1 => {
             add_stuck(report, schedule.as_slice(), making, page);
@@ -53,12 +48,7 @@ fn add_stuck(report: &Report<'_>, schedule: &[usize], making: &mut Making, page:
 }
 
 /// The schedule of an answer that is wrong.
-fn add_finding(
-    report: &Report<'_>,
-    number: usize,
-    making: &mut Making,
-    page: &mut Page,
-) -> bool {
+fn add_finding(report: &Report<'_>, number: usize, making: &mut Making, page: &mut Page) -> bool {
     let mut reached = report.stuck();
     for case in report.cases.as_slice() {
         if case.finding.is_none() {

@@ -1,4 +1,4 @@
-use Rattle.std.proofs.Common.{◌++◌, sym, subst, take}
+use Rattle.std.proofs.Common.{◌++◌, subst, take}
 use Rattle.std.proofs.lemmas.List.{take_all}
 use Rattle.explore_report.specs.Making.{HasMade, standing_past}
 use Rattle.explore_report.proofs.Scheduled.{past-next, past-none}

@@ -1,4 +1,4 @@
-use Rattle.std.proofs.Common.{sym, ap, subst, ◌++◌, append-nil}
+use Rattle.std.proofs.Common.{sym, subst, ◌++◌}
 use Rattle.std.proofs.lemmas.Result.{on_ok_weaker}
 use Rattle.explore_report.specs.Making.{HasMade, own_command, own_standing}
 use Rattle.explore_report.proofs.Scheduled.{own-none}
