@@ -1,6 +1,7 @@
 mod Active
 mod Edges
 mod Entering
+mod Lanes
 mod Lines
 mod Picturing
 mod Showing

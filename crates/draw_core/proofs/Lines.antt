@@ -1,11 +1,12 @@
 -- The lines of a script rise, and the histories between them.
-use Rattle.std.proofs.Common.{◌≡◌, ℕ, zero, suc, ◌+◌, ◌<◌, ◌≤◌, Bool, true, false, nat_le, nat_lt, refl, sym, ap, subst, ◌∙◌, cond, List, [], ◌∷◌, ◌++◌, length, map, get_or, take, filter, All, arith}
+use Rattle.std.proofs.Common.{◌≡◌, ℕ, zero, suc, ◌+◌, ◌<◌, ◌≤◌, Bool, true, false, nat_le, nat_lt, refl, sym, ap, subst, ◌∙◌, cond, List, [], ◌∷◌, ◌++◌, length, map, get_or, take, filter, All, append_assoc, arith}
 use Rattle.std.specs.Prelude.{if◌then◌else◌}
 use Rattle.std.proofs.lemmas.Bool.{le-leb, lt-leb, leb-true, lt-ltb, le-ltb, and_left}
 use Rattle.std.proofs.lemmas.List.{append-nil, map-append, length-map, get_or_append_left, get_or_push, length_push, take_more}
 use Rattle.std.proofs.lemmas.List.Elements.{All-nil, All-cons, All-head, All-tail, All-weaker, All-map, filter-append, All-filter, filter_passes}
 use Rattle.command_core.specs.declared.command.Command.{Command}
 use Rattle.command_core.specs.declared.answer.Answer.{Answer}
+use Rattle.desk_core.specs.theorem.Answer.{is_refused}
 use Rattle.line_core.specs.declared.line.Body.{Body}
 use Rattle.line_core.specs.declared.line.Line.{Line}
 use Rattle.line_core.specs.declared.script.Ending.{Ending}
@@ -18,7 +19,7 @@ use Rattle.script_core.specs.Answering.{history_along}
 use Rattle.draw_core.specs.declared.window.Window.{Window}
 use Rattle.picture_core.specs.declared.history.Column.{Column}
 use Rattle.draw_core.specs.Columns.{is_in_window, drawn_lines, lines_drawn}
-use Rattle.draw_core.specs.Shown.{AreRising, lines_run, history_before, line_after}
+use Rattle.draw_core.specs.Shown.{AreRising, lines_run, history_before, line_after, refusals_drawn}
 
 abbrev pub IsBelow : ℕ → Line → Type 0
 IsBelow number l = l.number < number
@@ -105,6 +106,25 @@ drawn_lines-early window number (l ∷ done) first all =
     let low = All-head (IsBelow number) l done all in
     early_if (is_in_window window l.number) l.number (drawn_lines window done) (and_left (nat_le window.first l.number) (nat_le l.number window.last) (lt-leb window.first l.number (omega arith)))
     ∙ drawn_lines-early window number done first (All-tail (IsBelow number) l done all)
+
+-- the marks of the lines that are drawn, with another line
+
+refusals_if : (window : Window) (history : List Command) (ls : List Line) (given : List Answer) (l : Line) (a : Answer) (b : Bool) → is_in_window window l.number ≡ b → AreLineAnswers history ls given
+    → refusals_drawn window (ls ++ l ∷ []) (given ++ a ∷ []) ≡ refusals_drawn window ls given ++ (if b then is_refused a ∷ [] else [])
+refusals_if window history [] [] l a b is answers = append-nil (if is_in_window window l.number then is_refused a ∷ [] else []) ∙ ap (λ c. if c then is_refused a ∷ [] else []) is
+refusals_if window history [] (g ∷ given) l a b is answers = absurd answers
+refusals_if window history (m ∷ ls) [] l a b is answers = absurd answers
+refusals_if window history (m ∷ ls) (g ∷ given) l a b is answers =
+    ap (λ (bs : List Bool). (if is_in_window window m.number then is_refused g ∷ [] else []) ++ bs) (refusals_if window (history_after_line history m.body g) ls given l a b is answers.1)
+    ∙ sym (append_assoc (if is_in_window window m.number then is_refused g ∷ [] else []) (refusals_drawn window ls given) (if b then is_refused a ∷ [] else []))
+
+pub refusals_drawn-in : (window : Window) (history : List Command) (ls : List Line) (given : List Answer) (l : Line) (a : Answer) → is_in_window window l.number ≡ true → AreLineAnswers history ls given
+    → refusals_drawn window (ls ++ l ∷ []) (given ++ a ∷ []) ≡ refusals_drawn window ls given ++ is_refused a ∷ []
+refusals_drawn-in window history ls given l a is answers = refusals_if window history ls given l a true is answers
+
+pub refusals_drawn-out : (window : Window) (history : List Command) (ls : List Line) (given : List Answer) (l : Line) (a : Answer) → is_in_window window l.number ≡ false → AreLineAnswers history ls given
+    → refusals_drawn window (ls ++ l ∷ []) (given ++ a ∷ []) ≡ refusals_drawn window ls given
+refusals_drawn-out window history ls given l a is answers = refusals_if window history ls given l a false is answers ∙ append-nil (refusals_drawn window ls given)
 
 -- histories, with another line
 

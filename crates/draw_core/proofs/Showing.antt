@@ -24,12 +24,12 @@ use Rattle.picture_core.specs.declared.history.BarWait.{BarWait}
 use Rattle.picture_core.specs.declared.history.Column.{Column}
 use Rattle.picture_core.specs.Bars.{bars_after}
 use Rattle.draw_core.specs.declared.window.Window.{Window}
-use Rattle.draw_core.specs.Columns.{is_in_window, drawn_lines, lines_drawn}
+use Rattle.draw_core.specs.Columns.{is_in_window, drawn_lines, lines_drawn, marks_of}
 use Rattle.draw_core.specs.Drawn.{AreAsked}
 use Rattle.draw_core.specs.Beside.{all_waits}
-use Rattle.draw_core.specs.Shown.{IsShown, IsWaitIn, ShowFiles, ShowsRun, history_before, last_world, line_after, lines_run, names_there, world_shown}
+use Rattle.draw_core.specs.Shown.{IsShown, IsWaitIn, ShowFiles, ShowsRun, history_before, last_world, line_after, lines_run, names_there, refusals_drawn, world_shown}
 use Rattle.draw_core.specs.Progress.{AreAskedFirst, AreBarsOf, HasDrawn, bars_after_line}
-use Rattle.draw_core.proofs.Lines.{IsBelow, below-run, below-drawn, drawn_lines-early, drawn_lines-in, drawn_lines-out, history_before-all, history_before-earlier, length-drawn, line_after-earlier, line_after-low, line_after-new, lines_run-past, lines_run-push}
+use Rattle.draw_core.proofs.Lines.{IsBelow, below-run, below-drawn, drawn_lines-early, drawn_lines-in, drawn_lines-out, history_before-all, history_before-earlier, length-drawn, line_after-earlier, line_after-low, line_after-new, lines_run-past, lines_run-push, refusals_drawn-in, refusals_drawn-out}
 use Rattle.draw_core.proofs.Entering.{AreBarsOf-asked, AreBarsOf-entered, AreBarsOf-later, IsCarried, IsCarried-entered, IsCarried-shown, IsCarried-unsettled, IsShown-asked, IsShown-asked_earlier, IsShown-entered, names-asked, names-entered_earlier, unsettled-entered}
 
 -- the effect of a line
@@ -112,6 +112,7 @@ HasDrawn-none window desk stands = record {
   stands = stands;
   refusals = refl;
   lines = refl;
+  marks = refl;
   kept = record { past = λ k d low. absurd (omega arith); kept = λ k d low. absurd (omega arith); names = refl };
   early = λ _ k d low. absurd (omega arith);
   unasked = λ _ k d low. absurd (omega arith);
@@ -130,6 +131,7 @@ HasDrawn-past window done desk columns bars refused l past h =
       stands = rw same h.stands;
       refusals = h.refusals;
       lines = h.lines ∙ sym (drawn_lines-out window done l out);
+      marks = rw same h.marks;
       kept = rw same h.kept;
       early = rw same h.early;
       unasked = h.unasked;
@@ -167,13 +169,15 @@ module _ (window : Window) (done : List Line) (desk later : DeskState) (columns 
   pub HasDrawn-undrawn : All (IsBelow l.number) done → l.number < window.first → HasDrawn window (done ++ l ∷ []) later columns (bars_after_line 0 l.body given bars) (is_refused given || refused)
   HasDrawn-undrawn below first =
       let none : length columns ≡ 0 = sym (length-map columns (λ (c : Column). c.line)) ∙ ap length (h.lines ∙ drawn_lines-early window l.number done first below) in
+      let out = and_left (nat_le window.first l.number) (nat_le l.number window.last) (lt-leb window.first l.number first) in
       let did = keeps 0 bars desk h.stands (subst (λ n. AreBarsOf (world_of now) n bars) none h.kept) in
       record {
         given = h.given ++ given ∷ [];
         answers = answers';
         stands = stands';
         refusals = any-push given refused h.given h.refusals;
-        lines = h.lines ∙ sym (drawn_lines-out window done l (and_left (nat_le window.first l.number) (nat_le l.number window.last) (lt-leb window.first l.number first)));
+        lines = h.lines ∙ sym (drawn_lines-out window done l out);
+        marks = h.marks ∙ sym (ap (λ ls. refusals_drawn window ls (h.given ++ given ∷ [])) pushed ∙ refusals_drawn-out window [] (lines_run window done) h.given l given out h.answers);
         kept = rw (along, none) did.0;
         early = λ _. rw pushed (All-push (IsBelow window.first) (lines_run window done) l (h.early none) first);
         unasked = λ _. did.1.1.0 (h.unasked none);
@@ -188,6 +192,7 @@ pub record HasShown (window : Window) (done : List Line) (desk : DeskState) (col
   pub stands : HasHistory desk (history_along [] (lines_run window done) given)
   pub refusals : refused ≡ list_any is_refused given
   pub lines : lines_drawn columns ≡ drawn_lines window done
+  pub marks : marks_of columns ≡ refusals_drawn window (lines_run window done) given
   pub kept : AreBarsOf (last_world window done given) (length columns) bars
   pub last : world_shown window done given columns (length columns) ≡ last_world window done given
   pub shown : (column : ℕ) → column ≤ length columns → ShowFiles (world_shown window done given columns column) column bars
@@ -214,6 +219,7 @@ HasShown-none window done desk columns bars asked refused none by h =
       stands = h.stands;
       refusals = h.refusals;
       lines = h.lines;
+      marks = h.marks;
       kept = rw none kept';
       last = rw none (ap world_of last);
       shown = only_zero window done h.given columns asked none (rw last (record { names = kept'.names; each = each }));
@@ -224,7 +230,7 @@ HasShown-asked window done desk columns bars asked refused first h = elim (zero_
   | inl none ↦ HasShown-none window done desk columns bars asked refused none (first.none none) h
   | inr some ↦
       let same = first.some some in
-      rw same (record { given = h.given; answers = h.answers; stands = h.stands; refusals = h.refusals; lines = h.lines; kept = h.kept; last = h.last some; shown = h.shown some })
+      rw same (record { given = h.given; answers = h.answers; stands = h.stands; refusals = h.refusals; lines = h.lines; marks = h.marks; kept = h.kept; last = h.last some; shown = h.shown some })
 ]
 
 -- another column
@@ -239,6 +245,7 @@ module _ (window : Window) (done : List Line) (desk later : DeskState) (old new 
     (reported : (history : List Command) → HasHistory desk history → IsLineAnswer history l.body given)
     (stands : (history : List Command) → HasHistory desk history → HasHistory later (history_after_line history l.body given))
     (lines : lines_drawn new ≡ lines_drawn old ++ l.number ∷ [])
+    (marks : marks_of new ≡ marks_of old ++ is_refused given ∷ [])
     (by : AreAsked later (length old + 1) (bars_after_line (length old + 1) l.body given bars) asked)
     (h : HasShown window done desk old bars refused) where
   abbrev here : List Command
@@ -335,6 +342,8 @@ module _ (window : Window) (done : List Line) (desk later : DeskState) (old new 
     stands = rw all_along now_stands;
     refusals = any-push given refused h.given h.refusals;
     lines = lines ∙ ap (λ ns. ns ++ l.number ∷ []) h.lines ∙ sym (drawn_lines-in window done l in');
+    marks = marks ∙ ap (λ bs. bs ++ is_refused given ∷ []) h.marks
+        ∙ sym (ap (λ ls. refusals_drawn window ls (h.given ++ given ∷ [])) more ∙ refusals_drawn-in window [] (lines_run window done) h.given l given in' h.answers);
     kept = rw (all_along, long) kept';
     early = λ none. absurd (omega (arith, long));
     unasked = λ none. absurd (omega (arith, long));
@@ -346,4 +355,4 @@ module _ (window : Window) (done : List Line) (desk later : DeskState) (old new 
 pub ShowsRun-shown : (window : Window) (lines : List Line) (desk : DeskState) (columns : List Column) (bars : List Bar) (waits : List BarWait) (refused : Bool) → (h : HasShown window lines desk columns bars refused) → All (IsWaitIn (last_world window lines h.given) bars) waits
     → waits ≡ all_waits (last_world window lines h.given) bars → ShowsRun window lines columns bars waits refused
 ShowsRun-shown window lines desk columns bars waits refused h all told =
-    record { given = h.given; answers = h.answers; files = h.shown; refusals = h.refusals; waited = all; told = told }
+    record { given = h.given; answers = h.answers; files = h.shown; refusals = h.refusals; marks = h.marks; waited = all; told = told }

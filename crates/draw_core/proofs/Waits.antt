@@ -176,9 +176,9 @@ pub on_ok : {T E : Type 0} (r : Result T E) (P Q : Type 0) → OnOk r P → (P �
 on_ok (Ok x) P Q p f = f p
 on_ok (Err e) P Q p f = tt
 
-pub on_both : {T E : Type 0} (r : Result T E) (P P' Q : Type 0) → OnOk r P → OnOk r P' → (P → P' → Q) → OnOk r Q
-on_both (Ok x) P P' Q p q f = f p q
-on_both (Err e) P P' Q p q f = tt
+pub on_three : {T E : Type 0} (r : Result T E) (P P' P'' Q : Type 0) → OnOk r P → OnOk r P' → OnOk r P'' → (P → P' → P'' → Q) → OnOk r Q
+on_three (Ok x) P P' P'' Q p q s f = f p q s
+on_three (Err e) P P' P'' Q p q s f = tt
 
 pub none_of : {X : Type 0} (o : Option X) → is_some o ≡ false → o ≡ None
 none_of None is = refl

@@ -16,6 +16,10 @@ drawn_lines window lines = filter (is_in_window window) (map (λ (l : Line). l.n
 abbrev pub lines_drawn : List Column → List ℕ
 lines_drawn columns = map (λ (c : Column). c.line) columns
 
+-- whether each column is marked as refused
+abbrev pub marks_of : List Column → List Bool
+marks_of columns = map (λ (c : Column). c.refused) columns
+
 -- the number that decimal digits spell, after a plus or not
 abbrev pub spelled : List ℕ → ℕ
 spelled digits = digits_value 10 (without_leading_plus digits)

@@ -1,6 +1,7 @@
 pub mod Beside
 pub mod Columns
 pub mod Drawn
+pub mod Entered
 pub mod Found
 pub mod Pictured
 pub mod Progress

@@ -18,9 +18,9 @@ use Rattle.picture_core.specs.declared.bar.Bar.{Bar}
 use Rattle.picture_core.specs.declared.history.BarWait.{BarWait}
 use Rattle.picture_core.specs.declared.history.Column.{Column}
 use Rattle.draw_core.specs.declared.window.Window.{Window}
-use Rattle.draw_core.specs.Columns.{drawn_lines, lines_drawn}
+use Rattle.draw_core.specs.Columns.{drawn_lines, lines_drawn, marks_of}
 use Rattle.draw_core.specs.Drawn.{AreAsked, IsSettledBy, IsWaitingFor}
-use Rattle.draw_core.specs.Shown.{ShowFiles, file_names, last_world, lines_run, names_there, world_shown}
+use Rattle.draw_core.specs.Shown.{ShowFiles, file_names, last_world, lines_run, names_there, refusals_drawn, world_shown}
 
 -- the bars after a line with this answer
 abbrev pub bars_after_line : ℕ → Body → Answer → List Bar → List Bar
@@ -57,6 +57,7 @@ pub record HasDrawn (window : Window) (done : List Line) (desk : DeskState) (col
   pub stands : HasHistory desk (history_along [] (lines_run window done) given)
   pub refusals : refused ≡ list_any is_refused given
   pub lines : lines_drawn columns ≡ drawn_lines window done
+  pub marks : marks_of columns ≡ refusals_drawn window (lines_run window done) given
   pub kept : AreBarsOf (last_world window done given) (length columns) bars
   pub early : length columns ≡ 0 → All (λ (l : Line). l.number < window.first) (lines_run window done)
   pub unasked : length columns ≡ 0 → All (λ (b : Bar). b.settled ≡ None) bars

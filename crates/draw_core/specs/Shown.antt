@@ -1,6 +1,6 @@
 -- What a picture shows of a run: in each column the files of the history so far, and at the end the points for which
 -- they wait.
-use Rattle.std.specs.Prelude.{◌≡◌, ◌<◌, ◌≤◌, ◌-◌, ◌+◌, ℕ, Bool, zero, suc, nat_le, nat_lt, true, if◌then◌else◌, List, [], ◌∷◌, All, Contains, filter, map, length, get_or, Option, None, Some, option_map, ⊤}
+use Rattle.std.specs.Prelude.{◌≡◌, ◌<◌, ◌≤◌, ◌-◌, ◌+◌, ℕ, Bool, zero, suc, nat_le, nat_lt, true, if◌then◌else◌, List, [], ◌∷◌, ◌++◌, All, Contains, filter, map, length, get_or, Option, None, Some, option_map, ⊤}
 use Rattle.std.specs.List.{list_any}
 use Rattle.point_core.specs.declared.entry.Point.{Point}
 use Rattle.point_core.specs.declared.status.Status.{Status}
@@ -22,7 +22,7 @@ use Rattle.picture_core.specs.declared.history.BarWait.{BarWait}
 use Rattle.picture_core.specs.declared.history.Column.{Column}
 use Rattle.picture_core.specs.declared.graph.Waiting.{Waiting}
 use Rattle.draw_core.specs.Beside.{all_waits}
-use Rattle.draw_core.specs.Columns.{lines_drawn}
+use Rattle.draw_core.specs.Columns.{is_in_window, lines_drawn, marks_of}
 
 -- line numbers rise, and the first is at least this one
 abbrev pub AreRising : ℕ → List Line → Type 0
@@ -39,6 +39,13 @@ history_before number history [] given = history
 history_before number history (l ∷ ls) [] = history
 history_before number history (l ∷ ls) (a ∷ rest) =
     if nat_lt l.number number then history_before number (history_after_line history l.body a) ls rest else history
+
+-- whether each line that is drawn was refused
+abbrev pub refusals_drawn : Window → List Line → List Answer → List Bool
+refusals_drawn window [] given = []
+refusals_drawn window (l ∷ ls) [] = []
+refusals_drawn window (l ∷ ls) (a ∷ rest) =
+    (if is_in_window window l.number then is_refused a ∷ [] else []) ++ refusals_drawn window ls rest
 
 -- the line before which a column ends: column 0 ends before the window, and any other with its own line
 abbrev pub line_after : Window → List Column → ℕ → ℕ
@@ -95,13 +102,14 @@ pub record IsWaitIn (w : World) (bars : List Bar) (wait : BarWait) : Type 0 wher
   pub waits : IsPending w.timelines point wait.waiting
 
 -- A picture shows the run of the lines: they have answers so that each column shows the files of the history up to its
--- line, and the texts at the end give the distance of each point for which a file waits after the last line that was run.
--- The history also says whether one of these lines was refused.
+-- line and is marked if that line was refused, and the texts at the end give the distance of each point for which a file
+-- waits after the last line that was run. The history also says whether one of these lines was refused.
 pub record ShowsRun (window : Window) (lines : List Line) (columns : List Column) (bars : List Bar)
     (waits : List BarWait) (refused : Bool) : Type 0 where
   pub given : List Answer
   pub answers : AreLineAnswers [] (lines_run window lines) given
   pub files : (column : ℕ) → column ≤ length columns → ShowFiles (world_shown window lines given columns column) column bars
+  pub marks : marks_of columns ≡ refusals_drawn window (lines_run window lines) given
   pub waited : All (IsWaitIn (last_world window lines given) bars) waits
   pub refusals : refused ≡ list_any is_refused given
   pub told : waits ≡ all_waits (last_world window lines given) bars

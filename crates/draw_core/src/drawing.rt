@@ -1,5 +1,6 @@
 //! `Drawing`: a recorded run and its picture. `fencectl draw` writes it as SVG.
-ghost use Rattle.std.specs.Prelude.{◌≡◌, IfOk};
+ghost use Rattle.std.specs.Prelude.{◌≡◌, IfErr, IfOk};
+ghost use Rattle.point_core.specs.declared.refusal.Refusal.TheVariants.{Memory};
 ghost use Rattle.line_core.specs.Script.{script_of};
 ghost use Rattle.draw_core.specs.Pictured.{ShowsScript};
 ghost use Rattle.draw_core.specs.Refused.{HasRefused, drawing_refused};
@@ -47,7 +48,9 @@ impl Drawing {
     /// The picture as a complete SVG document.
     ///
     /// Fails only with `Memory`.
-    pub fn svg(&self, alloc: Global) -> Result<Vec<u8>, Refusal> {
+    pub fn svg(&self, alloc: Global) -> Result<Vec<u8>, Refusal>
+        ensures memory { IfErr result (λ e. e ≡ Memory) }
+    {
         svg_text(alloc, &self.picture, self.run.history())
     }
 }

@@ -1,5 +1,6 @@
 //! Builds the graph of waiters from a desk's report.
-ghost use Rattle.std.specs.Prelude.{◌≡◌, ◌++◌, OnOk};
+ghost use Rattle.std.specs.Prelude.{◌≡◌, ◌++◌, IfErr, OnOk};
+ghost use Rattle.point_core.specs.declared.refusal.Refusal.TheVariants.{Memory};
 ghost use Rattle.draw_core.specs.Found.{buffers_edges, edges_by, edges_of, file_edges, files_edges};
 ghost use Rattle.draw_core.specs.Waiting.{buffer_edges, watch_edges, watches_edges};
 
@@ -18,6 +19,7 @@ pub(crate) fn enter_all(
     report: &Report,
     watches: &[WatchLane],
 ) -> Result<(), Refusal>
+    ensures memory { IfErr result (λ e. e ≡ Memory) }
     ensures edges { OnOk result (graph.new.edges.items
         ≡ graph.old.edges.items ++ edges_by desk.now report.now watches.now) }
 {
@@ -28,6 +30,7 @@ pub(crate) fn enter_all(
 }
 
 fn enter_timelines(graph: &mut Graph, timelines: &[TimelineRow]) -> Result<(), Refusal>
+    ensures memory { IfErr result (λ e. e ≡ Memory) }
     ensures edges { graph.new.edges ≡ graph.old.edges }
 {
     for timeline in timelines {
@@ -37,6 +40,7 @@ fn enter_timelines(graph: &mut Graph, timelines: &[TimelineRow]) -> Result<(), R
 }
 
 fn enter_files(graph: &mut Graph, desk: &Desk, files: &[FileRow]) -> Result<(), Refusal>
+    ensures memory { IfErr result (λ e. e ≡ Memory) }
     ensures edges { OnOk result (graph.new.edges.items ≡ graph.old.edges.items ++ files_edges desk.now files.now) }
 {
     for file in files {
@@ -46,6 +50,7 @@ fn enter_files(graph: &mut Graph, desk: &Desk, files: &[FileRow]) -> Result<(), 
 }
 
 fn enter_buffers(graph: &mut Graph, desk: &Desk, buffers: &[BufferRows]) -> Result<(), Refusal>
+    ensures memory { IfErr result (λ e. e ≡ Memory) }
     ensures edges { OnOk result (graph.new.edges.items
         ≡ graph.old.edges.items ++ buffers_edges desk.now.timelines buffers.now) }
 {
@@ -56,6 +61,7 @@ fn enter_buffers(graph: &mut Graph, desk: &Desk, buffers: &[BufferRows]) -> Resu
 }
 
 fn enter_watches(graph: &mut Graph, desk: &Desk, watches: &[WatchLane]) -> Result<(), Refusal>
+    ensures memory { IfErr result (λ e. e ≡ Memory) }
     ensures edges { OnOk result (graph.new.edges.items
         ≡ graph.old.edges.items ++ watches_edges (edges_of desk.now.timelines) watches.now) }
 {
@@ -66,6 +72,7 @@ fn enter_watches(graph: &mut Graph, desk: &Desk, watches: &[WatchLane]) -> Resul
 }
 
 fn enter_file(graph: &mut Graph, desk: &Desk, file: &FileRow) -> Result<(), Refusal>
+    ensures memory { IfErr result (λ e. e ≡ Memory) }
     ensures edges { OnOk result (graph.new.edges.items ≡ graph.old.edges.items ++ file_edges desk.now file.now) }
 {
     graph.add_node(Node::File(*file))?;
@@ -76,6 +83,7 @@ fn enter_file(graph: &mut Graph, desk: &Desk, file: &FileRow) -> Result<(), Refu
 }
 
 fn enter_buffer(graph: &mut Graph, desk: &Desk, buffer: &BufferRows) -> Result<(), Refusal>
+    ensures memory { IfErr result (λ e. e ≡ Memory) }
     ensures edges { OnOk result (graph.new.edges.items
         ≡ graph.old.edges.items ++ buffer_edges desk.now.timelines buffer.now) }
 {
@@ -84,6 +92,7 @@ fn enter_buffer(graph: &mut Graph, desk: &Desk, buffer: &BufferRows) -> Result<(
 }
 
 fn enter_rows(graph: &mut Graph, desk: &Desk, buffer: Name, rows: &[ShowRow]) -> Result<(), Refusal>
+    ensures memory { IfErr result (λ e. e ≡ Memory) }
     ensures edges { OnOk result (graph.new.edges.items ≡ graph.old.edges.items
         ++ buffer_edges desk.now.timelines (record { name = buffer; rows = rows.now })) }
 {
@@ -96,6 +105,7 @@ fn enter_rows(graph: &mut Graph, desk: &Desk, buffer: Name, rows: &[ShowRow]) ->
 }
 
 fn enter_watch(graph: &mut Graph, desk: &Desk, watch: &WatchLane) -> Result<(), Refusal>
+    ensures memory { IfErr result (λ e. e ≡ Memory) }
     ensures edges { OnOk result (graph.new.edges.items
         ≡ graph.old.edges.items ++ watch_edges (edges_of desk.now.timelines) watch.now) }
 {
@@ -117,6 +127,7 @@ fn enter_waits(
     waiter: &Waiter,
     points: &[Point],
 ) -> Result<(), Refusal>
+    ensures memory { IfErr result (λ e. e ≡ Memory) }
     ensures edges { OnOk result (graph.new.edges.items
         ≡ graph.old.edges.items ++ edges_of desk.now.timelines waiter.now points.now) }
 {

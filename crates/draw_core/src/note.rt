@@ -1,5 +1,7 @@
 //! The note of a column, which shows on hovering: the line, its answer, and the reason if it was refused. The reason comes
 //! from the caller, by `Explain`.
+ghost use Rattle.std.specs.Prelude.{◌≡◌, IfErr};
+ghost use Rattle.point_core.specs.declared.refusal.Refusal.TheVariants.{Memory};
 
 use command_core::{Answer, Command};
 use desk_core::Desk;
@@ -44,7 +46,9 @@ pub(crate) fn push_answer(
     line: &RawLine<'_>,
     answer: &Answer,
     note: &mut Vec<u8>,
-) -> Result<(), Refusal> {
+) -> Result<(), Refusal>
+    ensures memory { IfErr result (λ e. e ≡ Memory) }
+{
     note.extend_from_slice(line.bytes)?;
     note.extend_from_slice(b"\n")?;
     print(line.number, answer, note)?;

@@ -1,17 +1,19 @@
 //! `Run`: a script's run, recorded as a history. Lines before the window only change the desk.
-ghost use Rattle.std.specs.Prelude.{◌≡◌, ◌<◌, ◌≤◌, ◌+◌, ◌∷◌, ◌++◌, ◌||◌, [], List, All, length, true, IfOk, OnOk};
+ghost use Rattle.std.specs.Prelude.{◌≡◌, ◌<◌, ◌≤◌, ◌+◌, ◌∷◌, ◌++◌, ◌||◌, [], List, All, length, true, IfErr, IfOk, OnOk};
+ghost use Rattle.point_core.specs.declared.refusal.Refusal.TheVariants.{Memory};
 ghost use Rattle.desk_core.specs.theorem.Answer.{is_refused};
 ghost use Rattle.desk_core.specs.theorem.Desk.{HasHistory};
 ghost use Rattle.desk_core.specs.theorem.History.{world_of};
 ghost use Rattle.command_core.specs.declared.command.Command.{Command as CommandModel};
 ghost use Rattle.line_core.specs.declared.line.Line.{Line as LineModel};
 ghost use Rattle.line_core.specs.Script.{script_of};
-ghost use Rattle.draw_core.specs.Columns.{drawn_lines, lines_drawn};
+ghost use Rattle.draw_core.specs.Columns.{drawn_lines, lines_drawn, marks_of};
 ghost use Rattle.draw_core.specs.Progress.{AddsWaits, AreAskedFirst, HasDrawn, IsWaitBy, bars_after_line};
 ghost use Rattle.draw_core.specs.Drawn.{AreAsked};
+ghost use Rattle.draw_core.specs.Entered.{AreLanesAfter, points_watched};
 ghost use Rattle.draw_core.specs.Refused.{HasRefused, run_refused};
 ghost use Rattle.draw_core.specs.Shown.{AreRising, ShowsRun};
-ghost use Rattle.draw_core.specs.Found.{IsReportOf, edges_by, waits_by, waits_for, waits_to};
+ghost use Rattle.draw_core.specs.Found.{IsReportOf, edges_by, points_at, waits_by, waits_for, waits_to};
 ghost use Rattle.draw_core.specs.Waiting.{StandsAfter, edges_in};
 
 use crate::asking::ask_all;
@@ -24,7 +26,7 @@ use command_core::{Answer, Command};
 use desk_core::Desk;
 use line_core::{Body, LINE_BYTES, Line, RawLine, read_script};
 use picture_core::{BarWait, Column, Graph, History};
-use point_core::{Point, Refusal};
+use point_core::{Name, Point, Refusal};
 use script_core::answer_line;
 use std::alloc::Global;
 
@@ -35,7 +37,8 @@ pub const COLUMNS: usize = 500;
 ///
 /// Fails only with `Memory`.
 pub fn count_lines(alloc: Global, script: &[u8]) -> Result<usize, Refusal>
-    ensures { IfOk result (λ count. count ≡ length (script_of script.now)) }
+    ensures memory { IfErr result (λ e. e ≡ Memory) }
+    ensures count { IfOk result (λ count. count ≡ length (script_of script.now)) }
 {
     let lines = read_script(alloc, script)?;
     Ok(lines.len())
@@ -86,6 +89,7 @@ impl Run {
     ///
     /// Fails only with `Memory`.
     pub fn graph(&mut self) -> Result<Graph, Refusal>
+        ensures memory { IfErr result (λ e. e ≡ Memory) }
         ensures edges { (history : List CommandModel) → HasHistory self.old.desk history →
             IfOk result (λ graph. graph.edges.items ≡ edges_in (world_of history) self.old.history.lanes.watches.items) }
     {
@@ -94,6 +98,7 @@ impl Run {
     }
 
     fn graph_of(&self, answer: &Answer) -> Result<Graph, Refusal>
+        ensures memory { IfErr result (λ e. e ≡ Memory) }
         ensures edges { IfOk result (λ graph. IsReportOf answer.now (λ report.
             graph.edges.items ≡ edges_by self.now.desk report self.now.history.lanes.watches.items)) }
     {
@@ -218,6 +223,8 @@ impl Run {
     ) -> Result<(), Refusal>
         ensures columns { OnOk result (lines_drawn self.new.history.columns.items
             ≡ lines_drawn self.old.history.columns.items ++ line.now.number ∷ []) }
+        ensures marks { OnOk result (marks_of self.new.history.columns.items
+            ≡ marks_of self.old.history.columns.items ++ is_refused answer.now ∷ []) }
         ensures bars { OnOk result (AreAsked self.old.desk (length self.old.history.columns.items + 1)
             (bars_after_line (length self.old.history.columns.items + 1) body.now answer.now self.old.history.bars.items)
             self.new.history.bars.items) }
@@ -251,6 +258,9 @@ impl Run {
         ensures columns { self.new.history.columns ≡ self.old.history.columns }
         ensures bars { OnOk result (self.new.history.bars.items
             ≡ bars_after_line column body.now answer.now self.old.history.bars.items) }
+        ensures lanes { OnOk result (AreLanesAfter column self.old.desk body.now answer.now
+            (bars_after_line column body.now answer.now self.old.history.bars.items)
+            self.old.history.lanes self.new.history.lanes) }
         ensures desk { self.new.desk ≡ self.old.desk }
         ensures window { self.new.window ≡ self.old.window }
         ensures waits { self.new.history.waits ≡ self.old.history.waits }
@@ -346,10 +356,22 @@ impl Run {
 }
 
 /// The points of the file on which a watch is registered; none for another command.
-fn points_of<'a>(desk: &'a Desk, command: &Command) -> &'a [Point] {
+fn points_of<'a>(desk: &'a Desk, command: &Command) -> &'a [Point]
+    ensures { result.now ≡ points_watched desk.now command.now }
+{
     match command {
-        Command::Watch(file, _) => desk.file_points(file).unwrap_or(&[]),
+        Command::Watch(file, _) => listed(desk, file),
         _ => &[],
+    }
+}
+
+/// The points that a file lists; none if there is no such file.
+fn listed<'a>(desk: &'a Desk, file: &Name) -> &'a [Point]
+    ensures { result.now ≡ points_at desk.now file.now }
+{
+    match desk.file_points(file) {
+        Some(points) => points,
+        None => &[],
     }
 }
 

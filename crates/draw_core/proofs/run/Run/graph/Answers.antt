@@ -12,6 +12,7 @@ on_both_ok (Err e) P Q more holds = tt
 
 pub returns : goal.returns
 returns c = record {
+  memory = c.graph_of.ensures.memory;
   edges = λ history stands.
       let watches = c.args.self.now.history.lanes.watches.items in
       let step = c.step-answer in
