@@ -79,7 +79,7 @@ static bool read_image(const char *path, struct image *image)
     if (image->is_elf && header.e_ident[EI_CLASS] == ELFCLASS64)
         read_loader(file, &header, image);
     else if (image->is_elf)
-        strcpy(image->loader, "that of 32 bits");
+        strcpy(image->loader, "the 32-bit loader");
     else if (length > 2 && memcmp(start, "#!", 2) == 0)
         read_script(start, image);
     if (file >= 0)
