@@ -1,5 +1,5 @@
 //! `Position`: a desk along a schedule, and how many lines each client has made or skipped on it.
-ghost use Rattle.std.specs.Prelude.{◌≡◌, ◌+◌, ◌&&◌, true, List, Some, IsTrue, IfOk, OnOk, replicate, get_or, set, slice_get, option_copied};
+ghost use Rattle.std.specs.Prelude.{◌≡◌, ◌+◌, ◌&&◌, true, List, Some, IsTrue, IfOk, OnOk, set, slice_get, option_copied};
 ghost use Rattle.command_core.specs.declared.command.Command.{Command};
 ghost use Rattle.desk_core.specs.theorem.Answer.{is_refused};
 ghost use Rattle.desk_core.specs.theorem.Desk.{HasHistory};
@@ -7,6 +7,7 @@ ghost use Rattle.explore_core.specs.Schedule.{Lines, Standing, ComesTo, Leads, a
 ghost use Rattle.explore_core.specs.Search.{IsMade, IsAt, IsTurn, keeps_world, standing_of};
 
 use crate::plan::{Plan, Step, next_place};
+use crate::progress::{clear_made, count_to, place_of};
 use command_core::{Answer, Command};
 use desk_core::Desk;
 use point_core::Refusal;
@@ -93,32 +94,7 @@ impl Position {
         ensures desk { self.new.desk ≡ self.old.desk }
         ensures made { self.new.made.items ≡ set self.old.made.items client place }
     {
-        set(self.made.as_mut_slice(), client, place);
-    }
-}
-
-/// No lines made, for each client.
-pub(crate) fn clear_made(made: &mut Vec<usize>, clients: usize) -> Result<(), AllocError>
-    ensures none { OnOk result (made.new.items ≡ replicate clients 0) }
-{
-    made.clear();
-    for _ in 0..clients {
-        made.push(0)?;
-    }
-    Ok(())
-}
-
-pub(crate) fn place_of(made: &[usize], client: usize) -> usize
-    ensures { result ≡ get_or made.now client 0 }
-{
-    made.get(client).copied().unwrap_or(0)
-}
-
-fn set(made: &mut [usize], client: usize, place: usize)
-    ensures { made.new ≡ set made.old client place }
-{
-    if client < made.len() {
-        made[client] = place;
+        count_to(&mut self.made, client, place);
     }
 }
 
