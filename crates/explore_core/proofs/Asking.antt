@@ -14,13 +14,12 @@ use Rattle.syncfile_core.specs.Files.{names_of as file_names}
 use Rattle.desk_core.specs.Keeping.{points_at}
 use Rattle.desk_core.specs.theorem.Desk.{DeskState}
 use Rattle.explore_core.specs.declared.look.FileLook.{FileLook}
-use Rattle.explore_core.specs.declared.look.Look.{Look}
 use Rattle.explore_core.specs.declared.plan.Step.{Step}
 use Rattle.explore_core.specs.Alike.{AsksOnly}
 use Rattle.explore_core.specs.Covering.{MayAsk}
 use Rattle.explore_core.specs.Found.{CanBeExplored}
 use Rattle.explore_core.specs.Schedule.{Lines}
-use Rattle.explore_core.specs.Search.{asked_file, asks_for, client_asks, is_asked, is_name, has_name, Adds, is_to_come, file_look, Shows}
+use Rattle.explore_core.specs.Search.{Look, asked_file, asks_for, client_asks, is_asked, is_name, has_name, Adds, is_to_come, file_look, Shows}
 
 or-left : (a b : Bool) → a ≡ true → (a || b) ≡ true
 or-left true b is = refl

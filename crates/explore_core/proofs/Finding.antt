@@ -11,13 +11,12 @@ use Rattle.command_core.specs.declared.command.Command.{Command}
 use Rattle.explore_core.specs.declared.plan.Step.{Step}
 use Rattle.explore_core.specs.declared.found.Found.{Found}
 use Rattle.explore_core.specs.declared.found.Given.{Given}
-use Rattle.explore_core.specs.declared.state.Seen.{Seen}
 use Rattle.explore_core.specs.declared.state.State.{State}
 use Rattle.explore_core.specs.declared.search.Move.{Move}
 use Rattle.explore_core.specs.declared.search.Move.TheVariants as move
 use Rattle.explore_core.specs.Found.{CanBeExplored, Lists, stuck_of}
 use Rattle.explore_core.specs.Schedule.{Lines, Standing, Schedule, answer_now, history_along, beginning, lines_of, next_line, made_by, after_line, made_line, after_one, ComesTo, IsStuck, IsAnswered, IsEndAnswered}
-use Rattle.explore_core.specs.Search.{is_asked, standing_of, standing_at, states_of, Answers, HasLike, Grows, Extends, IsState, IsSeen, Keeps, Records, IsGiven, IsVisited, IsFollowed, IsTried, AreTried, IsMove, AreMoves, together, HasEnds, EndsAre, IsEnd, AreEndsListed}
+use Rattle.explore_core.specs.Search.{Seen, is_asked, standing_of, standing_at, states_of, Answers, HasLike, Grows, Extends, IsState, IsSeen, Keeps, Records, IsGiven, IsVisited, IsFollowed, IsTried, AreTried, IsMove, AreMoves, together, HasEnds, EndsAre, IsEnd, AreEndsListed}
 use Rattle.explore_core.proofs.Levels.{go-on-refl}
 use Rattle.explore_core.proofs.Scheduling.{Leads-is, Leads-push}
 use Rattle.explore_core.proofs.Showing.{same-state}

@@ -14,13 +14,12 @@ use Rattle.desk_core.specs.theorem.History.{world_of}
 use Rattle.desk_core.specs.Sound.{IsSound}
 use Rattle.explore_core.specs.declared.found.Found.{Found}
 use Rattle.explore_core.specs.declared.found.Given.{Given}
-use Rattle.explore_core.specs.declared.state.Seen.{Seen}
 use Rattle.explore_core.specs.declared.state.State.{State}
 use Rattle.explore_core.specs.Alike.{AsksOnly, AreAlike, IsSameWatch}
 use Rattle.explore_core.specs.Covering.{MayAsk, GoOnAlike}
 use Rattle.explore_core.specs.Found.{CanBeExplored, IsTrue, IsAll, stuck_of}
 use Rattle.explore_core.specs.Schedule.{Lines, Standing, Schedule, answer_now, history_with, history_along, beginning, after_one, ComesTo, IsStuck, IsAnswered, IsEndAnswered}
-use Rattle.explore_core.specs.Search.{is_asked, standing_of, standing_at, states_of, HasLike, Grows, Extends, IsState, IsListed, IsVisited, IsCovered, IsEmptyFound}
+use Rattle.explore_core.specs.Search.{Seen, is_asked, standing_of, standing_at, states_of, HasLike, Grows, Extends, IsState, IsListed, IsVisited, IsCovered, IsEmptyFound}
 use Rattle.explore_core.proofs.Answering.{same_answer}
 use Rattle.explore_core.proofs.Asking.{may-ask}
 use Rattle.explore_core.proofs.Staying.{alike-answered}

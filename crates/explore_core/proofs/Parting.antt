@@ -1,17 +1,14 @@
 -- Looks by the places of their parts.
-use Rattle.std.proofs.Common.{◌≡◌, ℕ, zero, suc, ◌+◌, ◌<◌, take, refl, sym, ap, ◌∙◌, subst, List, [], ◌∷◌, ◌++◌, length, length-append, map, Some, slice_get, get_or, inl, inr, Contains, arith}
+use Rattle.std.proofs.Common.{◌≡◌, ℕ, zero, suc, ◌+◌, ◌<◌, take, refl, sym, ap, ◌∙◌, subst, List, [], ◌∷◌, ◌++◌, length, length-append, map, Option, Some, slice_get, get_or, inl, inr, Contains, arith}
 use Rattle.std.specs.Prelude.{All}
-use Rattle.std.proofs.lemmas.List.{append-nil, append_assoc, map-append, length-map, get_or-map}
+use Rattle.std.proofs.lemmas.List.{take_more, append-nil, append_assoc, map-append, length-map, get_or-map}
 use Rattle.std.proofs.lemmas.List.Elements.{All-nil, All-cons, All-head, All-tail, All-push, All-weaker}
 use Rattle.std.proofs.lemmas.Option.{same_Some, none-some}
-use Rattle.explore_core.specs.declared.level.Kept.{Kept}
 use Rattle.explore_core.specs.declared.look.FileLook.{FileLook}
-use Rattle.explore_core.specs.declared.look.Look.{Look}
 use Rattle.explore_core.specs.declared.parts.Parts.{Parts}
 use Rattle.explore_core.specs.declared.parts.Places.{Places}
-use Rattle.explore_core.specs.declared.state.Seen.{Seen}
 use Rattle.explore_core.specs.declared.state.State.{State}
-use Rattle.explore_core.specs.Search.{Begins, no_file, file_at, look_of, Fits, IsGrown, AreSamePlaces, AreSameKept, AreSameLooks, Keeps, seen_of, states_of, states_kept}
+use Rattle.explore_core.specs.Search.{Look, Seen, Begins, no_file, file_at, look_of, Fits, IsGrown, AreSamePlaces, AreSameLooks, HasSame, Keeps, seen_in, states_of}
 use Rattle.explore_core.proofs.Finding.{All-next}
 
 -- a list that grows
@@ -73,23 +70,20 @@ files-grown {old} {new} g (i ∷ places) all =
     ap (λ (f : FileLook). f ∷ map (file_at new) places) (at-grown g i no_file (All-head P i places all))
     ∙ ap (λ (fs : List FileLook). file_at old i ∷ fs) (files-grown g places (All-tail P i places all))
 
-pub files-put : {old new : List FileLook} → Begins old new → (places : List ℕ) → All (λ (i : ℕ). i < length old) places → (place : ℕ) (file : FileLook) → slice_get new place ≡ Some file
-    → (rest behind : List FileLook) → rest ≡ file ∷ behind → map (file_at old) places ++ rest ≡ map (file_at new) (places ++ place ∷ []) ++ behind
-files-put {old} {new} g places all place file there rest behind is =
-    ap (λ (r : List FileLook). map (file_at old) places ++ r) is
-    ∙ sym (append_assoc (map (file_at old) places) (file ∷ []) behind)
-    ∙ ap (λ (fs : List FileLook). (fs ++ file ∷ []) ++ behind) (sym (files-grown g places all))
-    ∙ ap (λ (f : FileLook). (map (file_at new) places ++ f ∷ []) ++ behind) (sym (place-at new place file no_file there).1)
-    ∙ ap (λ (fs : List FileLook). fs ++ behind) (sym (map-append (file_at new) places (place ∷ [])))
+pub files-next : {old new : List FileLook} → Begins old new → (look : List ℕ → FileLook) (names : List (List ℕ)) (places : List ℕ) → All (λ (i : ℕ). i < length old) places
+    → (i : ℕ) (name : List ℕ) → i < length names → name ≡ get_or names i name → map (file_at old) places ≡ map look (take i names)
+    → (place : ℕ) → slice_get new place ≡ Some (look name) → map (file_at new) (places ++ place ∷ []) ≡ map look (take (i + 1) names)
+files-next {old} {new} g look names places all i name low at before place there =
+    map-append (file_at new) places (place ∷ [])
+    ∙ ap (λ (fs : List FileLook). fs ++ file_at new place ∷ []) (files-grown g places all ∙ before)
+    ∙ ap (λ (f : FileLook). map look (take i names) ++ f ∷ []) (place-at new place (look name) no_file there).1
+    ∙ sym (map-append look (take i names) (name ∷ []))
+    ∙ ap (map look) (sym (take_more names i name low ∙ ap (λ (d : List ℕ). take i names ++ d ∷ []) (sym at)))
 
 pub fit-put : {old new : List FileLook} → Begins old new → (places : List ℕ) → All (λ (i : ℕ). i < length old) places → (place : ℕ) (file : FileLook) → slice_get new place ≡ Some file
     → All (λ (i : ℕ). i < length new) (places ++ place ∷ [])
 fit-put {old} {new} g places all place file there =
     All-push (λ (i : ℕ). i < length new) places place (Places-grown g places all) (place-at new place file no_file there).0
-
-pub no-files : (files rest : List FileLook) → length rest ≡ 0 → files ++ rest ≡ files
-no-files files [] none = append-nil files
-no-files files (f ∷ rest) none = absurd (omega (arith, none))
 
 -- looks by their places
 
@@ -126,47 +120,61 @@ same-looks parts a b same = record {
 
 -- the states that a level keeps
 
-pub fit-grown : {old new : Parts} → IsGrown old new → (kept : List Kept) → All (λ (k : Kept). Fits old k.places) kept → All (λ (k : Kept). Fits new k.places) kept
-fit-grown {old} {new} g kept all = All-weaker (λ (k : Kept). Fits old k.places) (λ (k : Kept). Fits new k.places) (λ k fits. Fits-grown g k.places fits) kept all
+pub fit-grown : {old new : Parts} → IsGrown old new → (all : List Places) → All (Fits old) all → All (Fits new) all
+fit-grown {old} {new} g all fits = All-weaker (Fits old) (Fits new) (λ places here. Fits-grown g places here) all fits
 
-pub seen-grown : {old new : Parts} → IsGrown old new → (kept : List Kept) → All (λ (k : Kept). Fits old k.places) kept → map (seen_of new) kept ≡ map (seen_of old) kept
-seen-grown g [] all = refl
-seen-grown {old} {new} g (k ∷ kept) all =
-    let P : Kept → Type 0 = λ (x : Kept). Fits old x.places in
-    let seen : Look → Seen = λ (l : Look). record { state = k.state; look = l } in
-    ap (λ (s : Seen). s ∷ map (seen_of new) kept) (ap seen (look-grown g k.places (All-head P k kept all)))
-    ∙ ap (λ (ss : List Seen). seen_of old k ∷ ss) (seen-grown g kept (All-tail P k kept all))
+pub seen-grown : {old new : Parts} → IsGrown old new → (states : List State) (all : List Places) → All (Fits old) all → seen_in new states all ≡ seen_in old states all
+seen-grown g [] all fits = refl
+seen-grown g (s ∷ states) [] fits = refl
+seen-grown {old} {new} g (s ∷ states) (p ∷ all) fits =
+    let seen : Look → Seen = λ (l : Look). record { state = s; look = l } in
+    ap (λ (x : Seen). x ∷ seen_in new states all) (ap seen (look-grown g p (All-head (Fits old) p all fits)))
+    ∙ ap (λ (xs : List Seen). seen (look_of old p) ∷ xs) (seen-grown g states all (All-tail (Fits old) p all fits))
 
-Contains-seen : (parts : Parts) (kept : List Kept) (k : Kept) → Contains kept k → Contains (map (seen_of parts) kept) (seen_of parts k)
-Contains-seen parts kept k there = (there.0, omega (arith, there.1, length-map kept (seen_of parts)), get_or-map (seen_of parts) kept there.0 k (seen_of parts k) there.1 ∙ ap (seen_of parts) there.2)
+seen-at : (parts : Parts) (states : List State) (all : List Places) (i : ℕ) (s : State) (p : Places) → slice_get states i ≡ Some s → slice_get all i ≡ Some p
+    → slice_get (seen_in parts states all) i ≡ Some (record { state = s; look = look_of parts p })
+seen-at parts [] all i s p state places = absurd (none-some s state)
+seen-at parts (t ∷ states) [] i s p state places = absurd (none-some p places)
+seen-at parts (t ∷ states) (q ∷ all) zero s p state places =
+    let seen : State → Places → Option Seen = λ (x : State) (y : Places). Some (record { state = x; look = look_of parts y }) in
+    ap (λ (x : State). seen x q) (same_Some t s state) ∙ ap (seen s) (same_Some q p places)
+seen-at parts (t ∷ states) (q ∷ all) (suc i) s p state places = seen-at parts states all i s p state places
 
-module _ {old new : Parts} (g : IsGrown old new) (all : List Kept) (fits : All (λ (k : Kept). Fits old k.places) all) (kept : Kept) (look : Look) (is : look_of new kept.places ≡ look) where
-  pub Keeps-found : (other : Kept) → Contains all other → AreSameKept kept other → Keeps (map (seen_of old) all) (record { state = kept.state; look = look }) (map (seen_of new) all)
-  Keeps-found other there same =
-      let grown = seen-grown g all fits in
+seen-pushed : (parts : Parts) (states : List State) (all : List Places) (s : State) (p : Places) → length all ≡ length states
+    → seen_in parts (states ++ s ∷ []) (all ++ p ∷ []) ≡ seen_in parts states all ++ record { state = s; look = look_of parts p } ∷ []
+seen-pushed parts [] [] s p even = refl
+seen-pushed parts [] (q ∷ all) s p even = absurd (omega (arith, even))
+seen-pushed parts (t ∷ states) [] s p even = absurd (omega (arith, even))
+seen-pushed parts (t ∷ states) (q ∷ all) s p even =
+    let seen : Seen = record { state = t; look = look_of parts q } in
+    ap (λ (ss : List Seen). seen ∷ ss) (seen-pushed parts states all s p (omega (arith, even)))
+
+pub even-pushed : (states : List State) (all : List Places) (s : State) (p : Places) → length all ≡ length states → length (all ++ p ∷ []) ≡ length (states ++ s ∷ [])
+even-pushed states all s p even = omega (arith, even, length-append all (p ∷ []), length-append states (s ∷ []))
+
+module _ {old new : Parts} (g : IsGrown old new) (states : List State) (all : List Places) (fits : All (Fits old) all) (state : State) (places : Places) (look : Look) (is : look_of new places ≡ look) where
+  pub Keeps-found : HasSame states all state places → Keeps (seen_in old states all) (record { state = state; look = look }) (seen_in new states all)
+  Keeps-found same =
+      let grown = seen-grown g states all fits in
+      let other : Seen = record { state = same.other; look = look_of new same.others } in
+      let there = place-at (seen_in new states all) same.place other other (seen-at new states all same.place same.other same.others same.state_at same.places_at) in
       inl (
         grown,
-        seen_of new other,
-        subst (λ (ss : List Seen). Contains ss (seen_of new other)) grown (Contains-seen new all other there),
-        record { made = same.made; look = subst (λ (l : Look). AreSameLooks l (look_of new other.places)) is (same-looks new kept.places other.places same.places) },
+        other,
+        subst (λ (ss : List Seen). Contains ss other) grown (same.place, there.0, there.1),
+        record { made = same.made; look = subst (λ (l : Look). AreSameLooks l (look_of new same.others)) is (same-looks new places same.others same.look) },
       )
 
-  pub Keeps-pushed : Keeps (map (seen_of old) all) (record { state = kept.state; look = look }) (map (seen_of new) (all ++ kept ∷ []))
-  Keeps-pushed =
-      let seen : Look → Seen = λ (l : Look). record { state = kept.state; look = l } in
-      inr (map-append (seen_of new) all (kept ∷ []) ∙ ap (λ (ss : List Seen). ss ++ seen_of new kept ∷ []) (seen-grown g all fits)
-      ∙ ap (λ (l : Look). map (seen_of old) all ++ seen l ∷ []) is)
+  pub Keeps-pushed : length all ≡ length states → Keeps (seen_in old states all) (record { state = state; look = look }) (seen_in new (states ++ state ∷ []) (all ++ places ∷ []))
+  Keeps-pushed even =
+      let seen : Look → Seen = λ (l : Look). record { state = state; look = l } in
+      inr (seen-pushed new states all state places even ∙ ap (λ (ss : List Seen). ss ++ seen (look_of new places) ∷ []) (seen-grown g states all fits)
+      ∙ ap (λ (l : Look). seen_in old states all ++ seen l ∷ []) is)
 
-  pub fit-pushed : Fits new kept.places → All (λ (k : Kept). Fits new k.places) (all ++ kept ∷ [])
-  fit-pushed here = All-push (λ (k : Kept). Fits new k.places) all kept (fit-grown g all fits) here
+  pub fit-pushed : Fits new places → All (Fits new) (all ++ places ∷ [])
+  fit-pushed here = All-push (Fits new) all places (fit-grown g all fits) here
 
-pub kept-states : (parts : Parts) (kept : List Kept) → states_of (map (seen_of parts) kept) ≡ states_kept kept
-kept-states parts [] = refl
-kept-states parts (k ∷ kept) = ap (λ (ss : List State). k.state ∷ ss) (kept-states parts kept)
-
-pub states-taken : (states : List State) (rest behind : List Kept) (one : Kept) → rest ≡ one ∷ behind → states ++ states_kept rest ≡ (states ++ one.state ∷ []) ++ states_kept behind
-states-taken states rest behind one is = ap (λ (r : List Kept). states ++ states_kept r) is ∙ sym (append_assoc states (one.state ∷ []) (states_kept behind))
-
-pub no-states : (states : List State) (rest : List Kept) → length rest ≡ 0 → states ++ states_kept rest ≡ states
-no-states states [] none = append-nil states
-no-states states (k ∷ rest) none = absurd (omega (arith, none))
+pub kept-states : (parts : Parts) (states : List State) (all : List Places) → length all ≡ length states → states_of (seen_in parts states all) ≡ states
+kept-states parts [] all even = refl
+kept-states parts (s ∷ states) [] even = absurd (omega (arith, even))
+kept-states parts (s ∷ states) (p ∷ all) even = ap (λ (ss : List State). s ∷ ss) (kept-states parts states all (omega (arith, even)))

@@ -39,15 +39,13 @@ use Rattle.desk_core.specs.theorem.History.{world_of}
 use Rattle.desk_core.specs.Keeping.{points_at}
 use Rattle.desk_core.proofs.Answering.{Keeps-stands}
 use Rattle.desk_core.proofs.Sound.{not-false}
-use Rattle.explore_core.specs.declared.look.Look.{Look}
 use Rattle.explore_core.specs.declared.look.FileLook.{FileLook}
 use Rattle.explore_core.specs.declared.look.BufferLook.{BufferLook}
-use Rattle.explore_core.specs.declared.state.Seen.{Seen}
 use Rattle.explore_core.specs.Looks.{LooksAlike, WaitsAlike}
 use Rattle.explore_core.specs.Covering.{GoOnAlike}
 use Rattle.explore_core.specs.Found.{CanBeExplored}
 use Rattle.explore_core.specs.Schedule.{Lines}
-use Rattle.explore_core.specs.Search.{is_asked, is_to_come, seen_points, file_look, buffer_look, Shows, AreSameLooks, AreSameSeen, IsSeen, standing_at}
+use Rattle.explore_core.specs.Search.{Look, Seen, is_asked, is_to_come, seen_points, file_look, buffer_look, Shows, AreSameLooks, AreSameSeen, IsSeen, standing_at}
 use Rattle.explore_core.proofs.Looking.{alike-looks}
 use Rattle.explore_core.proofs.Scheduling.{none-comes, no_watches-of}
 

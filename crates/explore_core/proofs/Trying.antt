@@ -10,14 +10,14 @@ use Rattle.command_core.specs.declared.command.Command.{Command}
 use Rattle.explore_core.specs.declared.plan.Step.{Step}
 use Rattle.explore_core.specs.declared.found.Found.{Found}
 use Rattle.explore_core.specs.declared.position.Position.{Position}
-use Rattle.explore_core.specs.declared.state.Seen.{Seen}
 use Rattle.explore_core.specs.declared.state.State.{State}
 use Rattle.explore_core.specs.declared.search.Move.{Move}
 use Rattle.explore_core.specs.declared.search.Move.TheVariants as move
 use Rattle.explore_core.specs.declared.search.Stop.{Stop}
 use Rattle.explore_core.specs.Found.{CanBeExplored, IsTrue, IsAll, Lists}
 use Rattle.explore_core.specs.Schedule.{Lines, Standing, Schedule, history_with, history_along, made_by, next_line, after_line, after_one, ComesTo, IsAnswered}
-use Rattle.explore_core.specs.Search.{standing_of, standing_at, states_of, standing_after, Answers, Grows, IsAt, IsReached, IsState, IsSeen, IsTried, AreTried, AreMoves, Keeps, Records}
+use Rattle.explore_core.specs.Search.{Look, Seen, Shows, AreAsked, has_name, is_asked, standing_of, standing_at, states_of, standing_after, Answers, Grows, IsAt, IsReached, IsState, IsSeen, IsTried, AreTried, AreMoves, Keeps, Records}
+use Rattle.explore_core.proofs.Asking.{Shows-same}
 use Rattle.explore_core.proofs.Scheduling.{history_along-push}
 use Rattle.explore_core.proofs.Finding.{Grows-given, HasLike-kept, IsFollowed-none, IsFollowed-made, none-next, after-answers, comes-more}
 
@@ -32,6 +32,24 @@ first-state plan state none made = record {
 
 pub none-seen-yet : (plan : Lines) (depth : ℕ) (seen : List Seen) → seen ≡ [] → All (IsSeen plan depth) seen
 none-seen-yet plan depth seen none = subst (All (IsSeen plan depth)) (sym none) (All-nil (IsSeen plan depth))
+
+-- what is seen after a client's line
+
+pub seen-after : {plan : Lines} (asked : List (List ℕ)) {schedule : Schedule} {state : State} {look : Look} {position : Position}
+    → AreAsked plan asked → state.schedule.items ≡ schedule → state.made.items ≡ position.made.items → Shows (has_name asked) look position.desk
+    → ComesTo plan schedule (standing_of plan schedule) → IsAt position (standing_of plan schedule) → IsSeen plan (length schedule) (record { state = state; look = look })
+seen-after {plan} asked {schedule} {state} {look} {position} are more made shows comes at =
+    let here = subst (λ (s : Schedule). IsAt position (standing_of plan s)) (sym more) at in
+    record {
+      state = record {
+        deep = ap length more;
+        comes = subst (λ (s : Schedule). ComesTo plan s (standing_of plan s)) (sym more) comes;
+        made = made ∙ here.made;
+      };
+      desk = position.desk;
+      history = here.desk;
+      look = Shows-same (has_name asked) (is_asked plan) are shows;
+    }
 
 -- what a client does
 

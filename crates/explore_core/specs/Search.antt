@@ -2,6 +2,7 @@
 use Rattle.std.specs.Prelude.{◌≡◌, ◌⊎◌, ℕ, ◌+◌, ◌<◌, ◌≤◌, Bool, true, false, not, ◌||◌, if◌then◌else◌, filter, List, [], ◌∷◌, ◌++◌, length, map, take, All, Contains, Option, None, Some, IsSome, slice_get, get_or, unwrap_or}
 use Rattle.std.specs.List.{list_any}
 use Rattle.point_core.specs.declared.entry.Point.{Point}
+use Rattle.point_core.specs.declared.timeline_row.TimelineRow.{TimelineRow}
 use Rattle.point_core.specs.Clocks.{status_at}
 use Rattle.point_core.specs.Named.{same_name}
 use Rattle.point_core.specs.Status.{is_signalled}
@@ -19,13 +20,10 @@ use Rattle.explore_core.specs.declared.plan.Step.{Step}
 use Rattle.explore_core.specs.declared.found.Found.{Found}
 use Rattle.explore_core.specs.declared.look.FileLook.{FileLook}
 use Rattle.explore_core.specs.declared.look.BufferLook.{BufferLook}
-use Rattle.explore_core.specs.declared.look.Look.{Look}
 use Rattle.explore_core.specs.declared.position.Position.{Position}
-use Rattle.explore_core.specs.declared.level.Kept.{Kept}
 use Rattle.explore_core.specs.declared.parts.Parts.{Parts}
 use Rattle.explore_core.specs.declared.parts.Places.{Places}
 use Rattle.explore_core.specs.declared.state.State.{State}
-use Rattle.explore_core.specs.declared.state.Seen.{Seen}
 use Rattle.explore_core.specs.declared.visit.Visit.{Visit}
 use Rattle.explore_core.specs.declared.search.Move.{Move}
 use Rattle.explore_core.specs.declared.search.Move.TheVariants as move
@@ -146,6 +144,12 @@ file_look asked d name = record { name = name; points = seen_points asked d name
 abbrev pub buffer_look : DeskState → List ℕ → BufferLook
 buffer_look d name = record { name = name; tops = table_rows (entries_of d.buffers name) (reach_of d.timelines) }
 
+-- the timelines, files and buffers of a desk, each by the order of making
+pub record Look : Type 0 where
+  pub timelines : List TimelineRow
+  pub files : List FileLook
+  pub buffers : List BufferLook
+
 -- the look shows what the desk holds, but for its watches
 pub record Shows (asked : List ℕ → Bool) (look : Look) (d : DeskState) : Type 0 where
   pub timelines : look.timelines ≡ timeline_rows d.timelines
@@ -171,6 +175,11 @@ pub record IsState (plan : Lines) (depth : ℕ) (state : State) : Type 0 where
   pub comes : ComesTo plan state.schedule.items (standing_at plan state)
   pub made : state.made.items ≡ (standing_at plan state).made
 
+-- a state, and what is seen of its desk
+pub record Seen : Type 0 where
+  pub state : State
+  pub look : Look
+
 -- the look is seen at that state
 pub record IsSeen (plan : Lines) (depth : ℕ) (seen : Seen) : Type 0 where
   pub state : IsState plan depth seen.state
@@ -195,6 +204,10 @@ pub record AreSameSeen (a b : Seen) : Type 0 where
 abbrev pub Keeps : List Seen → Seen → List Seen → Type 0
 Keeps old seen new =
     ((new ≡ old) × (other : Seen) × Contains old other × AreSameSeen seen other) ⊎ (new ≡ old ++ seen ∷ [])
+
+-- the state is kept with what is seen of the desk
+abbrev pub KeepsAt : (List ℕ → Bool) → List Seen → State → DeskState → List Seen → Type 0
+KeepsAt asked old state d new = (look : Look) × Shows asked look d × Keeps old (record { state = state; look = look }) new
 
 -- the new list begins with the old one
 pub record Begins {X : Type 0} (old new : List X) : Type 0 where
@@ -238,17 +251,21 @@ pub record AreSamePlaces (a b : Places) : Type 0 where
   pub here : All (Contains a.files.items) b.files.items
   pub count : length a.files.items ≡ length b.files.items
 
--- in both, each client is at the same line, and the looks have the same parts
-pub record AreSameKept (a b : Kept) : Type 0 where
-  pub made : a.state.made.items ≡ b.state.made.items
-  pub places : AreSamePlaces a.places b.places
+-- the states, each with the look that has its parts at these places
+abbrev pub seen_in : Parts → List State → List Places → List Seen
+seen_in parts [] all = []
+seen_in parts (state ∷ states) [] = []
+seen_in parts (state ∷ states) (places ∷ all) = record { state = state; look = look_of parts places } ∷ seen_in parts states all
 
--- the state, with the look that has its parts at the kept places
-abbrev pub seen_of : Parts → Kept → Seen
-seen_of parts kept = record { state = kept.state; look = look_of parts kept.places }
-
-abbrev pub states_kept : List Kept → List State
-states_kept kept = map (λ (k : Kept). k.state) kept
+-- at one of the states, each client is at the same line, and the look has the same parts
+pub record HasSame (states : List State) (all : List Places) (state : State) (places : Places) : Type 0 where
+  pub place : ℕ
+  pub other : State
+  pub state_at : slice_get states place ≡ Some other
+  pub others : Places
+  pub places_at : slice_get all place ≡ Some others
+  pub made : state.made.items ≡ other.made.items
+  pub look : AreSamePlaces places others
 
 -- whatever was found before is found still, and what is found anew happens in schedules of that length
 pub record Grows (plan : Lines) (depth : ℕ) (old new : Found) : Type 0 where

@@ -1,22 +1,26 @@
 //! `Level`: the states after schedules of one length, equal states once. Once a level is complete, the search keeps its states and
 //! drops their looks.
-ghost use Rattle.std.specs.Prelude.{◌≡◌, ◌++◌, ◌∷◌, true, [], IfOk, OnOk, OnErr, Contains};
-ghost use Rattle.explore_core.specs.declared.level.Kept.{Kept as Holding};
-ghost use Rattle.explore_core.specs.Search.{Keeps, AreSameKept, states_of, states_kept};
+ghost use Rattle.std.specs.Prelude.{◌≡◌, ◌+◌, ◌≤◌, true, [], IfOk, OnOk, OnErr, vec_len};
+ghost use Rattle.std.specs.Vec.{vec_capacity};
+ghost use Rattle.explore_core.specs.Search.{KeepsAt, HasSame, has_name, states_of};
 
 use crate::look::mix;
 use crate::parts::{Parts, Places};
 use crate::search::Stop;
-use crate::state::{Seen, State};
+use crate::state::State;
+use desk_core::Desk;
 use indexmap::IndexMap;
+use point_core::Name;
 use std::alloc::{AllocError, Global};
 use std::marker::Model;
 
-/// The states, with the places of their looks among the parts, and a table by hashes. The table is a hint: a state that it suggests
-/// is compared as a whole, and a state that it misses is kept twice.
+/// The states, the places of their looks among the parts, and a table by hashes. The table is a hint: a state that it suggests is
+/// compared as a whole, and a state that it misses is kept twice.
 #[derive(Drop)]
 pub(crate) struct Level {
-    kept: Vec<Kept>,
+    states: Vec<State>,
+    // of the states' looks, in the order of the states
+    places: Vec<Places>,
     parts: Parts,
     by_hash: IndexMap<u64, usize>,
     // how many states there may be
@@ -24,23 +28,14 @@ pub(crate) struct Level {
 }
 
 impl Model for Level {
-    ghost use Rattle.std.specs.Prelude.{List, All, map};
-    ghost use Rattle.explore_core.specs.declared.level.Kept.{Kept};
-    ghost use Rattle.explore_core.specs.declared.state.Seen.{Seen};
-    ghost use Rattle.explore_core.specs.Search.{Fits, seen_of};
+    ghost use Rattle.std.specs.Prelude.{◌≡◌, List, All, length};
+    ghost use Rattle.explore_core.specs.Search.{Fits, Seen, seen_in};
 
     ghost Value = { List Seen };
 
-    ghost view = { λ l. map (seen_of l.parts) l.kept.items };
+    ghost view = { λ l. seen_in l.parts l.states.items l.places.items };
 
-    ghost invariant = { λ l. All (λ (k : Kept). Fits l.parts k.places) l.kept.items };
-}
-
-/// A state, and the places of its look.
-#[derive(Drop)]
-struct Kept {
-    state: State,
-    places: Places,
+    ghost invariant = { λ l. (length l.places.items ≡ length l.states.items) × All (Fits l.parts) l.places.items };
 }
 
 impl Level {
@@ -48,7 +43,8 @@ impl Level {
         ensures { result ≡ [] }
     {
         Level {
-            kept: Vec::new(alloc),
+            states: Vec::new(alloc),
+            places: Vec::new(alloc),
             parts: Parts::new(alloc),
             by_hash: IndexMap::new(alloc),
             room,
@@ -56,99 +52,108 @@ impl Level {
     }
 
     /// The states, once all are found.
-    pub(crate) fn into_states(self, alloc: Global) -> Result<Vec<State>, AllocError>
-        ensures states { IfOk result (λ states. states.items ≡ states_of self) }
+    pub(crate) fn into_states(self) -> Vec<State>
+        ensures { result.items ≡ states_of self }
     {
-        let Level { kept, .. } = self;
-        states_of(alloc, kept)
+        let Level { states, .. } = self;
+        states
     }
 
-    /// Keeps the state, unless an equal one is kept already.
+    /// Keeps the state with what its desk shows, unless an equal one is kept already. The plan asks what the files of the names list.
     ///
     /// Fails if there is no room or no memory for the state, and then keeps the states that it kept.
-    pub(crate) fn keep(&mut self, alloc: Global, seen: Seen) -> Result<(), Stop>
-        ensures keeps { OnOk result (Keeps self.old seen self.new) }
+    pub(crate) fn keep(
+        &mut self,
+        alloc: Global,
+        asked: &[Name],
+        state: State,
+        desk: &Desk,
+    ) -> Result<(), Stop>
+        ensures keeps { OnOk result (KeepsAt (has_name asked.now) self.old state desk.now self.new) }
         ensures unchanged { OnErr result (self.new ≡ self.old) }
     {
-        let Seen { state, look } = seen;
-        let Ok(places) = self.parts.places_of(alloc, look) else {
+        let Ok(places) = self.parts.look_at(alloc, asked, desk) else {
             drop(state);
             return Err(Stop::Memory);
         };
-        let kept = Kept { state, places };
-        let hash = kept.hash();
-        if has(&self.by_hash, self.kept.as_slice(), hash, &kept) {
-            drop(kept);
+        let hash = hash_of(&state, &places);
+        let states = self.states.as_slice();
+        let all = self.places.as_slice();
+        if has(&self.by_hash, states, all, hash, &state, &places) {
+            drop(places);
+            drop(state);
             return Ok(());
         }
-        if self.kept.len() >= self.room {
-            drop(kept);
+        if self.states.len() >= self.room {
+            drop(places);
+            drop(state);
             return Err(Stop::Bound);
         }
-        let Ok(_old) = self.by_hash.insert(hash, self.kept.len()) else {
-            drop(kept);
+        let Ok(()) = reserve(&mut self.by_hash, &mut self.states, &mut self.places, hash) else {
+            drop(places);
+            drop(state);
             return Err(Stop::Memory);
         };
-        let Ok(_done) = self.kept.push(kept) else {
-            return Err(Stop::Memory);
-        };
+        self.states.push_reserved(state);
+        self.places.push_reserved(places);
         Ok(())
     }
 }
 
-impl Kept {
-    /// Whether each client is at the same line in both states, and the looks have the same parts.
-    fn is_same(&self, other: &Kept) -> bool
-        ensures { result ≡ true → AreSameKept self.now other.now }
-    {
-        are_same(self.state.made.as_slice(), other.state.made.as_slice())
-            && self.places.is_same(&other.places)
-    }
-
-    /// A number by which the state may be found again.
-    fn hash(&self) -> u64 {
-        let mut hash = self.places.hash();
-        for made in self.state.made.as_slice() {
-            hash = mix(hash, *made as u64);
-        }
-        hash
-    }
+/// Makes room for one more state, which the table suggests for this hash from now on.
+fn reserve(
+    by_hash: &mut IndexMap<u64, usize>,
+    states: &mut Vec<State>,
+    places: &mut Vec<Places>,
+    hash: u64,
+) -> Result<(), AllocError>
+    ensures states { states.new.items ≡ states.old.items }
+    ensures places { places.new.items ≡ places.old.items }
+    ensures room_for_state { OnOk result (vec_len states.new + 1 ≤ vec_capacity states.new) }
+    ensures room_for_places { OnOk result (vec_len places.new + 1 ≤ vec_capacity places.new) }
+{
+    states.reserve(1)?;
+    places.reserve(1)?;
+    let Ok(_old) = by_hash.insert(hash, states.len()) else {
+        return Err(AllocError);
+    };
+    Ok(())
 }
 
-/// Whether the state that the table suggests equals this one.
-fn has(by_hash: &IndexMap<u64, usize>, all: &[Kept], hash: u64, kept: &Kept) -> bool
-    ensures { result ≡ true → (other : Holding) × Contains all.now other × AreSameKept kept.now other }
+/// A number by which the state may be found again.
+fn hash_of(state: &State, places: &Places) -> u64 {
+    let mut hash = places.hash();
+    for made in state.made.as_slice() {
+        hash = mix(hash, *made as u64);
+    }
+    hash
+}
+
+/// Whether the state that the table suggests is the same: each client is at the same line in both, and the looks have the same parts.
+fn has(
+    by_hash: &IndexMap<u64, usize>,
+    states: &[State],
+    all: &[Places],
+    hash: u64,
+    state: &State,
+    places: &Places,
+) -> bool
+    ensures { result ≡ true → HasSame states.now all.now state.now places.now }
 {
     let Some(place) = by_hash.get(&hash) else {
         return false;
     };
-    let Some(other) = all.get(*place) else {
+    let Some(other) = states.get(*place) else {
         return false;
     };
-    kept.is_same(other)
+    let Some(others) = all.get(*place) else {
+        return false;
+    };
+    are_same(state.made.as_slice(), other.made.as_slice()) && places.is_same(others)
 }
 
 fn are_same(made: &[usize], others: &[usize]) -> bool
     ensures { result ≡ true → made.now ≡ others.now }
 {
     made == others
-}
-
-/// The states, without the places of their looks.
-fn states_of(alloc: Global, kept: Vec<Kept>) -> Result<Vec<State>, AllocError>
-    ensures states { IfOk result (λ states. states.items ≡ states_kept kept.items) }
-{
-    let mut states = Vec::new(alloc);
-    for one in kept {
-        put_state(&mut states, one)?;
-    }
-    Ok(states)
-}
-
-fn put_state(states: &mut Vec<State>, kept: Kept) -> Result<(), AllocError>
-    ensures put { OnOk result (states.new.items ≡ states.old.items ++ kept.state ∷ []) }
-{
-    let Kept { state, .. } = kept;
-    states.push(state)?;
-    Ok(())
 }

@@ -1,7 +1,7 @@
-//! `Look`: what the lines of a plan can see of a desk without watches. Two desks whose looks are the same answer the lines alike
-//! forever (`laws.rt`), so the search compares looks and keeps no desk.
+//! Parts of a look: what the lines of a plan can see of a desk without watches. Two desks whose looks are the same answer the lines
+//! alike forever (`laws.rt`), so the search compares looks and keeps no desk. `Parts` keeps them.
 ghost use Rattle.std.specs.Prelude.{◌≡◌, true, ◌++◌, ◌∷◌, [], map, filter, IfOk, OnOk};
-ghost use Rattle.explore_core.specs.Search.{Shows, is_name, has_name, is_to_come, seen_points, file_look, buffer_look};
+ghost use Rattle.explore_core.specs.Search.{is_name, has_name, is_to_come, seen_points, file_look, buffer_look};
 
 use crate::table::Part;
 use desk_core::Desk;
@@ -22,43 +22,11 @@ pub(crate) struct BufferLook {
     pub(crate) tops: Items<TopRow>,
 }
 
-/// The timelines, files and buffers of a desk, each by the order of making.
-#[derive(Drop)]
-pub(crate) struct Look {
-    pub(crate) timelines: Items<TimelineRow>,
-    pub(crate) files: Items<FileLook>,
-    pub(crate) buffers: Items<BufferLook>,
-}
-
 // An odd number whose bits look random: 2^64 divided by the golden ratio.
 const HASH_FACTOR: u64 = 0x9E37_79B9_7F4A_7C15;
 
 /// The number with which a hash begins. Without one a list that begins with zeros would have the hash of an empty list.
 pub(crate) const SEED: u64 = 0x5851_F42D_4C95_7F2D;
-
-impl Look {
-    /// What the desk shows, with all points of the files that are asked what they list.
-    pub(crate) fn of(alloc: Global, asked: &[Name], desk: &Desk) -> Result<Look, AllocError>
-        ensures shows { IfOk result (λ look. Shows (has_name asked.now) look desk.now) }
-    {
-        let Ok(timelines) = desk.timeline_rows() else {
-            return Err(AllocError);
-        };
-        let Ok(file_names) = desk.file_names() else {
-            return Err(AllocError);
-        };
-        let Ok(buffer_names) = desk.buffer_names() else {
-            return Err(AllocError);
-        };
-        let files = file_looks(alloc, asked, desk, file_names.as_slice())?;
-        let buffers = buffer_looks(alloc, desk, buffer_names.as_slice())?;
-        Ok(Look {
-            timelines: Items::of(timelines),
-            files: Items::of(files),
-            buffers: Items::of(buffers),
-        })
-    }
-}
 
 impl Part for Items<TimelineRow> {
     fn hash(&self) -> u64 {
@@ -120,23 +88,20 @@ fn are_same_buffers(buffers: &Items<BufferLook>, others: &Items<BufferLook>) -> 
     *buffers == *others
 }
 
-fn file_looks(
+/// What is seen of the file of that name, with all its points if one of the names asked is its name.
+pub(crate) fn file_look(
     alloc: Global,
     asked: &[Name],
     desk: &Desk,
-    names: &[Name],
-) -> Result<Vec<FileLook>, AllocError>
-    ensures looks { IfOk result (λ looks. looks.items ≡ map (file_look (has_name asked.now) desk.now) names.now) }
+    name: &Name,
+) -> Result<FileLook, AllocError>
+    ensures look { IfOk result (λ look. look ≡ file_look (has_name asked.now) desk.now name.now) }
 {
-    let mut looks = Vec::with_capacity(alloc, names.len())?;
-    for name in names {
-        let points = seen_points(alloc, asked, desk, name)?;
-        looks.push(FileLook {
-            name: *name,
-            points: Items::of(points),
-        })?;
-    }
-    Ok(looks)
+    let points = seen_points(alloc, asked, desk, name)?;
+    Ok(FileLook {
+        name: *name,
+        points: Items::of(points),
+    })
 }
 
 fn seen_points(
@@ -198,8 +163,12 @@ fn put_to_come(points: &mut Vec<Point>, desk: &Desk, point: &Point) -> Result<()
     Ok(())
 }
 
-/// Fails also if there is no buffer of one of the names.
-fn buffer_looks(alloc: Global, desk: &Desk, names: &[Name]) -> Result<Vec<BufferLook>, AllocError>
+/// What is seen of the buffers. Fails also if there is no buffer of one of the names.
+pub(crate) fn buffer_looks(
+    alloc: Global,
+    desk: &Desk,
+    names: &[Name],
+) -> Result<Vec<BufferLook>, AllocError>
     ensures looks { IfOk result (λ looks. looks.items ≡ map (buffer_look desk.now) names.now) }
 {
     let mut looks = Vec::with_capacity(alloc, names.len())?;

@@ -1,11 +1,15 @@
 //! `Parts`: the parts of a level's looks, each part once. `Places`: a look by the places of its parts. A look takes kilobytes, its
 //! places take some hundred bytes, and two looks are compared by their places. `Level` keeps both.
 ghost use Rattle.std.specs.Prelude.{◌≡◌, ◌++◌, ◌∷◌, ℕ, ◌<◌, true, [], Some, slice_get, length, map, All, Contains, IfOk, OnOk};
-ghost use Rattle.explore_core.specs.Search.{Begins, IsGrown, Fits, AreSamePlaces, no_parts, look_of, file_at};
+ghost use Rattle.timeline_core.specs.Timeline.{rows_of as timeline_rows};
+ghost use Rattle.syncfile_core.specs.Files.{HasDistinctNames, names_of as file_names};
+ghost use Rattle.dmabuf_core.specs.Buffers.{names_of as buffer_names};
+ghost use Rattle.explore_core.specs.Search.{Begins, IsGrown, Fits, Shows, AreSamePlaces, has_name, file_look, buffer_look, no_parts, look_of, file_at};
 
-use crate::look::{BufferLook, FileLook, Look, SEED, mix};
+use crate::look::{BufferLook, FileLook, SEED, buffer_looks, file_look, mix};
 use crate::table::Table;
-use point_core::{Items, TimelineRow};
+use desk_core::Desk;
+use point_core::{Items, Name, TimelineRow};
 use std::alloc::{AllocError, Global};
 
 /// The timelines of looks, their files one by one, and their buffers.
@@ -35,20 +39,21 @@ impl Parts {
         }
     }
 
-    /// The places of the look's parts. A part that has no place yet is put last.
-    pub(crate) fn places_of(&mut self, alloc: Global, look: Look) -> Result<Places, AllocError>
-        ensures look { IfOk result (λ places. look_of self.new places ≡ look) }
+    /// The places of the parts of what the desk shows, with all points of the files that are asked what they list. A part that has
+    /// no place yet is put last.
+    pub(crate) fn look_at(
+        &mut self,
+        alloc: Global,
+        asked: &[Name],
+        desk: &Desk,
+    ) -> Result<Places, AllocError>
+        ensures shows { IfOk result (λ places. Shows (has_name asked.now) (look_of self.new places) desk.now) }
         ensures fits { IfOk result (Fits self.new) }
         ensures grown { IsGrown self.old self.new }
     {
-        let Look {
-            timelines,
-            files,
-            buffers,
-        } = look;
-        let timelines = self.timelines.place_of(timelines)?;
-        let buffers = self.buffers.place_of(buffers)?;
-        let files = file_places(alloc, &mut self.files, files.into_vec())?;
+        let timelines = timelines_place(&mut self.timelines, desk)?;
+        let buffers = buffers_place(alloc, &mut self.buffers, desk)?;
+        let files = file_places(alloc, asked, &mut self.files, desk)?;
         Ok(Places {
             timelines,
             files,
@@ -57,32 +62,88 @@ impl Parts {
     }
 }
 
+fn timelines_place(table: &mut Table<Items<TimelineRow>>, desk: &Desk) -> Result<usize, AllocError>
+    ensures there { IfOk result (λ place. slice_get table.new place ≡ Some (timeline_rows desk.now.timelines)) }
+    ensures begins { Begins table.old table.new }
+{
+    let Ok(rows) = desk.timeline_rows() else {
+        return Err(AllocError);
+    };
+    table.place_of(Items::of(rows))
+}
+
+fn buffers_place(
+    alloc: Global,
+    table: &mut Table<Items<BufferLook>>,
+    desk: &Desk,
+) -> Result<usize, AllocError>
+    ensures there { IfOk result (λ place. slice_get table.new place ≡ Some (map (buffer_look desk.now) (buffer_names desk.now.buffers))) }
+    ensures begins { Begins table.old table.new }
+{
+    let Ok(names) = desk.buffer_names() else {
+        return Err(AllocError);
+    };
+    let Ok(looks) = buffer_looks(alloc, desk, names.as_slice()) else {
+        drop(names);
+        return Err(AllocError);
+    };
+    drop(names);
+    table.place_of(Items::of(looks))
+}
+
 fn file_places(
     alloc: Global,
+    asked: &[Name],
     table: &mut Table<FileLook>,
-    files: Vec<FileLook>,
+    desk: &Desk,
 ) -> Result<Vec<usize>, AllocError>
-    ensures files { IfOk result (λ places. map (file_at table.new) places.items ≡ files.items) }
+    ensures files { IfOk result (λ places. map (file_at table.new) places.items
+        ≡ map (file_look (has_name asked.now) desk.now) (file_names desk.now.files)) }
+    ensures distinct { HasDistinctNames desk.now.files }
     ensures fit { IfOk result (λ places. All (λ (i : ℕ). i < length table.new) places.items) }
     ensures begins { Begins table.old table.new }
 {
-    let mut places = Vec::with_capacity(alloc, files.len())?;
-    for file in files {
-        put_place(table, &mut places, file)?;
+    let Ok(names) = desk.file_names() else {
+        return Err(AllocError);
+    };
+    let places = places_of(alloc, asked, table, desk, names.as_slice());
+    drop(names);
+    places
+}
+
+/// The places of the files of these names.
+fn places_of(
+    alloc: Global,
+    asked: &[Name],
+    table: &mut Table<FileLook>,
+    desk: &Desk,
+    names: &[Name],
+) -> Result<Vec<usize>, AllocError>
+    ensures files { IfOk result (λ places. map (file_at table.new) places.items ≡ map (file_look (has_name asked.now) desk.now) names.now) }
+    ensures fit { IfOk result (λ places. All (λ (i : ℕ). i < length table.new) places.items) }
+    ensures begins { Begins table.old table.new }
+{
+    let mut places = Vec::with_capacity(alloc, names.len())?;
+    for name in names {
+        put_place(alloc, asked, table, desk, name, &mut places)?;
     }
     Ok(places)
 }
 
 fn put_place(
+    alloc: Global,
+    asked: &[Name],
     table: &mut Table<FileLook>,
+    desk: &Desk,
+    name: &Name,
     places: &mut Vec<usize>,
-    file: FileLook,
 ) -> Result<(), AllocError>
-    ensures put { OnOk result ((place : ℕ) × (slice_get table.new place ≡ Some file)
+    ensures put { OnOk result ((place : ℕ) × (slice_get table.new place ≡ Some (file_look (has_name asked.now) desk.now name.now))
         × (places.new.items ≡ places.old.items ++ place ∷ [])) }
     ensures begins { Begins table.old table.new }
 {
-    let place = table.place_of(file)?;
+    let look = file_look(alloc, asked, desk, name)?;
+    let place = table.place_of(look)?;
     places.push(place)?;
     Ok(())
 }

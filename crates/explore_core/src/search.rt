@@ -14,7 +14,7 @@ use crate::listing::record;
 use crate::plan::Plan;
 use crate::position::{Position, line_at, make};
 use crate::progress::{clear_made, place_of};
-use crate::state::{Seen, State};
+use crate::state::State;
 use crate::visit::Visit;
 use point_core::Name;
 use std::alloc::{AllocError, Global};
@@ -140,9 +140,7 @@ fn next_level(
     count(found, states.len());
     let mut next = Level::new(alloc, bound.saturating_sub(found.states));
     let visited = visit_all(alloc, plan, asked, depth, states, visit, found, &mut next);
-    let Ok(states) = next.into_states(alloc) else {
-        return Err(Stop::Memory);
-    };
+    let states = next.into_states();
     match visited {
         Ok(()) => Ok(states),
         Err(stop) => Err(stop),
@@ -296,12 +294,12 @@ fn try_client(
     let Ok(_done) = record(&mut found.given, client, place, answer, schedule) else {
         return Err(Stop::Memory);
     };
-    let Ok(later) = Seen::of(alloc, asked, schedule, client, &visit.position) else {
+    let Ok(later) = State::after(alloc, schedule, client, visit.position.made.as_slice()) else {
         return Err(Stop::Memory);
     };
+    next.keep(alloc, asked, later, &visit.position.desk)?;
     // If the line has changed nothing, the desk is at the state again.
     visit.position.count_to(client, place);
-    next.keep(alloc, later)?;
     Ok(Move::Goes)
 }
 

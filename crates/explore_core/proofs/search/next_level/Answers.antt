@@ -10,21 +10,18 @@ use Rattle.explore_core.proofs.search.next_level.Goals as goal
 pub visit_all-visited-requires-clause-next : goal.visit_all-visited-requires-clause-next
 visit_all-visited-requires-clause-next c = none-seen-yet c.args.plan.now (c.args.depth + 1) _ c.new-next.ensures
 
-pub returns-in_default-clause-grows : goal.returns-in_default-clause-grows
-returns-in_default-clause-grows c = Grows-trans (c.count.ensures c.args.plan.now c.args.depth) c.visit_all-visited.ensures.grows
-
 pub returns-in-Err-clause-grows : goal.returns-in-Err-clause-grows
 returns-in-Err-clause-grows c = Grows-trans (c.count.ensures c.args.plan.now c.args.depth) c.visit_all-visited.ensures.grows
 
-pub returns-in-Ok-visited-clause-grows : goal.returns-in-Ok-visited-clause-grows
-returns-in-Ok-visited-clause-grows c = Grows-trans (c.count.ensures c.args.plan.now c.args.depth) c.visit_all-visited.ensures.grows
+pub returns-in-Ok-clause-grows : goal.returns-in-Ok-clause-grows
+returns-in-Ok-clause-grows c = Grows-trans (c.count.ensures c.args.plan.now c.args.depth) c.visit_all-visited.ensures.grows
 
-pub returns-in-Ok-visited-clause-next : goal.returns-in-Ok-visited-clause-next
-returns-in-Ok-visited-clause-next c =
+pub returns-in-Ok-clause-next : goal.returns-in-Ok-clause-next
+returns-in-Ok-clause-next c =
     let seen = c.visit_all-visited.ensures.extends.seen (none-seen-yet c.args.plan.now (c.args.depth + 1) _ c.new-next.ensures) in
-    subst (All (IsState c.args.plan.now (c.args.depth + 1))) (sym c.in-Ok.ensures.states) (All-states c.args.plan.now (c.args.depth + 1) c.visit_all-visited.new.next seen)
+    subst (All (IsState c.args.plan.now (c.args.depth + 1))) (sym c.into_states-states.ensures) (All-states c.args.plan.now (c.args.depth + 1) c.visit_all-visited.new.next seen)
 
-pub returns-in-Ok-visited-clause-visited : goal.returns-in-Ok-visited-clause-visited
-returns-in-Ok-visited-clause-visited c =
-    let visited = subst (λ (r : Result (Unit {0}) Stop). OnOk r (All (IsVisited c.args.plan.now c.visit_all-visited.new.found (states_of c.visit_all-visited.new.next)) c.args.states.now)) c.in-Ok-visited.is c.visit_all-visited.ensures.visited in
-    subst (λ next. All (IsVisited c.args.plan.now c.visit_all-visited.new.found next) c.args.states.now) (sym c.in-Ok.ensures.states) visited
+pub returns-in-Ok-clause-visited : goal.returns-in-Ok-clause-visited
+returns-in-Ok-clause-visited c =
+    let visited = subst (λ (r : Result (Unit {0}) Stop). OnOk r (All (IsVisited c.args.plan.now c.visit_all-visited.new.found (states_of c.visit_all-visited.new.next)) c.args.states.now)) c.in-Ok.is c.visit_all-visited.ensures.visited in
+    subst (λ next. All (IsVisited c.args.plan.now c.visit_all-visited.new.found next) c.args.states.now) (sym c.into_states-states.ensures) visited

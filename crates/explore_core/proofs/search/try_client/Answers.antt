@@ -2,10 +2,10 @@ use Rattle.std.proofs.Common.{◌+◌, refl, sym, ap, ◌∙◌, subst, Option, 
 use Rattle.command_core.specs.declared.answer.Answer.{Answer}
 use Rattle.explore_core.specs.declared.position.Position.{Position}
 use Rattle.explore_core.specs.Schedule.{Schedule, ComesTo, lines_of}
-use Rattle.explore_core.specs.Search.{Extends, IsAt, IsTurn, IsVisitOf, standing_of, standing_after, states_of, stays}
+use Rattle.explore_core.specs.Search.{Extends, Seen, IsAt, IsTurn, IsVisitOf, standing_of, standing_after, states_of, stays}
 use Rattle.explore_core.proofs.Levels.{Grows-refl, Extends-refl}
 use Rattle.explore_core.proofs.Finding.{Extends-kept}
-use Rattle.explore_core.proofs.Trying.{place-here, tried-done, tried-waits, tried-made, later-reached, later-seen, Grows-answered}
+use Rattle.explore_core.proofs.Trying.{place-here, tried-done, tried-waits, tried-made, later-reached, later-seen, Grows-answered, seen-after}
 use Rattle.explore_core.proofs.Visiting.{IsAt-back, stays-here}
 use Rattle.explore_core.proofs.search.try_client.Goals as goal
 
@@ -58,8 +58,8 @@ pub returns-in_default-record-clause-extends : goal.returns-in_default-record-cl
 returns-in_default-record-clause-extends c =
     Extends-refl c.args.plan.now (c.args.depth + 1) c.args.next.now
 
-pub returns-in_default-of-clause-grows : goal.returns-in_default-of-clause-grows
-returns-in_default-of-clause-grows c =
+pub returns-in_default-after-clause-grows : goal.returns-in_default-after-clause-grows
+returns-in_default-after-clause-grows c =
     let plan = c.args.plan.now in
     let s = c.as_slice-schedule.result.now in
     let is = c.as_slice-schedule.ensures.value in
@@ -71,8 +71,8 @@ returns-in_default-of-clause-grows c =
     let made = subst (λ (o : Option Answer). IsTurn plan now c.args.client c.place_of-place.result o c.go.new.self) c.in-Some-made.is turn in
     Grows-answered is c.requires.state made.0 c.args.found.now _ c.record.ensures.records refl refl
 
-pub returns-in_default-of-clause-extends : goal.returns-in_default-of-clause-extends
-returns-in_default-of-clause-extends c =
+pub returns-in_default-after-clause-extends : goal.returns-in_default-after-clause-extends
+returns-in_default-after-clause-extends c =
     Extends-refl c.args.plan.now (c.args.depth + 1) c.args.next.now
 
 pub returns-in_default-clause-tried : goal.returns-in_default-clause-tried
@@ -153,8 +153,11 @@ returns-clause-extends c =
     let turn = c.in-Ok-go.ensures.made plan now at here next in
     let made = subst (λ (o : Option Answer). IsTurn plan now c.args.client c.place_of-place.result o c.go.new.self) c.in-Some-made.is turn in
     let there = subst (λ (p : Position). IsAt p (standing_after plan now c.args.client)) (sym c.note.ensures.position) made.1 in
-    let reached = later-reached is c.requires.state made.0 there c.in-Ok-of.ensures.schedule (c.in-Ok-of.ensures.seen plan c.requires.asked) in
-    Extends-kept c.in_ok-keep.ensures.keeps (later-seen is c.requires.state made.0 reached)
+    let keeps = c.in_ok-keep.ensures.keeps in
+    let later : Seen = record { state = c.in-Ok-after.later; look = keeps.0 } in
+    let reached = later-reached is c.requires.state made.0 {later = later} there c.in-Ok-after.ensures.schedule
+    (seen-after c.args.asked.now c.requires.asked c.in-Ok-after.ensures.schedule (c.in-Ok-after.ensures.made ∙ c.as_slice-2.ensures.value) keeps.1) in
+    Extends-kept keeps.2 (later-seen is c.requires.state made.0 reached)
 
 pub returns-clause-tried : goal.returns-clause-tried
 returns-clause-tried c =
@@ -168,8 +171,11 @@ returns-clause-tried c =
     let turn = c.in-Ok-go.ensures.made plan now at here next in
     let made = subst (λ (o : Option Answer). IsTurn plan now c.args.client c.place_of-place.result o c.go.new.self) c.in-Some-made.is turn in
     let there = subst (λ (p : Position). IsAt p (standing_after plan now c.args.client)) (sym c.note.ensures.position) made.1 in
-    let reached = later-reached is c.requires.state made.0 there c.in-Ok-of.ensures.schedule (c.in-Ok-of.ensures.seen plan c.requires.asked) in
-    tried-made is c.requires.state made.0 reached c.requires.explorable c.requires.next c.in-Ok-record.ensures.lists c.in_ok-keep.ensures.keeps
+    let keeps = c.in_ok-keep.ensures.keeps in
+    let later : Seen = record { state = c.in-Ok-after.later; look = keeps.0 } in
+    let reached = later-reached is c.requires.state made.0 {later = later} there c.in-Ok-after.ensures.schedule
+    (seen-after c.args.asked.now c.requires.asked c.in-Ok-after.ensures.schedule (c.in-Ok-after.ensures.made ∙ c.as_slice-2.ensures.value) keeps.1) in
+    tried-made is c.requires.state made.0 reached c.requires.explorable c.requires.next c.in-Ok-record.ensures.lists keeps.2
 
 pub returns-clause-at : goal.returns-clause-at
 returns-clause-at c = λ fresh.
