@@ -1,5 +1,5 @@
 //! `Making`: a desk on which the rows of a plan are made in the order of a schedule. Reports and scripts of schedules go by it.
-ghost use Rattle.std.specs.Prelude.{◌≡◌, ◌++◌, ◌∷◌, [], IfOk, List, OnOk, get_or, replicate, set};
+ghost use Rattle.std.specs.Prelude.{◌≡◌, ◌++◌, ◌∷◌, [], IfOk, List, OnOk, set};
 ghost use Rattle.command_core.specs.declared.command.Command.{Command as Made};
 ghost use Rattle.explore_core.specs.Schedule.{Standing, answer_now, place_after};
 ghost use Rattle.explore_report.specs.Making.{HasFollowed, HasMade, command_at, commands_along, fresh, own_command, own_standing, standing_along, standing_past, standing_with};
@@ -9,7 +9,7 @@ use crate::plan_script::PlanScript;
 use crate::row::push_commands;
 use command_core::{Answer, Command};
 use desk_core::Desk;
-use explore_core::{Step, line_at, make};
+use explore_core::{Step, clear_made, count_to, line_at, make, place_of};
 use std::alloc::{AllocError, Global};
 
 /// The rows of a plan in the order in which a schedule makes them, and the desk that answers them.
@@ -159,7 +159,7 @@ impl Making {
         ensures answers { self.new.answers ≡ self.old.answers }
         ensures made { self.new.made.items ≡ set self.old.made.items client place }
     {
-        set(self.made.as_mut_slice(), client, place);
+        count_to(&mut self.made, client, place);
     }
 
     /// The next line of the section's client, if the section is a client's.
@@ -192,32 +192,6 @@ impl Making {
             self.push_line(plan, client)?;
         }
         Ok(())
-    }
-}
-
-/// No lines made, for each client.
-fn clear_made(made: &mut Vec<usize>, clients: usize) -> Result<(), AllocError>
-    ensures none { OnOk result (made.new.items ≡ replicate clients 0) }
-{
-    made.clear();
-    for _ in 0..clients {
-        made.push(0)?;
-    }
-    Ok(())
-}
-
-/// How many lines the client has made or skipped.
-fn place_of(made: &[usize], client: usize) -> usize
-    ensures { result ≡ get_or made.now client 0 }
-{
-    made.get(client).copied().unwrap_or(0)
-}
-
-fn set(made: &mut [usize], client: usize, place: usize)
-    ensures { made.new ≡ set made.old client place }
-{
-    if client < made.len() {
-        made[client] = place;
     }
 }
 

@@ -1,4 +1,0 @@
-use Rattle.explore_report.proofs.schedule.clear_made.Goals as goal
-
-pub loop-init : goal.loop-init
-loop-init c = c.clear.ensures.items
