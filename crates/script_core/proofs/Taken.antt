@@ -1,7 +1,8 @@
 -- Lines whose bytes were taken are answered.
-use Rattle.std.proofs.Common.{ℕ, List, [], ◌++◌, Option, None, Some, append-nil}
-use Rattle.std.specs.Prelude.{Result, OnOk, OnErr}
+use Rattle.std.proofs.Common.{◌≡◌, ℕ, List, [], ◌++◌, Option, None, Some, append-nil}
+use Rattle.std.specs.Prelude.{◌⊎◌, Result, OnOk, OnErr, IfErr}
 use Rattle.point_core.specs.declared.refusal.Refusal.{Refusal}
+use Rattle.point_core.specs.declared.refusal.Refusal.TheVariants.{Write as WriteFault, Memory}
 use Rattle.line_core.specs.declared.line.Body.{Body}
 use Rattle.line_core.specs.declared.line.Line.{Line}
 use Rattle.line_core.specs.Script.{answered}
@@ -20,3 +21,7 @@ Taken-err number (Some b) given before after old new h = h.err
 pub Taken-grows : (number : ℕ) (o : Option Body) (given : Result (Option Refusal) Refusal) (before after : AnswersState) (old new : Option (List ℕ)) → IsAnsweredIf number o given before after old new → Grows old new
 Taken-grows number None given before after old new h = rw h.2 (Grows-none old)
 Taken-grows number (Some b) given before after old new h = h.grows
+
+pub Taken-refusals : (number : ℕ) (o : Option Body) (given : Result (Option Refusal) Refusal) (before after : AnswersState) (old new : Option (List ℕ)) → IsAnsweredIf number o given before after old new → IfErr given (λ refusal. (refusal ≡ WriteFault) ⊎ (refusal ≡ Memory))
+Taken-refusals number None given before after old new h = rw h.0 tt
+Taken-refusals number (Some b) given before after old new h = h.refusals

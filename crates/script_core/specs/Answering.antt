@@ -1,15 +1,16 @@
 -- Lines that are answered one after another.
-use Rattle.std.specs.Prelude.{◌≡◌, ◌≤◌, ◌+◌, ◌⊎◌, ℕ, List, [], ◌∷◌, ◌++◌, Option, None, Some, Result, Ok, OnOk, OnErr, IfOk, IfErr}
+use Rattle.std.specs.Prelude.{◌≡◌, ◌≤◌, ◌+◌, ◌⊎◌, ℕ, List, [], ◌∷◌, ◌++◌, Option, None, Some, Result, Ok, OnOk, OnErr, IfOk, IfErr, if◌then◌else◌}
 use Rattle.std.specs.Io.KnownBytes.{Appends}
 use Rattle.point_core.specs.declared.refusal.Refusal.{Refusal}
 use Rattle.point_core.specs.declared.refusal.Refusal.TheVariants.{Write as WriteFault, Memory}
 use Rattle.line_core.specs.declared.line.Body.{Body}
 use Rattle.command_core.specs.declared.command.Command.{Command}
 use Rattle.command_core.specs.declared.answer.Answer.{Answer}
+use Rattle.desk_core.specs.theorem.Answer.{is_refused}
 use Rattle.desk_core.specs.theorem.Desk.{DeskState, HasHistory}
 use Rattle.line_core.specs.declared.line.Line.{Line}
 use Rattle.script_core.specs.declared.totals.Totals.{Totals}
-use Rattle.report_core.specs.Bytes.{PassesOn}
+use Rattle.report_core.specs.Bytes.{AppendsFront, PassesOn}
 use Rattle.report_core.specs.Answer.{text_of}
 use Rattle.script_core.specs.Output.{history_after_line, IsLineAnswer, AreLineAnswers, refusal_of, texts_of, Grows, WritesAnswers, WritesPrefix, Counts}
 
@@ -60,6 +61,17 @@ pub record AnswersLine (l : Line) (refused : Option Refusal) (before after : Ans
       → HasHistory after.desk (history_after_line history l.body given)
   pub passed : PassesOn before.out after.out (text_of l.number given) old new
   pub refusal : refusal_of given ≡ refused
+
+-- The answer of line `number` was counted, and its text was passed on, or a part of what was pending was written.
+pub record Passes (number : ℕ) (given : Answer) (passed : Result (Option Refusal) Refusal) (before after : AnswersState)
+    (old new : Option (List ℕ)) : Type 0 where
+  pub ok : OnOk passed (PassesOn before.out after.out (text_of number given) old new)
+  pub refused : IfOk passed (λ refused. refusal_of given ≡ refused)
+  pub err : OnErr passed (AppendsFront old new (before.out ++ text_of number given))
+  pub desk : after.desk ≡ before.desk
+  pub lines : after.totals.lines ≡ before.totals.lines + 1
+  pub counted : after.totals.refused ≡ before.totals.refused + (if is_refused given then 1 else 0)
+  pub refusals : IfErr passed (λ refusal. (refusal ≡ WriteFault) ⊎ (refusal ≡ Memory))
 
 -- the lines were answered, and the totals count them
 pub record AnswersLines (lines : List Line) (totals : Totals) (old new : Option (List ℕ)) : Type 0 where

@@ -37,7 +37,7 @@ impl Model for Answers {
 }
 
 impl Answers {
-    ghost use Rattle.script_core.specs.Answering.{HasAnswered, AnswersFront, AnswersLine, AnswersLines, AnswersMore};
+    ghost use Rattle.script_core.specs.Answering.{HasAnswered, AnswersFront, AnswersLine, AnswersLines, AnswersMore, Passes};
 
     /// No line has been answered.
     ///
@@ -114,6 +114,40 @@ impl Answers {
         ensures refusals { IfErr result (λ refusal. (refusal ≡ WriteFault) ⊎ (refusal ≡ Memory)) }
     {
         let answer = answer_line(&mut self.desk, body);
+        match answer {
+            Answer::Refused(refusal) => self.pass_refusal(number, refusal, writer),
+            answer => self.pass(number, answer, writer),
+        }
+    }
+
+    /// As `pass`, of a refusal. It is never inlined: where `pass` took refusals and other answers, LLVM counted each line by
+    /// selects.
+    #[inline(never)]
+    fn pass_refusal<W: Write>(
+        &mut self,
+        number: u32,
+        refusal: Refusal,
+        writer: &mut W,
+    ) -> Result<Option<Refusal>, Refusal>
+        requires few { self.old.totals.lines < number }
+        ensures passed { Passes number (Answer.Refused refusal) result self.old self.new
+            (W.contents writer.old) (W.contents writer.new) }
+    {
+        self.pass(number, Answer::Refused(refusal), writer)
+    }
+
+    /// Counts the answer of line `number`, passes its text on, and returns the refusal if the answer is one.
+    #[inline(always)]
+    fn pass<W: Write>(
+        &mut self,
+        number: u32,
+        answer: Answer,
+        writer: &mut W,
+    ) -> Result<Option<Refusal>, Refusal>
+        requires few { self.old.totals.lines < number }
+        ensures passed { Passes number answer result self.old self.new
+            (W.contents writer.old) (W.contents writer.new) }
+    {
         let refused = refusal_of(&answer);
         self.totals = self.totals.with(&answer);
         pass_answer(number, answer, &mut self.out, writer)?;

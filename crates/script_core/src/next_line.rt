@@ -1,10 +1,7 @@
 //! `NextLine`: the visitor that answers a line where it is parsed, so that its command is never stored.
-ghost use Rattle.std.specs.Prelude.{◌≡◌, ◌+◌, ◌<◌, ◌≤◌, ◌⊎◌, [], Option, None, MatchOption, IfOk, OnOk, OnErr, IfErr};
-ghost use Rattle.point_core.specs.declared.refusal.Refusal.TheVariants.{Write as WriteFault, Memory};
+ghost use Rattle.std.specs.Prelude.{◌<◌};
 ghost use Rattle.line_core.specs.Line.{body_of};
-ghost use Rattle.line_core.specs.Script.{answered};
-ghost use Rattle.script_core.specs.Answering.{AnswersFront, AnswersLine, AnswersMore, IsAnsweredIf};
-ghost use Rattle.script_core.specs.Output.{Grows};
+ghost use Rattle.script_core.specs.Answering.{IsAnsweredIf};
 
 use crate::answers::Answers;
 use line_core::{Body, RawLine, Takes, take_raw_line};
@@ -16,27 +13,6 @@ use std::io::Write;
 /// Fails as `Answers::answer`.
 #[inline(always)]
 pub(crate) fn answer_raw<W: Write>(
-    answers: &mut Answers,
-    line: &RawLine<'_>,
-    writer: &mut W,
-) -> Result<Option<Refusal>, Refusal>
-    requires few { answers.old.totals.lines < line.now.number }
-    ensures ok { OnOk result (AnswersMore (answered line.now.number (body_of line.now.bytes.now) [])
-        answers.old answers.new (W.contents writer.old) (W.contents writer.new)) }
-    ensures refused { IfOk result (λ refused. MatchOption (body_of line.now.bytes.now) (refused ≡ None) (λ said.
-        AnswersLine (record { number = line.now.number; body = said }) refused answers.old answers.new
-        (W.contents writer.old) (W.contents writer.new))) }
-    ensures err { OnErr result (AnswersFront (answered line.now.number (body_of line.now.bytes.now) [])
-        answers.old (W.contents writer.old) (W.contents writer.new)) }
-    ensures grows { Grows (W.contents writer.old) (W.contents writer.new) }
-    ensures lines { answers.new.totals.lines ≤ answers.old.totals.lines + 1 }
-    ensures refusals { IfErr result (λ refusal. (refusal ≡ WriteFault) ⊎ (refusal ≡ Memory)) }
-{
-    take_raw(answers, line, writer)
-}
-
-#[inline(always)]
-fn take_raw<W: Write>(
     answers: &mut Answers,
     line: &RawLine<'_>,
     writer: &mut W,

@@ -1,30 +1,34 @@
-use Rattle.std.proofs.Common.{[], ◌∷◌, ◌++◌, refl, sym, subst}
-use Rattle.std.proofs.lemmas.Result.{err_from_is_err_and}
-use Rattle.line_core.specs.declared.line.Line.{Line}
-use Rattle.script_core.specs.Answering.{HasAnswered}
-use Rattle.script_core.proofs.Progress.{Grows-front, Progress-line, Progress-write, Progress-unwritten}
+use Rattle.std.proofs.Common.{arith}
+use Rattle.command_core.specs.declared.answer.Answer.TheVariants as answer
+use Rattle.script_core.specs.Answering.{AnswersState}
+use Rattle.script_core.proofs.Passed.{Passed-ok, Passed-refused, Passed-err, Passed-grows}
 use Rattle.script_core.proofs.answers.Answers.answer_body.Goals as goal
 
-pub returns-in_err-pass_answer-clause-err : goal.returns-in_err-pass_answer-clause-err
-returns-in_err-pass_answer-clause-err g c =
-    let q = err_from_is_err_and c.from_residual.result c.from_residual.ensures.1 in
-    let line : Line = record { number = c.args.number; body = c.args.body } in
-    rw q.1 (λ done start p.
-    let before = subst (λ s. HasAnswered done s start (g.W.Write.contents c.args.writer.now)) (sym c.self.view_is) p in
-    Progress-unwritten done _ _ _ start _ _ line c.answer_line-answer.result before c.answer_line-answer.ensures.answer c.in_err-pass_answer.ensures.err)
+pub returns-in-Refused-clause-ok : goal.returns-in-Refused-clause-ok
+returns-in-Refused-clause-ok g c =
+    let before : AnswersState = record { desk = c.self.inside.desk; out = c.self.inside.out.items; totals = c.self.inside.totals } in
+    rw (← c.self.view_is)
+    (Passed-ok c.args.number c.args.body (answer.Refused c.in-Refused.refusal) c.pass_refusal.result before c.pass_refusal.new.self c.answer_line-answer.new.desk (g.W.Write.contents c.args.writer.now) (g.W.Write.contents c.pass_refusal.new.writer) c.in-Refused.ensures.answer c.in-Refused.ensures.stands c.pass_refusal.ensures.passed)
 
-pub returns-clause-ok : goal.returns-clause-ok
-returns-clause-ok g c done start p =
-    let line : Line = record { number = c.args.number; body = c.args.body } in
-    let before = subst (λ s. HasAnswered done s start (g.W.Write.contents c.args.writer.now)) (sym c.self.view_is) p in
-    let passed = c.in_ok-pass_answer.ensures.ok in
-    let after = Progress-line done _ _ _ _ _ c.with-self-inside.result start _ line _ before c.answer_line-answer.ensures.answer c.answer_line-answer.ensures.stands refl c.with-self-inside.ensures.lines c.with-self-inside.ensures.refused in
-    Progress-write (done ++ line ∷ []) _ _ _ _ start _ _ after (passed.written, passed.whole, passed.appended)
+pub returns-in-Refused-clause-err : goal.returns-in-Refused-clause-err
+returns-in-Refused-clause-err g c =
+    let before : AnswersState = record { desk = c.self.inside.desk; out = c.self.inside.out.items; totals = c.self.inside.totals } in
+    rw (← c.self.view_is)
+    (Passed-err c.args.number c.args.body (answer.Refused c.in-Refused.refusal) c.pass_refusal.result before c.pass_refusal.new.self c.answer_line-answer.new.desk (g.W.Write.contents c.args.writer.now) (g.W.Write.contents c.pass_refusal.new.writer) c.in-Refused.ensures.answer c.in-Refused.ensures.stands c.pass_refusal.ensures.passed)
 
-pub returns-in_err-pass_answer-clause-grows : goal.returns-in_err-pass_answer-clause-grows
-returns-in_err-pass_answer-clause-grows g c = Grows-front _ _ _ c.in_err-pass_answer.ensures.err
-
-pub returns-clause-grows : goal.returns-clause-grows
-returns-clause-grows g c =
-    let passed = c.in_ok-pass_answer.ensures.ok in
-    (passed.written, passed.appended)
+pub returns-in_default : goal.returns-in_default
+returns-in_default g c =
+    let before : AnswersState = record { desk = c.self.inside.desk; out = c.self.inside.out.items; totals = c.self.inside.totals } in
+    let old = g.W.Write.contents c.args.writer.now in
+    let new = g.W.Write.contents c.pass.new.writer in
+    let desk = c.answer_line-answer.new.desk in
+    let is = c.answer_line-answer.ensures.answer in
+    let stands = c.answer_line-answer.ensures.stands in
+    record {
+      ok = rw (← c.self.view_is) (Passed-ok c.args.number c.args.body c.answer_line-answer.result c.pass.result before c.pass.new.self desk old new is stands c.pass.ensures.passed);
+      refused = rw (← c.self.view_is) (Passed-refused c.args.number c.args.body c.answer_line-answer.result c.pass.result before c.pass.new.self desk old new is stands c.pass.ensures.passed);
+      err = rw (← c.self.view_is) (Passed-err c.args.number c.args.body c.answer_line-answer.result c.pass.result before c.pass.new.self desk old new is stands c.pass.ensures.passed);
+      grows = Passed-grows c.args.number c.args.body c.answer_line-answer.result c.pass.result before c.pass.new.self desk old new is stands c.pass.ensures.passed;
+      lines = rw (← c.self.view_is) (omega (arith, c.pass.ensures.passed.lines));
+      refusals = c.pass.ensures.passed.refusals;
+    }
