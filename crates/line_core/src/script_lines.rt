@@ -123,6 +123,10 @@ impl ScriptLines {
         if self.end_scanned() {
             return true;
         }
+        self.scan_on();
+        if self.end_scanned() {
+            return true;
+        }
         self.advance_unscanned()
     }
 
@@ -145,15 +149,11 @@ impl ScriptLines {
         true
     }
 
-    /// Advances to the next line by another scan, or by a search of the bytes that were read.
+    /// Advances to the next line by a search of the bytes that were read.
     #[inline(never)]
     fn advance_unscanned(&mut self) -> bool
         ensures advanced { Advances self.old result self.new }
     {
-        self.scan_on();
-        if self.end_scanned() {
-            return true;
-        }
         self.go_on();
         match first_line_feed(self.ready()) {
             Some(place) => {
@@ -168,7 +168,8 @@ impl ScriptLines {
     }
 
     /// Scans the bytes that are ready, if the line before has ended and was short, since the next line is then likely
-    /// to be short too.
+    /// to be short too. It is not inlined, so that its registers are not the loop's.
+    #[inline(never)]
     fn scan_on(&mut self)
         ensures same { self.new ≡ self.old }
     {
