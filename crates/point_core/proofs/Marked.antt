@@ -1,79 +1,114 @@
 -- The marks of the lanes, one bit for each allowed byte, decide whether bytes are a name.
-use Rattle.std.proofs.Common.{◌≡◌, ℕ, zero, suc, ◌+◌, ◌-◌, ◌%◌, ◌^◌, ◌<◌, ◌≤◌, Bool, true, false, ◌&&◌, cond, eqb, leb, List, [], ◌∷◌, length, get_or, map, take, drop, replicate, inl, inr, refl, sym, ap, subst, ◌∙◌, take-append-drop, arith, w8, w64, Fits}
+use Rattle.std.proofs.Common.{◌≡◌, ℕ, zero, suc, ◌+◌, ◌*◌, ◌-◌, ◌/◌, ◌%◌, ◌^◌, ◌<◌, ◌≤◌, Bool, true, false, ◌&&◌, not, cond, eqb, List, [], ◌∷◌, length, get_or, map, take, drop, replicate, inl, inr, refl, sym, ap, subst, ◌∙◌, take-append-drop, arith, w8, w64, Fits}
 use Rattle.std.specs.Int.{bit_at, trailing_ones}
+use Rattle.std.specs.Int.Bits.{bit_and, mask_lt}
 use Rattle.std.specs.List.{list_all, range_with_len}
 use Rattle.std.specs.Simd.Lanes.{zip2, Each1, mask_l, top}
 use Rattle.std.proofs.lemmas.Bool.{cases_lt, and_parts}
-use Rattle.std.proofs.lemmas.List.{length-map, get_or-map, get_or_append_left, map-id, take_rest}
+use Rattle.std.proofs.lemmas.List.{length-map, get_or-map, get_or_append_left, ext_get_or, take_rest}
 use Rattle.std.proofs.lemmas.List.Folds.{list_all-append}
 use Rattle.std.proofs.lemmas.List.FromFn.{get_or-map-range_with_len}
 use Rattle.std.proofs.lemmas.Nat.Bits.{bit_at-trailing_ones}
-use Rattle.std.proofs.lemmas.Simd.{bit_mask_l, mask_l-lt, mask_l-mod, zip2_of_maps, splat_is_map, map-map}
-use lib.Bits.{bit_or}
+use Rattle.std.proofs.lemmas.Simd.{bit_mask_l, bitmask_splat, mask_l-lt, zip2_of_maps, zip2_splat, map-map, Each1-get_or, SwzOk, SwzOk-from_below, swz_l, length-swz_l, get_or-swz_l_below}
 use Rattle.point_core.specs.Name.{is_name_byte}
 use Rattle.point_core.proofs.Padded.{half_padded, length-half_padded}
 
--- the result of a comparison in one lane
-abbrev at_most : ℕ → ℕ → ℕ
-at_most a b = cond (leb a b) 255 0
+-- the bits of each low half of a byte, and of each high half
+abbrev bits_of_low : List ℕ
+bits_of_low = 42 ∷ 62 ∷ 62 ∷ 62 ∷ 62 ∷ 62 ∷ 62 ∷ 62 ∷ 62 ∷ 62 ∷ 60 ∷ 20 ∷ 20 ∷ 21 ∷ 21 ∷ 28 ∷ []
 
-abbrev equal : ℕ → ℕ → ℕ
-equal a b = cond (eqb a b) 255 0
+abbrev bits_of_high : List ℕ
+bits_of_high = 0 ∷ 0 ∷ 1 ∷ 2 ∷ 4 ∷ 8 ∷ 16 ∷ 32 ∷ 0 ∷ 0 ∷ 0 ∷ 0 ∷ 0 ∷ 0 ∷ 0 ∷ 0 ∷ []
 
-abbrev minus : ℕ → ℕ → ℕ
-minus a b = (a + (256 - b)) % 256
+abbrev low_half : ℕ → ℕ
+low_half b = bit_and b 15
 
-abbrev is_between : ℕ → ℕ → ℕ → ℕ
-is_between low more b = at_most (minus b low) more
+abbrev high_half : ℕ → ℕ
+high_half b = b / 2 ^ 4
 
-abbrev name_lane : ℕ → ℕ
-name_lane b = bit_or (bit_or (bit_or (is_between 97 25 (bit_or b 32)) (is_between 48 9 b)) (is_between 45 1 b)) (equal b 95)
+abbrev common_bits : ℕ → ℕ
+common_bits b = bit_and (get_or bits_of_low (low_half b) 0) (get_or bits_of_high (high_half b) 0)
+
+differs : ℕ → ℕ → Bool
+differs a b = not (eqb a b)
 
 -- compared with the definition at each of the 256 bytes, by computation
-each_byte : map (λ b. top 7 (name_lane b)) (range_with_len 0 256) ≡ map is_name_byte (range_with_len 0 256)
+each_byte : map (λ b. differs (common_bits b) 0) (range_with_len 0 256) ≡ map is_name_byte (range_with_len 0 256)
+unfolding differs
 each_byte = refl
 
-name_lane-is : (b : ℕ) → b < 256 → top 7 (name_lane b) ≡ is_name_byte b
-name_lane-is b h =
-    sym (get_or-map-range_with_len (λ x. top 7 (name_lane x)) 0 256 b b false h (omega arith))
+common_bits-is : (b : ℕ) → b < 256 → differs (common_bits b) 0 ≡ is_name_byte b
+common_bits-is b h =
+    sym (get_or-map-range_with_len (λ x. differs (common_bits x) 0) 0 256 b b false h (omega arith))
     ∙ ap (λ t. get_or t b false) each_byte
     ∙ get_or-map-range_with_len is_name_byte 0 256 b b false h (omega arith)
 
-tops : (xs : List ℕ) → Each1 (Fits w8) xs → map (λ b. top 7 (name_lane b)) xs ≡ map is_name_byte xs
-tops [] fit = refl
-tops (x ∷ xs) fit = λ i. name_lane-is x fit.0.fits i ∷ tops xs fit.1 i
+tests : (xs : List ℕ) → Each1 (Fits w8) xs → map (λ b. differs (common_bits b) 0) xs ≡ map is_name_byte xs
+tests [] fit = refl
+tests (x ∷ xs) fit = λ i. common_bits-is x fit.0.fits i ∷ tests xs fit.1 i
 
-abbrev lanes_between : ℕ → ℕ → List ℕ → List ℕ
-lanes_between low more xs = zip2 at_most (zip2 minus xs (replicate 16 low)) (replicate 16 more)
+-- a table of 16 lanes at each of 16 places
+module _ (table places : List ℕ) (long : length places ≡ 16) (below : Each1 (λ j. j < 16) places) where
+  looked_up : swz_l w8 16 table 0 places ≡ map (λ j. get_or table j 0) places
+  looked_up =
+      ext_get_or 0 (swz_l w8 16 table 0 places) (map (λ j. get_or table j 0) places)
+      (length-swz_l w8 16 table 0 places ∙ sym (length-map places (λ j. get_or table j 0)))
+      (λ i h.
+      let within : i < length places = omega (arith, h, length-swz_l w8 16 table 0 places) in
+      let first : 16 * ((0 + i) / 16) + get_or places i 0 ≡ get_or places i 0 = omega (arith, within, long) in
+      get_or-swz_l_below w8 16 table 0 places i within (Each1-get_or (λ j. j < 16) places i 0 within below)
+      ∙ ap (λ k. get_or table k 0) first
+      ∙ sym (get_or-map (λ j. get_or table j 0) places i 0 0 within))
 
-abbrev compared : List ℕ → List ℕ
-compared v =
-    zip2 bit_or
-    (zip2 bit_or (zip2 bit_or (lanes_between 97 25 (zip2 bit_or v (replicate 16 32))) (lanes_between 48 9 v)) (lanes_between 45 1 v))
-    (zip2 equal v (replicate 16 95))
+low_below : (xs : List ℕ) → Each1 (λ j. j < 16) (map low_half xs)
+low_below [] = tt
+low_below (x ∷ xs) = (mask_lt x 4, low_below xs)
+
+high_below : (xs : List ℕ) → Each1 (Fits w8) xs → Each1 (λ j. j < 16) (map high_half xs)
+high_below [] fit = tt
+high_below (x ∷ xs) fit = (omega (arith, fit.0.fits), high_below xs fit.1)
+
+abbrev lanes_of_low : List ℕ → List ℕ
+lanes_of_low v = zip2 bit_and v (replicate 16 15)
+
+abbrev lanes_of_high : List ℕ → List ℕ
+lanes_of_high v = zip2 (λ a b. a / 2 ^ b) v (replicate 16 4)
 
 module _ (v : List ℕ) (long : length v ≡ 16) where
-  itself : v ≡ map (λ b. b) v
-  itself = sym (map-id v)
+  low_lanes : lanes_of_low v ≡ map low_half v
+  low_lanes = zip2_splat bit_and v 16 15 long
 
-  splat : (y : ℕ) → replicate 16 y ≡ map (λ _. y) v
-  splat y = splat_is_map v 16 y long
+  high_lanes : lanes_of_high v ≡ map high_half v
+  high_lanes = zip2_splat (λ a b. a / 2 ^ b) v 16 4 long
 
-  between_lanes : (f : ℕ → ℕ) (low more : ℕ) (xs : List ℕ) → xs ≡ map f v → lanes_between low more xs ≡ map (λ b. is_between low more (f b)) v
-  between_lanes f low more xs is = zip2_of_maps at_most (λ b. minus (f b) low) (λ _. more) v (zip2_of_maps minus f (λ _. low) v is (splat low)) (splat more)
+  pub low_places : SwzOk w8 16 16 0 (lanes_of_low v)
+  low_places = subst (SwzOk w8 16 16 0) (sym low_lanes) (SwzOk-from_below w8 16 1 16 0 (map low_half v) refl (omega (arith, length-map v low_half, long)) (low_below v))
 
-  either : (f g : ℕ → ℕ) (xs ys : List ℕ) → xs ≡ map f v → ys ≡ map g v → zip2 bit_or xs ys ≡ map (λ b. bit_or (f b) (g b)) v
-  either f g xs ys p q = zip2_of_maps bit_or f g v p q
+  pub high_places : Each1 (Fits w8) v → SwzOk w8 16 16 0 (lanes_of_high v)
+  high_places fit = subst (SwzOk w8 16 16 0) (sym high_lanes) (SwzOk-from_below w8 16 1 16 0 (map high_half v) refl (omega (arith, length-map v high_half, long)) (high_below v fit))
 
-  name_lanes : compared v ≡ map name_lane v
-  name_lanes =
-      either _ _ _ _ (either _ _ _ _ (either _ _ _ _ (between_lanes (λ b. bit_or b 32) 97 25 _ (either (λ b. b) (λ _. 32) _ _ itself (splat 32)))
-      (between_lanes (λ b. b) 48 9 _ itself)) (between_lanes (λ b. b) 45 1 _ itself)) (zip2_of_maps equal (λ b. b) (λ _. 95) v itself (splat 95))
+  low_looked_up : swz_l w8 16 bits_of_low 0 (lanes_of_low v) ≡ map (λ b. get_or bits_of_low (low_half b) 0) v
+  low_looked_up =
+      ap (swz_l w8 16 bits_of_low 0) low_lanes ∙ looked_up bits_of_low (map low_half v) (length-map v low_half ∙ long) (low_below v)
+      ∙ map-map (λ j. get_or bits_of_low j 0) low_half v
 
-  pub name_marks-is : Each1 (Fits w8) v → mask_l (map (top 7) (compared v)) % 2 ^ 64 ≡ mask_l (map is_name_byte v)
+  high_looked_up : Each1 (Fits w8) v → swz_l w8 16 bits_of_high 0 (lanes_of_high v) ≡ map (λ b. get_or bits_of_high (high_half b) 0) v
+  high_looked_up fit =
+      ap (swz_l w8 16 bits_of_high 0) high_lanes ∙ looked_up bits_of_high (map high_half v) (length-map v high_half ∙ long) (high_below v fit)
+      ∙ map-map (λ j. get_or bits_of_high j 0) high_half v
+
+  abbrev common : List ℕ
+  common = zip2 bit_and (swz_l w8 16 bits_of_low 0 (lanes_of_low v)) (swz_l w8 16 bits_of_high 0 (lanes_of_high v))
+
+  common_lanes : Each1 (Fits w8) v → common ≡ map common_bits v
+  common_lanes fit = zip2_of_maps bit_and (λ b. get_or bits_of_low (low_half b) 0) (λ b. get_or bits_of_high (high_half b) 0) v low_looked_up (high_looked_up fit)
+
+  pub name_marks-is : Each1 (Fits w8) v → mask_l (map (top 7) (zip2 (λ a b. cond (not (eqb a b)) 255 0) common (replicate 16 0))) % 2 ^ 64 ≡ mask_l (map is_name_byte v)
+  unfolding differs
   name_marks-is fit =
-      ap (λ lanes. mask_l (map (top 7) lanes) % 2 ^ 64) name_lanes ∙ ap (λ ms. mask_l ms % 2 ^ 64) (map-map (top 7) name_lane v ∙ tops v fit)
-      ∙ mask_l-mod (map is_name_byte v) 64 (omega (arith, length-map v is_name_byte, long))
+      bitmask_splat w8 differs common 16 0 (ap length (common_lanes fit) ∙ length-map v common_bits ∙ long) (omega arith)
+      ∙ ap (λ xs. mask_l (map (λ x. differs x 0) xs)) (common_lanes fit)
+      ∙ ap mask_l (map-map (λ x. differs x 0) common_bits v ∙ tests v fit)
 
 all_at : (p : ℕ → Bool) (xs : List ℕ) → ((k : ℕ) → k < length xs → p (get_or xs k 0) ≡ true) → list_all p xs ≡ true
 all_at p [] each = refl

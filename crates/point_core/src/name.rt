@@ -18,6 +18,15 @@ const _: () = prove!(NAME_BYTES == 31);
 // 2 ^ 64 divided by the golden ratio, which spreads numbers that are close together, as in Fibonacci hashing.
 const GOLDEN_FACTOR: u64 = 0x9e37_79b9_7f4a_7c15;
 
+/// For each high half of a byte, a bit if an allowed byte has it.
+const BITS_OF_HIGH_HALVES: [u8; FEW_BYTES] = [0, 0, 1, 2, 4, 8, 16, 32, 0, 0, 0, 0, 0, 0, 0, 0];
+
+/// For each low half of a byte, the bits of the high halves with which it is an allowed byte: 1 is `-` and `.`, 2 the digits, 4 and
+/// 16 letters up to O, 8 and 32 letters from P on, and 8 also `_`.
+const BITS_OF_LOW_HALVES: [u8; FEW_BYTES] = [
+    42, 62, 62, 62, 62, 62, 62, 62, 62, 62, 60, 20, 20, 21, 21, 28,
+];
+
 /// A name: 1 to `NAME_BYTES` letters, digits, `_`, `.` or `-`. It owns no memory.
 #[derive(Clone, Copy, Debug)]
 pub struct Name {
@@ -160,17 +169,14 @@ fn are_name_bytes(bytes: &[u8], first: u64, second: u64) -> bool
     name_marks(two_words(first, second)).trailing_ones() as usize >= bytes.len()
 }
 
-/// One bit for each lane, set if the lane is an allowed byte.
+/// One bit for each lane, set if the lane is an allowed byte: if both of its halves have a bit in common.
 #[inline(always)]
 fn name_marks(lanes: u8x16) -> u64
     ensures { result ≡ mask_l (map is_name_byte lanes) }
 {
-    let lower_case = lanes | u8x16::splat(b'a' - b'A');
-    let is_letter = (lower_case - u8x16::splat(b'a')).simd_le(u8x16::splat(b'z' - b'a'));
-    let is_digit = (lanes - u8x16::splat(b'0')).simd_le(u8x16::splat(b'9' - b'0'));
-    let is_dash_or_dot = (lanes - u8x16::splat(b'-')).simd_le(u8x16::splat(b'.' - b'-'));
-    let is_underscore = lanes.simd_eq(u8x16::splat(b'_'));
-    (is_letter | is_digit | is_dash_or_dot | is_underscore).to_bitmask()
+    let low = u8x16::from_array(BITS_OF_LOW_HALVES).swizzle_dyn(lanes & u8x16::splat(15));
+    let high = u8x16::from_array(BITS_OF_HIGH_HALVES).swizzle_dyn(lanes >> u8x16::splat(4));
+    (low & high).simd_ne(u8x16::splat(0)).to_bitmask()
 }
 
 impl PartialEq for Name {

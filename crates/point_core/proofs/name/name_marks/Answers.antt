@@ -1,5 +1,11 @@
-use Rattle.point_core.proofs.Marked.{name_marks-is}
+use Rattle.point_core.proofs.Marked.{low_places, high_places, name_marks-is}
 use Rattle.point_core.proofs.name.name_marks.Goals as goal
+
+pub swizzle-low : goal.swizzle-low
+swizzle-low c = low_places c.args.lanes c.fits-lanes.0
+
+pub swizzle-high : goal.swizzle-high
+swizzle-high c = high_places c.args.lanes c.fits-lanes.0 c.fits-lanes.1
 
 pub returns : goal.returns
 returns c = name_marks-is c.args.lanes c.fits-lanes.0 c.fits-lanes.1
