@@ -1,6 +1,7 @@
 //! A line of a word and a number, such as `ok 5` and `fired 7`.
-ghost use Rattle.std.specs.Prelude.{◌≡◌, ◌++◌, ◌+◌, ◌≤◌, ◌∷◌, [], OnOk, OnErr, Err, decimal, length};
+ghost use Rattle.std.specs.Prelude.{◌≡◌, ◌++◌, ◌+◌, ◌/◌, ◌%◌, ◌<◌, ◌≤◌, ◌∷◌, [], OnOk, OnErr, Err, decimal, length};
 ghost use Rattle.std.specs.Prelude.{vec_len, vec_capacity};
+ghost use Rattle.report_core.specs.declared.number_line.TheConstants.{PAIRS};
 ghost use Rattle.point_core.specs.declared.refusal.Refusal.TheVariants.{Memory};
 
 use crate::rows::{KIND_WIDTH, NUMBER_WIDTH};
@@ -9,6 +10,9 @@ use point_core::Refusal;
 
 /// The most bytes of such a line: a short word, a space, a number and a line feed.
 const LINE_BYTES: usize = KIND_WIDTH + 1 + NUMBER_WIDTH + 1;
+
+/// The numbers of a pair of digits.
+const PAIRS: u64 = 100;
 
 /// Appends to `out` a line of the short word, a space and the number.
 ///
@@ -30,9 +34,56 @@ pub fn push_numbered(word: &[u8], number: u64, out: &mut Vec<u8>) -> Result<(), 
     Ok(())
 }
 
-/// Appends the number, in decimal, to `out`, which has room for it.
+/// Appends the number, in decimal, to `out`, which has room for it. Most numbers are short, and are written by pairs of digits
+/// without a buffer.
 #[inline(always)]
 fn push_digits(number: u64, out: &mut Vec<u8>)
+    requires { vec_len out.old + NUMBER_WIDTH ≤ vec_capacity out.old }
+    ensures items { out.new.items ≡ out.old.items ++ decimal number }
+    ensures len { vec_len out.new ≤ vec_len out.old + NUMBER_WIDTH }
+    ensures capacity { vec_capacity out.new ≡ vec_capacity out.old }
+{
+    if number < PAIRS {
+        return push_few(number, out);
+    }
+    if number < PAIRS * PAIRS {
+        push_few(number / PAIRS, out);
+        return push_pair(number % PAIRS, out);
+    }
+    push_many(number, out)
+}
+
+/// As `push_digits`, of one or two digits.
+#[inline(always)]
+fn push_few(number: u64, out: &mut Vec<u8>)
+    requires few { number < PAIRS }
+    requires room { vec_len out.old + 2 ≤ vec_capacity out.old }
+    ensures items { out.new.items ≡ out.old.items ++ decimal number }
+    ensures len { vec_len out.new ≤ vec_len out.old + 2 }
+    ensures capacity { vec_capacity out.new ≡ vec_capacity out.old }
+{
+    if number < 10 {
+        return out.push_reserved(b'0' + number as u8);
+    }
+    push_pair(number, out)
+}
+
+/// Appends two digits.
+#[inline(always)]
+fn push_pair(number: u64, out: &mut Vec<u8>)
+    requires few { number < PAIRS }
+    requires room { vec_len out.old + 2 ≤ vec_capacity out.old }
+    ensures items { out.new.items ≡ out.old.items ++ (48 + number / 10) ∷ (48 + number % 10) ∷ [] }
+    ensures len { vec_len out.new ≡ vec_len out.old + 2 }
+    ensures capacity { vec_capacity out.new ≡ vec_capacity out.old }
+{
+    out.push_reserved(b'0' + (number / 10) as u8);
+    out.push_reserved(b'0' + (number % 10) as u8);
+}
+
+/// As `push_digits`, of any number.
+#[inline(never)]
+fn push_many(number: u64, out: &mut Vec<u8>)
     requires { vec_len out.old + NUMBER_WIDTH ≤ vec_capacity out.old }
     ensures items { out.new.items ≡ out.old.items ++ decimal number }
     ensures len { vec_len out.new ≤ vec_len out.old + NUMBER_WIDTH }

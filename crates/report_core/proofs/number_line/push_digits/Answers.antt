@@ -1,9 +1,11 @@
-use Rattle.std.proofs.Common.{◌≤◌, length, decimal, arith}
-use Rattle.report_core.specs.declared.rows.TheConstants.{NUMBER_WIDTH}
-use Rattle.report_core.proofs.Widths.{length-decimal}
+use Rattle.std.proofs.Common.{◌++◌, ◌/◌, ◌%◌, ◌≤◌, append_assoc, decimal, sym, ap, ◌∙◌, arith}
+use Rattle.itoa.proofs.Decimal.{decimal_pair, pair}
 use Rattle.report_core.proofs.number_line.push_digits.Goals as goal
 
-pub write_digits-start-requires : goal.write_digits-start-requires
-write_digits-start-requires c =
-    let few : length (decimal c.args.number) ≤ NUMBER_WIDTH = length-decimal c.args.number (omega (arith, c.ranges.number)) in
-    (omega (arith, few), omega arith)
+pub returns-then-number-clause-items : goal.returns-then-number-clause-items
+returns-then-number-clause-items c =
+    let n = c.args.number in
+    let least : 100 ≤ c.args.number = omega (arith, c.if-number-lt-PAIRS.false) in
+    let before = c.args.out.now.items in
+    c.push_pair.ensures.items ∙ ap (λ xs. xs ++ pair (n % 100)) c.push_few-then-number.ensures.items ∙ append_assoc before (decimal (n / 100)) (pair (n % 100))
+    ∙ ap (λ xs. before ++ xs) (sym (decimal_pair n least (omega (arith, c.ranges.number.fits))))
