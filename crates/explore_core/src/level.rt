@@ -1,6 +1,6 @@
 //! `Level`: the states after schedules of one length, equal states once. Once a level is complete, the search keeps its states and
 //! drops their looks.
-ghost use Rattle.std.specs.Prelude.{◌≡◌, ◌+◌, ◌≤◌, true, [], IfOk, OnOk, OnErr, vec_len};
+ghost use Rattle.std.specs.Prelude.{◌≡◌, ◌+◌, ◌≤◌, true, [], OnOk, OnErr, vec_len};
 ghost use Rattle.std.specs.Vec.{vec_capacity};
 ghost use Rattle.explore_core.specs.Search.{KeepsAt, HasSame, has_name, states_of};
 

@@ -69,7 +69,7 @@ fn timelines_place(table: &mut Table<Items<TimelineRow>>, desk: &Desk) -> Result
     let Ok(rows) = desk.timeline_rows() else {
         return Err(AllocError);
     };
-    table.place_of(Items::of(rows))
+    table.intern(Items::of(rows))
 }
 
 fn buffers_place(
@@ -77,7 +77,8 @@ fn buffers_place(
     table: &mut Table<Items<BufferLook>>,
     desk: &Desk,
 ) -> Result<usize, AllocError>
-    ensures there { IfOk result (λ place. slice_get table.new place ≡ Some (map (buffer_look desk.now) (buffer_names desk.now.buffers))) }
+    ensures there { IfOk result (λ place. slice_get table.new place
+        ≡ Some (map (buffer_look desk.now) (buffer_names desk.now.buffers))) }
     ensures begins { Begins table.old table.new }
 {
     let Ok(names) = desk.buffer_names() else {
@@ -88,7 +89,7 @@ fn buffers_place(
         return Err(AllocError);
     };
     drop(names);
-    table.place_of(Items::of(looks))
+    table.intern(Items::of(looks))
 }
 
 fn file_places(
@@ -119,7 +120,8 @@ fn places_of(
     desk: &Desk,
     names: &[Name],
 ) -> Result<Vec<usize>, AllocError>
-    ensures files { IfOk result (λ places. map (file_at table.new) places.items ≡ map (file_look (has_name asked.now) desk.now) names.now) }
+    ensures files { IfOk result (λ places. map (file_at table.new) places.items
+        ≡ map (file_look (has_name asked.now) desk.now) names.now) }
     ensures fit { IfOk result (λ places. All (λ (i : ℕ). i < length table.new) places.items) }
     ensures begins { Begins table.old table.new }
 {
@@ -143,7 +145,7 @@ fn put_place(
     ensures begins { Begins table.old table.new }
 {
     let look = file_look(alloc, asked, desk, name)?;
-    let place = table.place_of(look)?;
+    let place = table.intern(look)?;
     places.push(place)?;
     Ok(())
 }

@@ -1,5 +1,5 @@
 //! `Position`: a desk along a schedule, and how many lines each client has made or skipped on it.
-ghost use Rattle.std.specs.Prelude.{◌≡◌, ◌+◌, ◌&&◌, true, List, Some, IsTrue, IfOk, OnOk, set, slice_get, option_copied};
+ghost use Rattle.std.specs.Prelude.{◌≡◌, ◌&&◌, true, List, Some, IsTrue, IfOk, OnOk, set, slice_get, option_copied};
 ghost use Rattle.command_core.specs.declared.command.Command.{Command};
 ghost use Rattle.desk_core.specs.theorem.Answer.{is_refused};
 ghost use Rattle.desk_core.specs.theorem.Desk.{HasHistory};

@@ -42,8 +42,8 @@ impl<T: Part> Table<T> {
         }
     }
 
-    /// The place of the part. A part that has no place yet is put last.
-    pub(crate) fn place_of(&mut self, part: T) -> Result<usize, AllocError>
+    /// Returns the place of the part. A part that has no place yet is put last.
+    pub(crate) fn intern(&mut self, part: T) -> Result<usize, AllocError>
         ensures there { IfOk result (λ place. slice_get self.new place ≡ Some part) }
         ensures begins { Begins self.old self.new }
     {

@@ -13,4 +13,4 @@ returns-in_default-buffer_looks-clause-begins c = Begins-refl c.args.table.now
 pub returns-clause-there : goal.returns-clause-there
 returns-clause-there c =
     let looks = c.in-Ok-buffer_looks.ensures.looks ∙ ap (map (buffer_look c.args.desk.now)) (c.as_slice.ensures.value ∙ c.in-Ok.ensures.names) in
-    IfOk-then c.place_of.result c.place_of.ensures.there (λ place there. there ∙ ap Some (c.of.ensures ∙ looks))
+    IfOk-then c.intern.result c.intern.ensures.there (λ place there. there ∙ ap Some (c.of.ensures ∙ looks))

@@ -7,4 +7,4 @@ pub returns-in_default-clause-begins : goal.returns-in_default-clause-begins
 returns-in_default-clause-begins c = Begins-refl c.args.table.now
 
 pub returns-clause-there : goal.returns-clause-there
-returns-clause-there c = IfOk-then c.place_of.result c.place_of.ensures.there (λ place there. there ∙ ap Some (c.of.ensures ∙ c.in-Ok.ensures.rows))
+returns-clause-there c = IfOk-then c.intern.result c.intern.ensures.there (λ place there. there ∙ ap Some (c.of.ensures ∙ c.in-Ok.ensures.rows))

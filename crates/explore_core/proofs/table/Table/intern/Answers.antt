@@ -1,7 +1,7 @@
 use Rattle.std.proofs.Common.{rules, ◌≡◌, ◌++◌, ◌∷◌, [], Some, slice_get, sym, ap, ◌∙◌, subst}
 use Rattle.explore_core.specs.Search.{Begins}
 use Rattle.explore_core.proofs.Parting.{Begins-refl, Begins-same, pushed-at}
-use Rattle.explore_core.proofs.table.Table.place_of.Goals as goal
+use Rattle.explore_core.proofs.table.Table.intern.Goals as goal
 
 pub returns-in-Some-clause-begins : goal.returns-in-Some-clause-begins
 returns-in-Some-clause-begins g c = Begins-refl c.args.self.now
