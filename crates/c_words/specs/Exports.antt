@@ -30,7 +30,7 @@ pub record HasExportedFile (old new : MemberModel) (buffer : ℕ) (usage : Usage
   pub file : f ≡ listed_file listing
   pub exported : HasExported old new buffer usage listing
 
--- the seat has made loads, and nothing else was done
+-- the seat has made steps, and nothing else was done
 pub record HasOnlyLooked (old new : MemberModel) : Type 0 where
   pub looked : HasLooked old new
   pub stepped : HasStepped old.seat new.seat
