@@ -14,7 +14,7 @@ use Rattle.resv_core.specs.declared.plan.Act.{Act}
 use Rattle.clients_core.specs.declared.workers.Ended.{Ended}
 use Rattle.clients_core.specs.declared.workers.Loan.{Loan}
 use Rattle.clients_core.specs.Acting.{ClientModel, Puts, Exports}
-use Rattle.clients_core.specs.Working.{AreWorkedOff, AreWorkers, HasEnded, HasFailed, HasKept, HasRefused, HasWorked, HaveEnded, HaveJoined, HaveKept, HaveWorked, IsWorkerOf, answer_of, joined_of, steps_of, steps_of_all}
+use Rattle.clients_core.specs.Working.{AreSeatsOf, AreWorkedOff, AreWorkers, HasEnded, HasFailed, HasKept, HasRefused, HasWorked, HaveEnded, HaveJoined, HaveKept, HaveWorked, IsWorkerOf, answer_of, joined_of, steps_of, steps_of_all}
 
 -- ---- workers that are joined one after another
 
@@ -141,15 +141,15 @@ worked-from puts exports words number (p ∷ ps) [] ended ok even = absurd (omeg
 worked-from puts exports words number [] (e ∷ es) ended ok even = absurd ended
 worked-from puts exports words number (p ∷ ps) (e ∷ es) ended ok even =
     let both = both-ok e.answer (answer_of es) ok in
-    let here = subst (λ (r : Result (Unit {0}) Refusal). OnOk r ((after : ClientModel) × HasWorked puts exports words number p after × (e.driving ≡ after.driver.seat) × (e.looking ≡ after.seat))) both.0 ended.0.1 in
+    let here = subst (λ (r : Result (Unit {0}) Refusal). OnOk r ((after : ClientModel) × HasWorked puts exports words number p after × AreSeatsOf after e)) both.0 ended.0.1 in
     let rest = worked-from puts exports words (number + 1) ps es ended.1 both.1 (omega (arith, even)) in
     let after = here.0 in
     record {
       clients = after ∷ rest.clients;
       worked = (here.1, rest.worked);
       steps =
-          ap (λ (s : SeatModel). (s.trace ++ e.looking.trace) ++ steps_of_endings es) here.2
-          ∙ ap (λ (s : SeatModel). (after.driver.seat.trace ++ s.trace) ++ steps_of_endings es) here.3
+          ap (λ (s : SeatModel). (s.trace ++ e.looking.trace) ++ steps_of_endings es) here.2.0
+          ∙ ap (λ (s : SeatModel). (after.driver.seat.trace ++ s.trace) ++ steps_of_endings es) here.2.1
           ∙ ap (λ steps. steps_of after ++ steps) rest.steps;
     }
 

@@ -1,19 +1,19 @@
 -- Clients that have worked their plans off, and the promises of their threads.
-use Rattle.std.specs.Prelude.{◌≡◌, ◌⊎◌, ℕ, ◌+◌, List, [], ◌∷◌, ◌++◌, length, Some, slice_get, Result, Ok, Err, OnOk}
+use Rattle.std.specs.Prelude.{◌≡◌, ◌⊎◌, ℕ, ◌+◌, List, [], ◌∷◌, ◌++◌, length, Some, slice_get, Result, Ok, Err, OnOk, IfErr}
 use Rattle.std.specs.Result.{result_and}
 use Rattle.std.specs.declared.thread.PromisedHandle.{PromisedHandle}
 use Rattle.point_core.specs.declared.refusal.Refusal.{Refusal}
-use Rattle.point_core.specs.declared.refusal.Refusal.TheVariants.{Memory, Torn}
+use Rattle.point_core.specs.declared.refusal.Refusal.TheVariants.{Exists, Memory, Torn}
 use Rattle.words_core.specs.declared.trace.Step.{Step}
 use Rattle.words_core.specs.theorem.Driver.{DriverModel}
 use Rattle.words_core.specs.theorem.Layout.{claim_word}
 use Rattle.words_core.specs.theorem.Seat.{SeatModel, both_of, with_step}
-use Rattle.words_core.specs.theorem.Trace.{won}
+use Rattle.words_core.specs.theorem.Trace.{won, lost}
 use Rattle.words_core.specs.theorem.Words.{WordsModel}
 use Rattle.resv_core.specs.declared.plan.Act.{Act}
 use Rattle.clients_core.specs.declared.workers.Ended.{Ended}
 use Rattle.clients_core.specs.declared.workers.Loan.{Loan}
-use Rattle.clients_core.specs.Acting.{ClientModel, Puts, Exports, HaveActed}
+use Rattle.clients_core.specs.Acting.{ClientModel, Puts, Exports, HaveActed, HasStopped}
 use Rattle.clients_core.specs.Clients.{IsSinglePart, IsGivenBack}
 
 -- the driver that has just claimed a context with a seat
@@ -58,13 +58,36 @@ pub record AreWorkedOff (puts : Puts) (exports : Exports) (words : WordsModel) (
   pub worked : HaveWorked puts exports words 1 plans clients
   pub steps : all.trace ≡ steps_of_all clients
 
--- both seats came back, and no other refusal; if the answer is Ok, they are those of the client once it had worked its
--- plan off
+-- these are both seats of that client
+abbrev pub AreSeatsOf : ClientModel → Ended → Type 0
+AreSeatsOf client ended = (ended.driving ≡ client.driver.seat) × (ended.looking ≡ client.seat)
+
+-- the client's only step was to find its context claimed
+abbrev pub HasLostClaim : WordsModel → ℕ → Ended → Type 0
+HasLostClaim words number ended =
+    IsFreshPart words ended.looking
+    × ((seat : SeatModel) × IsFreshPart words seat × (ended.driving ≡ with_step seat (lost (claim_word number))))
+
+-- the client of that number has claimed its context, and then was refused memory before its first act, or stopped at an act of its
+-- plan
+abbrev pub WasStopped : Puts → Exports → WordsModel → ℕ → List Act → ClientModel → Refusal → Type 0
+WasStopped puts exports words number plan after refusal =
+    (before : ClientModel) × HasClaimed words number before
+    × (((refusal ≡ Memory) × (after ≡ before)) ⊎ HasStopped puts exports [] plan before after refusal)
+
+-- why the client of that number was refused: its context was claimed already, or it was stopped
+abbrev pub WasRefused : Puts → Exports → WordsModel → ℕ → List Act → Ended → Refusal → Type 0
+WasRefused puts exports words number plan ended refusal =
+    ((refusal ≡ Exists) × HasLostClaim words number ended)
+    ⊎ ((after : ClientModel) × WasStopped puts exports words number plan after refusal × AreSeatsOf after ended)
+
+-- both seats came back, and no other refusal. If the answer is Ok, they are the seats of the client once it had worked its plan off;
+-- else they are the seats of a client that was refused so
 abbrev pub HasEnded : Puts → Exports → WordsModel → ℕ → List Act → Ended → Type 0
 HasEnded puts exports words number plan ended =
     IsGivenBack words ended
-    × OnOk ended.answer ((after : ClientModel) × HasWorked puts exports words number plan after
-    × (ended.driving ≡ after.driver.seat) × (ended.looking ≡ after.seat))
+    × OnOk ended.answer ((after : ClientModel) × HasWorked puts exports words number plan after × AreSeatsOf after ended)
+    × IfErr ended.answer (WasRefused puts exports words number plan ended)
 
 -- a thread that has promised to give seats of these words back
 abbrev pub IsWorkerOf : {T : Type 0} → WordsModel → PromisedHandle Ended (Loan T) → Type 0

@@ -26,8 +26,8 @@ pub(crate) struct Ended {
     pub answer: Result<(), Refusal>,
 }
 
-/// A worker's promise: it gives both seats of these words back, and if it answers Ok, it has worked this plan off on this
-/// table, as the client of the plan at that place.
+/// A worker's promise: it gives both seats of these words back. If it answers Ok, it has worked this plan off on this table,
+/// as the client of the plan at that place; else it was refused as that client.
 #[derive(Drop)]
 pub(crate) struct Loan<'a, T> {
     pub words: &'a Words,
