@@ -13,5 +13,6 @@ pub mod Same
 pub mod Numbering
 pub mod Seeing
 pub mod Naming
+pub mod Waiting
 pub mod Tracking
 pub mod Stepping

@@ -8,9 +8,9 @@ use Rattle.trace_core.specs.declared.ledger.Ledger.{Ledger}
 use Rattle.trace_core.specs.declared.sighting.FenceKey.{FenceKey}
 use Rattle.trace_core.specs.declared.tracker.Seen.{Seen as SeenEvent}
 use Rattle.trace_core.specs.History.{Step, Seen, Lost, Forgot, IsLedgerOf, events_in, found_in, life_in}
-use Rattle.std.specs.Prelude.{IfSome}
+use Rattle.std.specs.Prelude.{IfSome, option_map}
 use Rattle.trace_core.specs.Names.{name_at}
-use Rattle.trace_core.specs.Waits.{IsWaitOf}
+use Rattle.trace_core.specs.Waits.{IsWaitOf, open_waits, started_of, wait_in}
 use Rattle.trace_core.specs.Tracker.{AreSeen, IsSeen, Says, IsStep, AreSteps, Keeps, steps_of, unforgetting}
 
 module _ (d e t u : Names) (drivers : Keeps d e) (timelines : Keeps t u) where
@@ -49,6 +49,7 @@ pub record IsLedgerLike (l : Ledger) (steps : List Step) : Type 0 where
   pub same : unforgetting more ≡ unforgetting steps
   pub seen : (given : List (SeenEvent × Printed)) → AreSeen steps given → AreSeen more given
   pub ledger : IsLedgerOf l more
+  pub open_same : open_waits more ≡ open_waits steps
 
 pub maybe : (b : Bool) (l m : Ledger) (key : FenceKey) (steps : List Step) → IsLedgerOf l steps → (b ≡ true → (s : List Step) → IsLedgerOf l s → IsLedgerOf m (Forgot key ∷ s)) → (b ≡ false → m ≡ l) → IsLedgerLike m steps
 maybe true l m key steps h forgot kept = record {
@@ -56,16 +57,18 @@ maybe true l m key steps h forgot kept = record {
   same = refl;
   seen = λ given are. are;
   ledger = forgot refl steps h;
+  open_same = refl;
 }
 maybe false l m key steps h forgot kept = record {
   more = steps;
   same = refl;
   seen = λ given are. are;
   ledger = subst (λ x. IsLedgerOf x steps) (sym (kept refl)) h;
+  open_same = refl;
 }
 
-pub is-seen : (earlier : List Step) (given : SeenEvent) → given.life ≡ life_in earlier given.sighting.key → given.found ≡ found_in earlier given.sighting → IfSome given.wait (IsWaitOf given.sighting) → IsSeen earlier given.sighting given
-is-seen earlier given life found wait = record { event = refl; life = life; found = found; wait = wait }
+pub is-seen : (earlier : List Step) (given : SeenEvent) → given.life ≡ life_in earlier given.sighting.key → given.found ≡ found_in earlier given.sighting → IfSome given.wait (IsWaitOf given.sighting) → option_map started_of given.wait ≡ wait_in earlier given.sighting → IsSeen earlier given.sighting given
+is-seen earlier given life found wait begun = record { event = refl; life = life; found = found; wait = wait; begun = begun }
 
 -- the newest event has the names of its record
 pub named : (d t : Names) (printed : Printed) (items : List Meaning) (given : SeenEvent) (earlier : List (SeenEvent × Printed)) (steps : List Step) → AreSteps d t (steps_of (Event printed ∷ items)) (unforgetting steps) → AreSeen steps ((given, printed) ∷ earlier) → (name_at d given.sighting.key.driver ≡ Some printed.driver) × (name_at t given.sighting.key.timeline ≡ Some printed.timeline)

@@ -1,5 +1,5 @@
 -- What a tracker keeps of the items of a text.
-use Rattle.std.specs.Prelude.{◌≡◌, ℕ, ⊤, Bool, true, false, IfSome, List, [], ◌∷◌, map, Option, None, Some}
+use Rattle.std.specs.Prelude.{◌≡◌, ℕ, ⊤, Bool, true, false, IfSome, List, [], ◌∷◌, map, Option, None, Some, option_map}
 use Rattle.trace_core.specs.Item.{Meaning, Event, Other, Unread, Lost as LostEvents, BufferStarted, Counts, Note}
 use Rattle.trace_core.specs.Record.{Printed}
 use Rattle.trace_core.specs.declared.names.Names.{Names}
@@ -9,7 +9,7 @@ use Rattle.trace_core.specs.declared.tracker.Seen.{Seen as SeenEvent}
 use Rattle.trace_core.specs.declared.tracker.Tracker.{Tracker}
 use Rattle.trace_core.specs.History.{Step, Seen, Lost, Forgot, IsLedgerOf, found_in, life_in}
 use Rattle.trace_core.specs.Names.{name_at}
-use Rattle.trace_core.specs.Waits.{IsWaitOf}
+use Rattle.trace_core.specs.Waits.{AreOpen, IsWaitOf, open_waits, started_of, wait_in}
 
 -- the event says what the record says, with numbers for names
 pub record Says (drivers timelines : Names) (e : Sighting) (r : Printed) : Type 0 where
@@ -58,12 +58,14 @@ AreSteps drivers timelines (said ∷ more) (step ∷ steps) =
 abbrev pub Keeps : Names → Names → Type 0
 Keeps old new = (n : ℕ) (name : List ℕ) → name_at old n ≡ Some name → name_at new n ≡ Some name
 
--- the answer for an event: its key's life before the event, what was found of it, and a wait of its task for its fence
+-- The answer for an event: its key's life before the event, what was found of it, and the wait of its task for its fence that
+-- it begins or ends, if any.
 pub record IsSeen (earlier : List Step) (e : Sighting) (seen : SeenEvent) : Type 0 where
   pub event : seen.sighting ≡ e
   pub life : seen.life ≡ life_in earlier e.key
   pub found : seen.found ≡ found_in earlier e
   pub wait : IfSome seen.wait (IsWaitOf e)
+  pub begun : option_map started_of seen.wait ≡ wait_in earlier e
 
 -- the answers for the events, each with its record; the newest first in both
 abbrev pub AreSeen : List Step → List (SeenEvent × Printed) → Type 0
@@ -117,8 +119,10 @@ pub record Saw (drivers timelines : Names) (items : List Meaning) (seen : List (
   pub seen_are : AreSeen steps seen
   pub records : records_in items ≡ map (λ s. s.1) seen
 
--- the ledger is the folds over the items' events and losses, and these were the answers for the events
+-- The ledger is the folds over the items' events and losses, the waits that are kept are the open ones, and these were the
+-- answers for the events.
 pub record Tracks (t : Tracker) (items : List Meaning) (seen : List (SeenEvent × Printed)) : Type 0 where
   pub steps : List Step
   pub saw : Saw t.drivers t.timelines items seen steps
   pub ledger : IsLedgerOf t.ledger steps
+  pub waits : AreOpen t.waits (open_waits steps)

@@ -1,12 +1,12 @@
 //! `Tracker`: everything that a trace says of fences, piece by piece. `Tracks` relates it to the items of the text; `take` upholds
 //! it, and `Reading::next` is the only caller.
-ghost use Rattle.std.specs.Prelude.{◌≡◌, List, [], ◌∷◌, ◌++◌, is_some, IfOk, IfErr, IfSome};
+ghost use Rattle.std.specs.Prelude.{◌≡◌, List, [], ◌∷◌, ◌++◌, is_some, option_map, IfOk, IfErr, IfSome, OnOk};
 ghost use Rattle.point_core.specs.declared.refusal.Refusal.TheVariants.{Memory};
 ghost use Rattle.trace_core.specs.Item.{Meaning, meaning_of, Event as EventMeaning};
 ghost use Rattle.trace_core.specs.Record.{Printed, printed};
 ghost use Rattle.trace_core.specs.Names.{name_or_none};
 ghost use Rattle.trace_core.specs.Tracker.{Keeps, Says, Tracks, given, is_event, latest_of};
-ghost use Rattle.trace_core.specs.Waits.{IsWaitOf};
+ghost use Rattle.trace_core.specs.Waits.{AreOpen, IsWaitOf, Started, started_of, wait_by, waits_after};
 
 use crate::delays::Delays;
 use crate::event::Event;
@@ -133,6 +133,7 @@ impl Tracker {
         ensures drivers { Keeps self.old.drivers self.new.drivers }
         ensures timelines { Keeps self.old.timelines self.new.timelines }
         ensures ledger { self.new.ledger ≡ self.old.ledger }
+        ensures waits { self.new.waits ≡ self.old.waits }
         ensures memory { IfErr result (λ e. e ≡ Memory) }
     {
         let driver = self.drivers.number(event.driver)?;
@@ -162,6 +163,10 @@ impl Tracker {
         ensures timelines { self.new.timelines ≡ self.old.timelines }
         ensures ledger { self.new.ledger ≡ self.old.ledger }
         ensures wait { IfOk result (λ wait. IfSome wait (IsWaitOf sighting.now)) }
+        ensures begun { IfOk result (λ wait. (waits : List Started) → AreOpen self.old.waits waits →
+            option_map started_of wait ≡ wait_by sighting.now.event sighting.now waits) }
+        ensures waits { OnOk result ((waits : List Started) → AreOpen self.old.waits waits →
+            AreOpen self.new.waits (waits_after sighting.now.event sighting.now waits)) }
         ensures memory { IfErr result (λ e. e ≡ Memory) }
     {
         match sighting.event {

@@ -1,8 +1,10 @@
-//! `Waits`: which threads wait for which fences, by `wait_start` and `wait_end`, and sums of the waits that ended. Tested; its only
-//! clause is that a wait is one of the event's thread and fence (`IsWaitOf`).
-ghost use Rattle.std.specs.Prelude.{◌≡◌, IfOk, IfErr, IfSome};
+//! `Waits`: which threads wait for which fences, by `wait_start` and `wait_end`, and sums of the waits that ended.
+//!
+//! After any calls of `start` and `end` the waits are the open waits of `specs/Waits.antt` (`AreOpen`). The tracker makes the calls
+//! in the order of the text. The sums are tested.
+ghost use Rattle.std.specs.Prelude.{◌≡◌, List, [], ◌∷◌, find, option_map, IfOk, IfErr, IfSome, OnOk};
 ghost use Rattle.point_core.specs.declared.refusal.Refusal.TheVariants.{Memory};
-ghost use Rattle.trace_core.specs.Waits.{IsWaitOf};
+ghost use Rattle.trace_core.specs.Waits.{AreOpen, IsWaitOf, Started, is_wait_for, started_by, started_of, wait_key, waiting, without_first};
 
 use crate::sighting::{FenceKey, Sighting, TimelineKey};
 use crate::task::TaskName;
@@ -55,7 +57,7 @@ pub struct WaitKey {
     pub pid: u32,
     pub key: FenceKey,
     /// How many waits of the thread for the key were open when it began.
-    pub nth: u32,
+    pub nth: usize,
 }
 
 /// The waits that are open, and sums of the waits that ended.
@@ -71,7 +73,9 @@ pub struct Waits {
 
 impl Waits {
     /// Nobody waits. Does not allocate.
-    pub fn new(alloc: Global) -> Waits {
+    pub fn new(alloc: Global) -> Waits
+        ensures { AreOpen result [] }
+    {
         Waits {
             open: IndexMap::new(alloc),
             by_timeline: IndexMap::new(alloc),
@@ -82,7 +86,7 @@ impl Waits {
         }
     }
 
-    /// The waits that have not ended, by their start, but for gaps that ends leave.
+    /// The waits that have not ended, in the order in which they began.
     pub fn open(&self) -> &IndexMap<WaitKey, Wait>
         ensures { result.now ≡ self.now.open }
     {
@@ -131,6 +135,8 @@ impl Waits {
         ensures begun { IfOk result (IsWaitOf sighting.now) }
         ensures start { IfOk result (λ wait. wait.start ≡ sighting.now.time) }
         ensures task { IfOk result (λ wait. wait.task ≡ task) }
+        ensures are_open { OnOk result ((waits : List Started) → AreOpen self.old waits →
+            AreOpen self.new (started_by sighting.now ∷ waits)) }
         ensures memory { IfErr result (λ e. e ≡ Memory) }
     {
         let wait = Wait {
@@ -140,7 +146,7 @@ impl Waits {
             start: sighting.time,
             length: 0,
         };
-        let key = self.next_key(sighting);
+        let key = wait_key(sighting, self.waiting(sighting));
         let Ok(_none) = self.open.insert(key, wait) else {
             return Err(Refusal::Memory);
         };
@@ -153,13 +159,13 @@ impl Waits {
     /// Fails only with `Memory`; then the wait has ended, but the sums may lack it.
     pub fn end(&mut self, sighting: &Sighting, is_pending: bool) -> Result<Option<Wait>, Refusal>
         ensures ended { IfOk result (λ wait. IfSome wait (IsWaitOf sighting.now)) }
+        ensures last { IfOk result (λ wait. (waits : List Started) → AreOpen self.old waits →
+            option_map started_of wait ≡ find (is_wait_for sighting.now.pid sighting.now.key) waits) }
+        ensures are_open { OnOk result ((waits : List Started) → AreOpen self.old waits →
+            AreOpen self.new (without_first (is_wait_for sighting.now.pid sighting.now.key) waits)) }
         ensures memory { IfErr result (λ e. e ≡ Memory) }
     {
-        let next = self.next_key(sighting);
-        let last = WaitKey {
-            nth: next.nth.saturating_sub(1),
-            ..next
-        };
+        let last = wait_key(sighting, self.waiting(sighting).saturating_sub(1));
         let Some(started) = self.open.shift_remove(&last) else {
             self.without_start = self.without_start.saturating_add(1);
             return Ok(None);
@@ -170,16 +176,25 @@ impl Waits {
             length: sighting.time.saturating_sub(started.start),
             ..started
         };
+        self.count(wait, is_pending)?;
+        Ok(Some(wait))
+    }
+
+    /// Takes a wait that ended into the sums.
+    fn count(&mut self, wait: Wait, is_pending: bool) -> Result<(), Refusal>
+        ensures kept { self.new.open ≡ self.old.open }
+        ensures memory { IfErr result (λ e. e ≡ Memory) }
+    {
         if is_pending {
             self.unsignalled = self.unsignalled.saturating_add(1);
         }
         self.ended = self.ended.with(wait.length);
-        self.keep_longest(wait)?;
-        self.add(sighting.key.timeline_key(), wait.length)?;
-        Ok(Some(wait))
+        self.add(wait.key.timeline_key(), wait.length)?;
+        self.keep_longest(wait)
     }
 
     fn add(&mut self, key: TimelineKey, length: u64) -> Result<(), Refusal>
+        ensures kept { self.new.open ≡ self.old.open }
         ensures memory { IfErr result (λ e. e ≡ Memory) }
     {
         let sum = match self.by_timeline.get(&key) {
@@ -192,24 +207,23 @@ impl Waits {
         Ok(())
     }
 
-    /// The key of the next wait of that thread for that fence.
-    fn next_key(&self, sighting: &Sighting) -> WaitKey {
-        let mut key = WaitKey {
-            pid: sighting.pid,
-            key: sighting.key,
-            nth: 0,
-        };
-        for nth in 0..u32::MAX {
-            key.nth = nth;
-            if !self.open.contains_key(&key) {
-                return key;
+    /// How many waits of the event's thread for its fence are open.
+    fn waiting(&self, sighting: &Sighting) -> usize
+        ensures count { (waits : List Started) → AreOpen self.now waits →
+            result ≡ waiting sighting.now.pid sighting.now.key waits }
+    {
+        let len = self.open.len();
+        for nth in 0..len {
+            if !self.open.contains_key(&wait_key(sighting, nth)) {
+                return nth;
             }
         }
-        key
+        len
     }
 
     /// Inserts the wait into the top-N if it qualifies.
     fn keep_longest(&mut self, wait: Wait) -> Result<(), Refusal>
+        ensures kept { self.new.open ≡ self.old.open }
         ensures memory { IfErr result (λ e. e ≡ Memory) }
     {
         let mut place = self.longest.len();
@@ -230,5 +244,15 @@ impl Waits {
             return Err(Refusal::Memory);
         };
         Ok(())
+    }
+}
+
+fn wait_key(sighting: &Sighting, nth: usize) -> WaitKey
+    ensures { result ≡ wait_key sighting.now.pid sighting.now.key nth }
+{
+    WaitKey {
+        pid: sighting.pid,
+        key: sighting.key,
+        nth,
     }
 }
