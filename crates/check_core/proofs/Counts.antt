@@ -40,6 +40,12 @@ no_differences script (l ∷ ls) [] all = refl
 no_differences script (l ∷ ls) (a ∷ rest) all =
     omega (arith, none_counted (expected_of script l.number) (text_of l.number a) all.0, no_differences script ls rest all.1)
 
+pub lines-agree : (script : List ℕ) (ls : List Line) (given : List Answer) → one_if (differs (expected_of script 0) []) + differing_count script ls given ≡ 0 → IsAsExpected (expected_of script 0) [] × AreAsExpected script ls given
+lines-agree script ls given none = (
+  as_expected (expected_of script 0) [] (omega arith),
+  all_as_expected script ls given (omega arith),
+)
+
 pub counts-agree : (script : List ℕ) (given : List Answer) (n : ℕ) → n ≡ one_if (differs (expected_of script 0) []) + differing_count script (script_of script) given → (n ≡ 0) ↔ AgreesWith script given
 counts-agree script given n e = (
   (λ zero. (as_expected (expected_of script 0) [] (omega arith), all_as_expected script (script_of script) given (omega arith))),

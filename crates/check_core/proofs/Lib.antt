@@ -5,7 +5,9 @@ mod Keeping
 mod Outcomes
 mod Passing
 mod Progress
+mod Refusals
 mod Reported
 mod Stages
 mod Texts
+mod Throughout
 mod Totals

@@ -28,10 +28,10 @@ use Rattle.check_core.specs.declared.checker.Checker.{Checker}
 use Rattle.check_core.specs.declared.tally.CheckTally.{CheckTally}
 use Rattle.check_core.specs.Checked.{HasChecked, asked_among, asked_of, differing_among, differing_of, expected_at}
 use Rattle.check_core.specs.Expected.{expected_text, expected_after, expected_of, is_asked, differs}
-use Rattle.check_core.specs.Check.{asked_count, differing_count, ChecksScript, IsJudged, IsFresh, IsTooLong, Expects, IsJudgedAt, IsAnswered, IsTaken, IsEnded}
+use Rattle.check_core.specs.Check.{AnswersAsExpected, AreAsExpected, asked_count, differing_count, ChecksScript, IsJudged, IsFresh, IsTooLong, Expects, IsJudgedAt, IsAnswered, IsTaken, IsEnded}
 use Rattle.check_core.specs.Stage.{IsAt}
 use Rattle.check_core.specs.Tally.{one_if}
-use Rattle.check_core.proofs.Counts.{counts-agree}
+use Rattle.check_core.proofs.Counts.{counts-agree, lines-agree}
 
 -- ---- counts among the lines of a script
 
@@ -89,7 +89,7 @@ one_at_most false = omega arith
 
 -- ---- one line more
 
-module _ (given : List (List ℕ)) (line bytes : List ℕ) (number : ℕ) (place : number ≡ length given + 1) (held : bytes ≡ cut line) (done : List Line) (c c' : Checker) (p : HasChecked given done c) where
+module _ (given : List (List ℕ)) (line bytes : List ℕ) (number : ℕ) (place : number ≡ length given + 1) (says : body_of bytes ≡ body_of line) (uncut : body_of line ≡ None → bytes ≡ line) (done : List Line) (c c' : Checker) (p : HasChecked given done c) where
   abbrev with_line : List (List ℕ)
   with_line = given ++ line ∷ []
 
@@ -97,7 +97,7 @@ module _ (given : List (List ℕ)) (line bytes : List ℕ) (number : ℕ) (place
   among more = append_assoc given (line ∷ []) more
 
   body_is : (body : Option Body) → body ≡ body_of bytes → body_of line ≡ body
-  body_is body is = sym (is ∙ ap body_of held ∙ body_of-cut line)
+  body_is body is = sym (is ∙ says)
 
   -- a line without an answer
   module _ (is : None ≡ body_of bytes) (x : Expects c c' (option_to_list (expected_text bytes))) where
@@ -105,7 +105,7 @@ module _ (given : List (List ℕ)) (line bytes : List ℕ) (number : ℕ) (place
     none = body_is None is
 
     whole : bytes ≡ line
-    whole = held ∙ note-whole line none
+    whole = uncut none
 
     abbrev unsaid : List Line
     unsaid = done ++ answered number None []
@@ -209,9 +209,21 @@ module _ (given : List (List ℕ)) (line bytes : List ℕ) (number : ℕ) (place
       differing = differing-answer;
     }
 
-  pub HasChecked-line : (body : Option Body) → body ≡ body_of bytes → IsTaken c c' number body (expected_text bytes) → HasChecked (given ++ line ∷ []) (done ++ answered number body []) c'
-  HasChecked-line None is x = HasChecked-note is x
-  HasChecked-line (Some body) is x = HasChecked-answer body is x
+  HasChecked-next : (body : Option Body) → body ≡ body_of bytes → IsTaken c c' number body (expected_text bytes) → HasChecked (given ++ line ∷ []) (done ++ answered number body []) c'
+  HasChecked-next None is x = HasChecked-note is x
+  HasChecked-next (Some body) is x = HasChecked-answer body is x
+
+-- with the bytes that are kept of the line
+pub HasChecked-line : (given : List (List ℕ)) (line bytes : List ℕ) (number : ℕ) → number ≡ length given + 1 → bytes ≡ cut line → (done : List Line) (c c' : Checker) → HasChecked given done c → (body : Option Body) → body ≡ body_of bytes
+    → IsTaken c c' number body (expected_text bytes) → HasChecked (given ++ line ∷ []) (done ++ answered number body []) c'
+HasChecked-line given line bytes number place held done c c' p =
+    HasChecked-next given line bytes number place (ap body_of held ∙ body_of-cut line) (λ none. held ∙ note-whole line none) done c c' p
+
+-- with the whole line
+pub HasChecked-whole : (given : List (List ℕ)) (line : List ℕ) (number : ℕ) → number ≡ length given + 1 → (done : List Line) (c c' : Checker) → HasChecked given done c
+    → IsTaken c c' number (body_of line) (expected_text line) → HasChecked (given ++ line ∷ []) (done ++ answered number (body_of line) []) c'
+HasChecked-whole given line number place done c c' p =
+    HasChecked-next given line line number place refl (λ none. refl) done c c' p (body_of line) refl
 
 -- ---- the end of the script
 
@@ -233,6 +245,23 @@ HasChecked-end script done c c' of p x =
       checked = omega (arith, judged.checked, asked, asked_among-script script done, ap (asked_count script) of);
       differing = differing;
       agrees = counts-agree script p.answers c'.tally.differing differing;
+    }
+
+-- and no answer of the text was other than expected
+pub HasChecked-agrees : (text : List ℕ) (done : List Line) (c c' : Checker) → lines_until ending.Whole text ≡ done → HasChecked (lines_of text) done c → IsJudgedAt c c' → c'.tally.differing ≡ 0 → AnswersAsExpected text
+HasChecked-agrees text done c c' of p x none =
+    let lines = lines_of text in
+    let judged = x.judged p.expected p.at in
+    let differ : differing_of lines done p.answers ≡ c.tally.differing + one_if (differs p.expected c.text.items) =
+    ap (λ ls. differing_of ls done p.answers) (sym (append-nil lines)) ∙ p.differing [] ∙ ap (λ xs. c.tally.differing + one_if (differs xs c.text.items)) (append-nil p.expected) in
+    let zero : one_if (differs (expected_of text 0) []) + differing_count text done p.answers ≡ 0 =
+    omega (arith, judged.differing, differ, differing_among-script text done p.answers, none) in
+    let agrees = lines-agree text done p.answers zero in
+    record {
+      given = p.answers;
+      each = subst (λ ls. AreLineAnswers [] ls p.answers) (sym of) p.each;
+      first = agrees.0;
+      all = subst (λ ls. AreAsExpected text ls p.answers) (sym of) agrees.1;
     }
 
 -- the last line, if the script was read to its end

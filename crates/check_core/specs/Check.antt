@@ -5,9 +5,10 @@ use Rattle.command_core.specs.declared.answer.Answer.{Answer}
 use Rattle.desk_core.specs.theorem.Desk.{HasHistory}
 use Rattle.line_core.specs.declared.line.Body.{Body}
 use Rattle.line_core.specs.declared.line.Line.{Line}
+use Rattle.line_core.specs.declared.script.Ending.TheVariants.{Whole}
 use Rattle.line_core.specs.declared.script.TheConstants.{SCRIPT_BYTES}
 use Rattle.script_core.specs.Output.{AreLineAnswers}
-use Rattle.line_core.specs.Script.{script_of}
+use Rattle.line_core.specs.Script.{lines_until, script_of}
 use Rattle.report_core.specs.Answer.{text_of}
 use Rattle.check_core.specs.declared.checker.Checker.{Checker}
 use Rattle.check_core.specs.declared.stage.MatchStage.TheVariants.{Unasked}
@@ -27,6 +28,13 @@ AreAsExpected script (l ∷ ls) (a ∷ rest) =
 -- Each expected line is the one that came. Above the first command nothing comes.
 abbrev pub AgreesWith : List ℕ → List Answer → Type 0
 AgreesWith script given = IsAsExpected (expected_of script 0) [] × AreAsExpected script (script_of script) given
+
+-- Each line of a text has its answer, and each expected line is the one that came, whatever the text's length.
+pub record AnswersAsExpected (text : List ℕ) : Type 0 where
+  pub given : List Answer
+  pub each : AreLineAnswers [] (lines_until Whole text) given
+  pub first : IsAsExpected (expected_of text 0) []
+  pub all : AreAsExpected text (lines_until Whole text) given
 
 -- how many of the lines are checked
 abbrev pub asked_count : List ℕ → List Line → ℕ

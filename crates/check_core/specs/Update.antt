@@ -1,12 +1,13 @@
 -- A script that passes its check, and what an update of several files reports.
-use Rattle.std.specs.Prelude.{◌≡◌, ◌≢◌, ◌⊎◌, ℕ, ◌+◌, Bool, true, false, if◌then◌else◌, List, [], ◌∷◌, ◌++◌, length, codes, decimal, All, Option}
+use Rattle.std.specs.Prelude.{◌≡◌, ◌≢◌, ◌⊎◌, ℕ, ◌+◌, ◌<◌, Bool, true, false, if◌then◌else◌, List, [], ◌∷◌, ◌++◌, length, codes, decimal, All, Option}
 use Rattle.std.specs.List.{list_any}
 use Rattle.std.specs.Io.KnownBytes.{Appends}
 use Rattle.point_core.specs.Refusal.{refusal_number, refusal_name}
 use Rattle.point_core.specs.declared.refusal.Refusal.{Refusal}
 use Rattle.point_core.specs.declared.refusal.Refusal.TheVariants.{Read as ReadFault}
+use Rattle.line_core.specs.declared.script.TheConstants.{SCRIPT_BYTES}
 use Rattle.check_core.specs.Asked.{asked, asked_by_update}
-use Rattle.check_core.specs.Check.{ChecksScript}
+use Rattle.check_core.specs.Check.{AnswersAsExpected, ChecksScript}
 use Rattle.check_core.specs.Kept.{kept}
 use Rattle.check_core.specs.declared.outcome.Verdict.{Verdict}
 use Rattle.check_core.specs.declared.outcome.Verdict.TheVariants as verdict
@@ -26,6 +27,18 @@ pub record Updates (script text : List ℕ) : Type 0 where
   pub passes : Passes text
   pub asked : asked text ≡ asked_by_update script
   pub kept : kept text ≡ kept script
+
+-- the text would be an update of the script, but no script may be as long
+pub record IsLongUpdate (script text : List ℕ) : Type 0 where
+  pub answers : AnswersAsExpected text
+  pub asked : asked text ≡ asked_by_update script
+  pub kept : kept text ≡ kept script
+  pub long : SCRIPT_BYTES < length text
+
+-- The script is too long, or an update of it is. A note has at most LINE_BYTES bytes, so an update is too long only by the
+-- lines that the script keeps, and by the number of lines in its answers.
+abbrev pub IsTooLongToUpdate : List ℕ → Type 0
+IsTooLongToUpdate script = (SCRIPT_BYTES < length script) ⊎ ((text : List ℕ) × IsLongUpdate script text)
 
 -- What an update made of a file. `reads` says of bytes that a file has them, and `given` that a file was given them: the script
 -- that was read is its own update; or another text was written that is an update of it; or the script was read and not

@@ -1,5 +1,6 @@
 //! Which answers a script expects. `update.rt` checks that a rewritten script expects the answers that an update has to.
-ghost use Rattle.std.specs.Prelude.{◌≡◌, ◌||◌, ◌++◌, IfOk, OnOk};
+ghost use Rattle.std.specs.Prelude.{◌≡◌, ◌||◌, ◌++◌, ◌⊎◌, IfOk, IfErr, OnOk};
+ghost use Rattle.point_core.specs.declared.refusal.Refusal.TheVariants.{Torn, Memory};
 ghost use Rattle.line_core.specs.Script.{lines_of};
 ghost use Rattle.check_core.specs.Asked.{asked, asked_at, asked_in};
 ghost use Rattle.check_core.specs.Expected.{expected_after, is_asked};
@@ -19,6 +20,7 @@ pub(crate) fn compare_asked(
     text: &[u8],
 ) -> Result<(), Refusal>
     ensures same { OnOk result (asked text.now ≡ asked_in all (lines_of script.now)) }
+    ensures refusals { IfErr result (λ refusal. (refusal ≡ Torn) ⊎ (refusal ≡ Memory)) }
 {
     let wanted = asked(alloc, script, all)?;
     let found = asked(alloc, text, false)?;

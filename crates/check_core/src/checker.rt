@@ -1,7 +1,7 @@
 //! `Checker`: the state of a check between lines: a desk, the counts, and the last answer with its stage. Its invariant
 //! keeps the stage within the answer's text. It is the handler of a script's lines.
 ghost use Rattle.std.specs.Prelude.{◌≡◌, ◌+◌, ◌<◌, ◌≤◌, ◌⊎◌, ◌∷◌, [], length, option_to_list, IfOk, OnOk, IfErr};
-ghost use Rattle.point_core.specs.declared.refusal.Refusal.TheVariants.{Write as WriteFault, Memory};
+ghost use Rattle.point_core.specs.declared.refusal.Refusal.TheVariants.{Write as WriteFault, Torn, Memory};
 ghost use Rattle.line_core.specs.declared.script.Ending.TheVariants.{Whole};
 ghost use Rattle.line_core.specs.Line.{body_of};
 ghost use Rattle.check_core.specs.Expected.{expected_text};
@@ -16,12 +16,15 @@ use crate::reporting::report_difference;
 use crate::stage::MatchStage;
 use crate::tally::CheckTally;
 use desk_core::Desk;
-use line_core::{Body, Ending, LineHandler, RawLine, body_of};
+use line_core::{Body, Ending, LineHandler, RawLine, body_of, first_line};
 use point_core::Refusal;
 use report_core::print;
 use script_core::answer_line;
 use std::alloc::Global;
 use std::io::Write;
+
+/// The most lines of a text. The number after the last one has 32 bits too: the loop over the lines ends there.
+const TEXT_LINES: u32 = u32::MAX - 1;
 
 /// The state of a check between lines: a desk, the counts, and the last line that has an answer.
 #[derive(Drop)]
@@ -40,7 +43,7 @@ pub(crate) struct Checker<'a> {
 }
 
 impl<'a> Checker<'a> {
-    ghost use Rattle.check_core.specs.Check.{IsFresh, differences_of, IsQuiet, Expects, IsAnswered, IsTaken, IsOpened, IsJudgedAt, IsEnded};
+    ghost use Rattle.check_core.specs.Check.{AnswersAsExpected, IsFresh, differences_of, IsQuiet, Expects, IsAnswered, IsTaken, IsOpened, IsJudgedAt, IsEnded};
 
     pub(crate) fn new(alloc: Global, place: &CheckPlace<'a>) -> Checker<'a>
         ensures fresh { IsFresh result }
@@ -89,6 +92,25 @@ impl<'a> Checker<'a> {
         self.take(number, bytes, writer)?;
         self.judge(writer)?;
         Ok(())
+    }
+
+    /// Takes all lines of a text, which may be longer than a script.
+    ///
+    /// Fails with Torn if the text has more than `TEXT_LINES` lines: the lines after these have no number.
+    pub(crate) fn take_text<W: Write>(&mut self, text: &[u8], writer: &mut W) -> Result<(), Refusal>
+        requires fresh { IsFresh self.old }
+        ensures answers { OnOk result (self.new.tally.differing ≡ 0 → AnswersAsExpected text.now) }
+        ensures refusals { IfErr result (λ refusal. (refusal ≡ WriteFault) ⊎ (refusal ≡ Torn) ⊎ (refusal ≡ Memory)) }
+    {
+        let mut rest = text;
+        for number in 1..TEXT_LINES + 1 {
+            let Some((line, more)) = first_line(rest) else {
+                return self.take_last(number, rest, writer);
+            };
+            self.take(number, line, writer)?;
+            rest = more;
+        }
+        Err(Refusal::Torn)
     }
 
     /// Answers a command: no more is expected of the answer before it.

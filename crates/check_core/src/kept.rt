@@ -1,6 +1,7 @@
 //! The lines of a script that an update keeps: all but notes that expect a line of an answer. `update.rt` checks that a
 //! rewritten script has them.
-ghost use Rattle.std.specs.Prelude.{◌≡◌, ◌∷◌, ◌++◌, flat_map, drop, IfOk, OnOk};
+ghost use Rattle.std.specs.Prelude.{◌≡◌, ◌∷◌, ◌++◌, ◌⊎◌, flat_map, drop, IfOk, IfErr, OnOk};
+ghost use Rattle.point_core.specs.declared.refusal.Refusal.TheVariants.{Torn, Memory};
 ghost use Rattle.line_core.specs.Script.{lines_of};
 ghost use Rattle.check_core.specs.Kept.{kept, kept_line};
 
@@ -14,6 +15,7 @@ use std::alloc::{AllocError, Global};
 /// Fails with `Torn` if one was lost, added or changed, and with `Memory`.
 pub(crate) fn compare_kept(alloc: Global, script: &[u8], text: &[u8]) -> Result<(), Refusal>
     ensures same { OnOk result (kept text.now ≡ kept script.now) }
+    ensures refusals { IfErr result (λ refusal. (refusal ≡ Torn) ⊎ (refusal ≡ Memory)) }
 {
     let before = kept(alloc, script)?;
     let after = kept(alloc, text)?;

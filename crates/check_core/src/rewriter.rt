@@ -1,5 +1,8 @@
 //! `Rewriter`: rewrites a script line by line so that its notes expect the answers. `update.rt` checks the result, so
-//! nothing is promised here.
+//! nothing is promised here but that only memory can be refused.
+ghost use Rattle.std.specs.Prelude.{◌≡◌, IfErr};
+ghost use Rattle.point_core.specs.declared.refusal.Refusal.TheVariants.{Memory};
+
 use crate::expected::expected_text;
 use crate::script_text::ScriptText;
 use command_core::Answer;
@@ -42,7 +45,9 @@ impl Rewriter {
     /// Takes the next line, and writes the lines that no later line can change.
     ///
     /// Fails with `Memory` if memory was refused, also to a command.
-    pub(crate) fn take(&mut self, line: &[u8], text: &mut ScriptText) -> Result<(), Refusal> {
+    pub(crate) fn take(&mut self, line: &[u8], text: &mut ScriptText) -> Result<(), Refusal>
+        ensures memory { IfErr result (λ refusal. refusal ≡ Memory) }
+    {
         match body_of(line) {
             Some(body) => self.answer(line, body, text),
             None => Ok(self.note(line, text)?),
@@ -58,7 +63,9 @@ impl Rewriter {
     }
 
     /// A line that has an answer, by its number in what is written.
-    fn answer(&mut self, line: &[u8], body: Body, text: &mut ScriptText) -> Result<(), Refusal> {
+    fn answer(&mut self, line: &[u8], body: Body, text: &mut ScriptText) -> Result<(), Refusal>
+        ensures memory { IfErr result (λ refusal. refusal ≡ Memory) }
+    {
         self.end(text)?;
         text.push(b"", line)?;
         self.is_asked = self.fills;
@@ -98,7 +105,9 @@ impl Rewriter {
 }
 
 /// Writes an answer to `text`, unless memory was refused to its command.
-fn print_known(number: u32, answer: &Answer, text: &mut Vec<u8>) -> Result<(), Refusal> {
+fn print_known(number: u32, answer: &Answer, text: &mut Vec<u8>) -> Result<(), Refusal>
+    ensures memory { IfErr result (λ refusal. refusal ≡ Memory) }
+{
     match answer {
         Answer::Refused(Refusal::Memory) => Err(Refusal::Memory),
         _ => print(number, answer, text),
