@@ -17,7 +17,7 @@ use Rattle.fence_core.specs.declared.watches.point_index.WaitingPoint.{WaitingPo
 use Rattle.fence_core.specs.declared.watches.point_index.point_queue.Standing.{Standing}
 use Rattle.fence_core.specs.PointIndex.{holds, is_due}
 use Rattle.fence_core.specs.Registered.{IsIndexed}
-use Rattle.fence_core.specs.declared.watches.places.Places.{Places}
+use Rattle.fence_core.specs.Pending.{Places}
 use Rattle.fence_core.proofs.InOrder.{same_lists}
 use Rattle.fence_core.proofs.Registered.{is_at-true, is_at-is}
 use Rattle.fence_core.proofs.Indexed.{fires-due}

@@ -155,7 +155,7 @@ length-insert (e ∷ es) r v none = by (nat_cmp r e.0) refl (length-insert es r 
     by Equal equal rest = absurd (none-some e.1 (sym none ∙ ap (λ o. cond (is_eq o) (Some e.1) (at es r)) equal))
     by Greater greater rest = ap suc (rest (sym (ap (λ o. cond (is_eq o) (Some e.1) (at es r)) greater) ∙ none))
 
-lookup-apart : {X : Type 0} (k : ℕ) (es : List (ℕ × X)) → AllByRecursion (λ y. nat_eq k y ≡ false) (keys_of es) → lookup (nat_eq k) es ≡ None
+pub lookup-apart : {X : Type 0} (k : ℕ) (es : List (ℕ × X)) → AllByRecursion (λ y. nat_eq k y ≡ false) (keys_of es) → lookup (nat_eq k) es ≡ None
 lookup-apart k [] apart = refl
 lookup-apart k (e ∷ es) apart = ap (λ b. cond b (Some e.1) (lookup (nat_eq k) es)) apart.0 ∙ lookup-apart k es apart.1
 

@@ -15,7 +15,7 @@ use Rattle.fence_core.specs.Watches.{fires}
 use Rattle.fence_core.specs.Reported.{at}
 use Rattle.fence_core.specs.PointIndex.{waiting, is_same, holds, is_of, is_due}
 use Rattle.fence_core.specs.Registered.{place_at, IsIndexed}
-use Rattle.fence_core.specs.declared.watches.places.Places.{Places}
+use Rattle.fence_core.specs.Pending.{Places}
 use Rattle.fence_core.specs.declared.watches.point_index.WaitingPoint.{WaitingPoint}
 use Rattle.fence_core.specs.declared.watches.point_index.point_queue.Standing.{Standing}
 use Rattle.fence_core.proofs.PointIndex.{holds-nothing, is_same-is, same_itself, one_point, not_same, same-one}

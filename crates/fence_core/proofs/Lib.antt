@@ -9,6 +9,7 @@ pub mod Registered
 pub mod Indexed
 mod Falling
 pub mod InOrder
+pub mod ByCookie
 pub mod Fired
 pub mod Signalling
 pub mod Above

@@ -10,13 +10,16 @@ use Rattle.std.proofs.lemmas.Bool.{cases_Bool, eqb-true, eq-eqb}
 use Rattle.std.proofs.lemmas.Bool.Decides.{nat_tests}
 use Rattle.std.proofs.lemmas.Option.{same_Some, none-some}
 use Rattle.std.proofs.lemmas.List.{map-append}
+use Rattle.std.proofs.Math.Arith.{digits_mod}
 use Rattle.fence_core.specs.declared.watches.TheConstants.{WATCHES}
 use Rattle.fence_core.specs.Watch.{Watch, is_for, cookies_of, ArePending}
 use Rattle.point_core.specs.declared.entry.Point.{Point}
 use Rattle.fence_core.specs.Fence.{members_of, fence_of}
 use Rattle.fence_core.specs.Reported.{at}
 use Rattle.fence_core.specs.Registered.{registration_of, registration_at, place_at, registered, AreRegistered}
-use Rattle.fence_core.specs.declared.watches.places.Places.{Places}
+use Rattle.fence_core.specs.Pending.{Places}
+use Rattle.fence_core.specs.Registration.{numbered, cookie_of}
+use Rattle.fence_core.specs.declared.watches.registration.TheConstants.{COOKIES}
 use Rattle.fence_core.specs.declared.watches.point_index.WaitingPoint.{WaitingPoint}
 use Rattle.fence_core.proofs.Pending.{ArePending-none, ArePending-filter, ArePending-push, filter-other, apart-any}
 use Rattle.fence_core.proofs.PointIndex.{is_eq-nat_cmp, less-nat}
@@ -151,7 +154,7 @@ AreRegistered-remove es left places fewer made cookie r h found is ordered out =
     record {
       pending = subst ArePending (sym (ap values_of is ∙ values_of-remove cookie r es h.ordered h.pending.distinct found_is)) (ArePending-filter (λ w. not (is_for cookie w)) h.pending);
       ordered = ordered;
-      before = subst (λ xs. AllByRecursion (λ n. n < made) (keys_of xs)) (sym is) (AllByRecursion-remove (λ n. n < made) (is_at (nat_cmp r)) es h.before);
+      before = subst (λ xs. AllByRecursion (λ n. n < numbered made 0) (keys_of xs)) (sym is) (AllByRecursion-remove (λ n. n < numbered made 0) (is_at (nat_cmp r)) es h.before);
       by_cookie = λ q. out q ∙ ap (λ o. cond (nat_eq cookie q) None o) (h.by_cookie q) ∙ sym (registration_of-remove cookie r es q h.ordered h.pending.distinct found_is) ∙ ap (registration_of q) (sym is);
     }
 
@@ -197,18 +200,28 @@ registration_of-push (e ∷ es) r w q none =
     or_none true b h = absurd (cc)
     or_none false b h = (refl, h)
 
-AllByRecursion-push : (es : List (ℕ × Watch)) (made : ℕ) (w : Watch) → AllByRecursion (λ r. r < made) (keys_of es) → AllByRecursion (λ r. r < made + 1) (keys_of (es ++ (made, w) ∷ []))
-AllByRecursion-push [] made w low = (omega arith, tt)
-AllByRecursion-push (e ∷ es) made w low = (let first = low.0 in omega arith, AllByRecursion-push es made w low.1)
+AllByRecursion-push : (es : List (ℕ × Watch)) (r next : ℕ) (w : Watch) → r < next → AllByRecursion (λ n. n < r) (keys_of es) → AllByRecursion (λ n. n < next) (keys_of (es ++ (r, w) ∷ []))
+AllByRecursion-push [] r next w up low = (omega arith, tt)
+AllByRecursion-push (e ∷ es) r next w up low = (let first = low.0 in omega arith, AllByRecursion-push es r next w up low.1)
 
-pub AreRegistered-push : (es more : List (ℕ × Watch)) (places grown : Places) (made : ℕ) (w : Watch) → AreRegistered es places made → list_any (is_for w.cookie) (values_of es) ≡ false → length (values_of es) < WATCHES → more ≡ insert_entry nat_cmp es made w → IsStrictlySortedBy nat_cmp (keys_of more) → ((q : ℕ) → registered grown q ≡ cond (nat_eq w.cookie q) (Some made) (registered places q)) → AreRegistered more grown (made + 1)
-AreRegistered-push es more places grown made w h new low is ordered put =
-    let last = is ∙ insert_entry-last es made w h.before in
+pub cookie_of-numbered : (made cookie : ℕ) → cookie < COOKIES → cookie_of (numbered made cookie) ≡ cookie
+cookie_of-numbered made cookie fits = digits_mod made fits
+
+-- all registrations come before the next, whatever its cookie
+pub before-numbered : (es : List (ℕ × Watch)) (made cookie : ℕ) → AllByRecursion (λ r. r < numbered made 0) (keys_of es) → AllByRecursion (λ r. r < numbered made cookie) (keys_of es)
+before-numbered [] made cookie low = tt
+before-numbered (e ∷ es) made cookie low = (let first = low.0 in omega arith, before-numbered es made cookie low.1)
+
+pub AreRegistered-push : (es more : List (ℕ × Watch)) (places grown : Places) (made r : ℕ) (w : Watch) → AreRegistered es places made → r ≡ numbered made w.cookie → w.cookie < COOKIES → list_any (is_for w.cookie) (values_of es) ≡ false → length (values_of es) < WATCHES → more ≡ insert_entry nat_cmp es r w → IsStrictlySortedBy nat_cmp (keys_of more)
+    → ((q : ℕ) → registered grown q ≡ cond (nat_eq w.cookie q) (Some r) (registered places q)) → AreRegistered more grown (made + 1)
+AreRegistered-push es more places grown made r w h numbered_is fits new low is ordered put =
+    let before = subst (λ m. AllByRecursion (λ n. n < m) (keys_of es)) (sym numbered_is) (before-numbered es made w.cookie h.before) in
+    let last = is ∙ insert_entry-last es r w before in
     record {
-      pending = subst ArePending (sym (ap values_of last ∙ map-append (λ (e : ℕ × Watch). e.1) es ((made, w) ∷ []))) (ArePending-push w.cookie w.points h.pending new low);
+      pending = subst ArePending (sym (ap values_of last ∙ map-append (λ (e : ℕ × Watch). e.1) es ((r, w) ∷ []))) (ArePending-push w.cookie w.points h.pending new low);
       ordered = ordered;
-      before = subst (λ xs. AllByRecursion (λ n. n < made + 1) (keys_of xs)) (sym last) (AllByRecursion-push es made w h.before);
-      by_cookie = λ q. put q ∙ ap (λ o. cond (nat_eq w.cookie q) (Some made) o) (h.by_cookie q) ∙ sym (registration_of-push es made w q new) ∙ ap (registration_of q) (sym last);
+      before = subst (λ xs. AllByRecursion (λ n. n < numbered (made + 1) 0) (keys_of xs)) (sym last) (AllByRecursion-push es r (numbered (made + 1) 0) w (omega arith) before);
+      by_cookie = λ q. put q ∙ ap (λ o. cond (nat_eq w.cookie q) (Some r) o) (h.by_cookie q) ∙ sym (registration_of-push es r w q new) ∙ ap (registration_of q) (sym last);
     }
 
 -- if no cookie has a place, nothing is registered
@@ -219,25 +232,16 @@ none_registered places made none = record { pending = ArePending-none; ordered =
 pub AreRegistered-none : (es : List (ℕ × Watch)) (places : Places) (made : ℕ) → es ≡ [] → ((q : ℕ) → place_at places q ≡ None) → AreRegistered es places made
 AreRegistered-none es places made is none = subst (λ xs. AreRegistered xs places made) (sym is) (none_registered places made none)
 
-pub AreRegistered-same : (es : List (ℕ × Watch)) (places other : Places) (made : ℕ) → AreRegistered es places made → ((q : ℕ) → registered other q ≡ registered places q) → AreRegistered es other made
-AreRegistered-same es places other made h same = record { pending = h.pending; ordered = h.ordered; before = h.before; by_cookie = λ q. same q ∙ h.by_cookie q }
+pub AreRegistered-same : (es kept : List (ℕ × Watch)) (places other : Places) (made : ℕ) → AreRegistered es places made → kept ≡ es → ((q : ℕ) → registered other q ≡ registered places q) → AreRegistered kept other made
+AreRegistered-same es kept places other made h entries same = subst (λ xs. AreRegistered xs other made) (sym entries) (record { pending = h.pending; ordered = h.ordered; before = h.before; by_cookie = λ q. same q ∙ h.by_cookie q })
 
 -- a cookie that no watch has stands nowhere
-place-none : (es : List (ℕ × Watch)) (places : Places) (made cookie : ℕ) → AreRegistered es places made → list_any (is_for cookie) (values_of es) ≡ false → place_at places cookie ≡ None
-place-none es places made cookie h new = by (place_at places cookie) (h.by_cookie cookie ∙ registration_of-none cookie es new)
+pub place-new : (es : List (ℕ × Watch)) (places : Places) (made cookie : ℕ) → AreRegistered es places made → list_any (is_for cookie) (values_of es) ≡ false → place_at places cookie ≡ None
+place-new es places made cookie h new = by (place_at places cookie) (h.by_cookie cookie ∙ registration_of-none cookie es new)
   where
     by : (o : Option WaitingPoint) → registration_at o ≡ None → o ≡ None
     by None is = refl
     by (Some place) is = absurd (none-some place.registration (sym is))
-
--- a place put in and taken out again
-pub place-undo : (es : List (ℕ × Watch)) (places grown back : Places) (made cookie : ℕ) (place : WaitingPoint) → AreRegistered es places made → list_any (is_for cookie) (values_of es) ≡ false → ((q : ℕ) → place_at grown q ≡ cond (nat_eq cookie q) (Some place) (place_at places q)) → ((q : ℕ) → place_at back q ≡ cond (nat_eq cookie q) None (place_at grown q)) → (q : ℕ) → place_at back q ≡ place_at places q
-place-undo es places grown back made cookie place h new put out q = elim (cases_Bool (nat_eq cookie q)) [
-  | inl here ↦
-      out q ∙ ap (λ b. cond b None (place_at grown q)) here
-      ∙ sym (ap (place_at places) (sym (eqb-true cookie q here)) ∙ place-none es places made cookie h new)
-  | inr other ↦ out q ∙ ap (λ b. cond b None (place_at grown q)) other ∙ put q ∙ ap (λ b. cond b (Some place) (place_at places q)) other
-]
 
 -- if no watch passes the test, none that is found does
 pub at-none : (test : Watch → Bool) (es : List (ℕ × Watch)) (r : ℕ) (w : Watch) → list_any test (values_of es) ≡ false → at es r ≡ Some w → test w ≡ false

@@ -4,6 +4,7 @@ pub mod Gathered
 pub mod Pending
 pub mod PointIndex
 pub mod Registered
+pub mod Registration
 pub mod Reported
 pub mod Run
 pub mod SharedFence

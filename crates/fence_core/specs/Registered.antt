@@ -8,7 +8,9 @@ use Rattle.fence_core.specs.Watch.{Watch, is_for, ArePending}
 use Rattle.fence_core.specs.Watches.{fires}
 use Rattle.fence_core.specs.Reported.{at}
 use Rattle.fence_core.specs.PointIndex.{holds, is_of, AreAbove}
-use Rattle.fence_core.specs.declared.watches.places.Places.{Places}
+use Rattle.fence_core.specs.Pending.{Places}
+use Rattle.fence_core.specs.Registration.{numbered}
+use Rattle.fence_core.specs.declared.watches.pending.PendingWatch.{PendingWatch}
 use Rattle.fence_core.specs.declared.watches.point_index.WaitingPoint.{WaitingPoint}
 use Rattle.fence_core.specs.declared.watches.point_index.point_queue.Standing.{Standing}
 
@@ -17,9 +19,13 @@ abbrev pub registration_of : ℕ → List (ℕ × Watch) → Option ℕ
 registration_of cookie [] = None
 registration_of cookie (e ∷ es) = if is_for cookie e.1 then Some e.0 else registration_of cookie es
 
+abbrev pub place_in : Option PendingWatch → Option WaitingPoint
+place_in None = None
+place_in (Some w) = Some w.place
+
 -- the indexed point of the cookie's watch
 abbrev pub place_at : Places → ℕ → Option WaitingPoint
-place_at places cookie = lookup (nat_eq cookie) places.by_cookie.entries
+place_at places cookie = place_in (lookup (nat_eq cookie) places)
 
 abbrev pub registration_at : Option WaitingPoint → Option ℕ
 registration_at None = None
@@ -41,7 +47,7 @@ pub record IsIndexed (es : List (ℕ × Watch)) (places : Places) (index : List 
 pub record AreRegistered (es : List (ℕ × Watch)) (places : Places) (made : ℕ) : Type 0 where
   pub pending : ArePending (values_of es)
   pub ordered : IsStrictlySortedBy nat_cmp (keys_of es)
-  pub before : AllByRecursion (λ r. r < made) (keys_of es)
+  pub before : AllByRecursion (λ r. r < numbered made 0) (keys_of es)
   pub by_cookie : (cookie : ℕ) → registered places cookie ≡ registration_of cookie es
 
 -- if it says so, each point of the index is above the reach

@@ -1,7 +1,7 @@
 //! `Watches`: callbacks that fire once their fence is signalled, as Linux's `dma_fence_add_callback`. The desk keeps
 //! one registry and calls `register`, `remove` and, before each rise, `after_inc`.
 //!
-//! The registry stores each pending watch once, its point in `places` once by cookie, and that point in `index` once by
+//! The registry stores each pending watch once by cookie, with one of its points, and that point in `index` once by
 //! context. While `is_settled`, every point of the index is above the kept reach.
 ghost use Rattle.std.specs.Prelude.{◌≡◌, ◌↔◌, ◌≤◌, [], Ok, Err, IfOk, IfErr, OnOk, OnErr, IsOk, MatchOption, IsTrue, false, replicate};
 ghost use Rattle.point_core.specs.declared.context.TheConstants.{CONTEXTS};
@@ -17,12 +17,10 @@ ghost use Rattle.fence_core.specs.Watches.{no_watches, has_watch, cause_to_refus
 
 mod due_floor;
 mod pending;
-mod places;
 mod point_index;
 mod registration;
 
-use self::pending::{PendingWatch, PendingWatches};
-use self::places::Places;
+use self::pending::PendingWatches;
 use self::point_index::{PointIndex, WaitingPoint};
 use self::registration::Registration;
 use crate::fence::{Fence, first_above};
@@ -47,7 +45,6 @@ const _: () = prove!(WATCHES_EVER == 18_446_744_073_709_551_615);
 pub struct Watches {
     alloc: Global,
     pending: PendingWatches,
-    places: Places,
     index: PointIndex,
     made: u64,
     reach: Reach,
@@ -64,8 +61,8 @@ impl Model for Watches {
 
     ghost view = { λ ws. registry_of (values_of ws.pending.entries) ws.made ws.reach };
 
-    ghost invariant = { λ ws. AreRegistered ws.pending.entries ws.places ws.made ×
-        IsIndexed ws.pending.entries ws.places ws.index ×
+    ghost invariant = { λ ws. AreRegistered ws.pending.entries ws.pending.places ws.made ×
+        IsIndexed ws.pending.entries ws.pending.places ws.index ×
         IsSettled ws.is_settled ws.index ws.reach };
 }
 
@@ -84,7 +81,6 @@ impl Watches {
         Watches {
             alloc,
             pending: PendingWatches::new(alloc),
-            places: Places::new(alloc),
             index: PointIndex::new(alloc),
             made,
             reach: Reach::zero(),
@@ -122,16 +118,10 @@ impl Watches {
             return Err(Refusal::Signalled);
         };
         let fence = Fence::of(self.alloc, points)?;
-        let registration = Registration(self.made);
+        let registration = Registration::of(self.made, cookie);
         self.index.put(&first, registration)?;
         let place = WaitingPoint::of(&first, registration);
-        let Ok(_new) = self.places.insert(cookie, &place) else {
-            self.index.take(&place);
-            return Err(Refusal::Memory);
-        };
-        let watch = PendingWatch { cookie, fence };
-        let Ok(_done) = self.pending.insert(registration, watch) else {
-            self.places.remove(cookie);
+        let Ok(_new) = self.pending.insert(&place, fence) else {
             self.index.take(&place);
             return Err(Refusal::Memory);
         };
@@ -147,7 +137,7 @@ impl Watches {
     pub fn free(&self, cookie: u64) -> Result<(), Refusal>
         ensures { MatchOption (cause_to_refuse self.now cookie) (IsOk result) (λ cause. result ≡ Err cause) }
     {
-        if self.places.has(cookie) {
+        if self.pending.has(cookie) {
             return Err(Refusal::Exists);
         }
         if self.pending.len() >= WATCHES || self.made == WATCHES_EVER {
@@ -162,10 +152,7 @@ impl Watches {
         ensures found { result ≡ has_watch self.old cookie }
         ensures without { self.new ≡ without_watch self.old cookie }
     {
-        let Some(place) = self.places.remove(cookie) else {
-            return false;
-        };
-        let Some(_watch) = self.pending.remove(&place.registration) else {
+        let Some(place) = self.pending.remove(cookie) else {
             return false;
         };
         self.index.take(&place);
@@ -294,7 +281,7 @@ impl Watches {
         requires none_fires { list_any (fires reach.now) self.old.pending ≡ false }
         ensures { self.new ≡ registry_of self.old.pending self.old.made reach.now }
     {
-        let settled = self.index.settle(&mut self.places, &self.pending, reach);
+        let settled = self.index.settle(&mut self.pending, reach);
         self.is_settled = settled.is_ok();
         self.reach.copy_from(reach);
     }
@@ -307,15 +294,13 @@ impl Watches {
         let Point { ctx, value } = *point;
         self.reach.raise_to(Point { ctx, value });
         if !self.is_settled {
-            let settled = self
-                .index
-                .settle(&mut self.places, &self.pending, &self.reach);
+            let settled = self.index.settle(&mut self.pending, &self.reach);
             self.is_settled = settled.is_ok();
             return;
         }
         let settled = self
             .index
-            .settle_context(&mut self.places, &self.pending, ctx, &self.reach);
+            .settle_context(&mut self.pending, ctx, &self.reach);
         self.is_settled = settled.is_ok();
     }
 }

@@ -23,7 +23,6 @@ use self::point_queue::{PointQueue, Standing};
 use self::single_rise::gathered_in_order;
 use super::due_floor::DueFloor;
 use super::pending::PendingWatches;
-use super::places::Places;
 use super::registration::Registration;
 use point_core::{Context, Point, Reach, Refusal};
 use std::alloc::Global;
@@ -134,14 +133,14 @@ impl PointIndex {
     /// Fails only with `Memory`; some watches may then not have moved.
     pub(super) fn settle(
         &mut self,
-        places: &mut Places,
-        pending: &PendingWatches,
+        pending: &mut PendingWatches,
         reach: &Reach,
     ) -> Result<(), Refusal>
-        requires indexed { IsIndexed pending.now.entries places.old self.old }
-        requires none_fires { NoneFires pending.now.entries reach.now }
-        ensures indexed { IsIndexed pending.now.entries places.new self.new }
-        ensures registered { (q : ℕ) → registered places.new q ≡ registered places.old q }
+        requires indexed { IsIndexed pending.old.entries pending.old.places self.old }
+        requires none_fires { NoneFires pending.old.entries reach.now }
+        ensures indexed { IsIndexed pending.new.entries pending.new.places self.new }
+        ensures entries { pending.new.entries ≡ pending.old.entries }
+        ensures registered { (q : ℕ) → registered pending.new.places q ≡ registered pending.old.places q }
         ensures none_left { OnOk result ((k : Waiting) → is_due k.ctx (value_at reach.now k.ctx) k ≡ true →
             holds self.new k ≡ false) }
     {
@@ -149,7 +148,7 @@ impl PointIndex {
         let _queues = &self.queues;
         for index in 0..reach.used() {
             if self.floor.is_below(reach, index) {
-                self.settle_context(places, pending, Context::at(index), reach)?;
+                self.settle_context(pending, Context::at(index), reach)?;
             }
         }
         Ok(())
@@ -159,15 +158,15 @@ impl PointIndex {
     #[inline(never)]
     pub(super) fn settle_context(
         &mut self,
-        places: &mut Places,
-        pending: &PendingWatches,
+        pending: &mut PendingWatches,
         ctx: Context,
         reach: &Reach,
     ) -> Result<(), Refusal>
-        requires indexed { IsIndexed pending.now.entries places.old self.old }
-        requires none_fires { NoneFires pending.now.entries reach.now }
-        ensures indexed { IsIndexed pending.now.entries places.new self.new }
-        ensures registered { (q : ℕ) → registered places.new q ≡ registered places.old q }
+        requires indexed { IsIndexed pending.old.entries pending.old.places self.old }
+        requires none_fires { NoneFires pending.old.entries reach.now }
+        ensures indexed { IsIndexed pending.new.entries pending.new.places self.new }
+        ensures entries { pending.new.entries ≡ pending.old.entries }
+        ensures registered { (q : ℕ) → registered pending.new.places q ≡ registered pending.old.places q }
         ensures waiting { AreWaiting self.old }
         ensures less { (k : Waiting) → is_due k.ctx (value_at reach.now k.ctx) k ≡ true →
             holds self.new k ≡ true → holds self.old k ≡ true }
@@ -176,22 +175,22 @@ impl PointIndex {
     {
         // Opens the invariant.
         let _queues = &self.queues;
-        while self.move_first(places, pending, ctx, reach)? {}
+        while self.move_first(pending, ctx, reach)? {}
         Ok(())
     }
 
     /// Moves the first watch of the context if its point is at or below the reach, and reports whether it did.
     fn move_first(
         &mut self,
-        places: &mut Places,
-        pending: &PendingWatches,
+        pending: &mut PendingWatches,
         ctx: Context,
         reach: &Reach,
     ) -> Result<bool, Refusal>
-        requires indexed { IsIndexed pending.now.entries places.old self.old }
-        requires none_fires { NoneFires pending.now.entries reach.now }
-        ensures indexed { IsIndexed pending.now.entries places.new self.new }
-        ensures registered { (q : ℕ) → registered places.new q ≡ registered places.old q }
+        requires indexed { IsIndexed pending.old.entries pending.old.places self.old }
+        requires none_fires { NoneFires pending.old.entries reach.now }
+        ensures indexed { IsIndexed pending.new.entries pending.new.places self.new }
+        ensures entries { pending.new.entries ≡ pending.old.entries }
+        ensures registered { (q : ℕ) → registered pending.new.places q ≡ registered pending.old.places q }
         ensures less { (k : Waiting) → is_due k.ctx (value_at reach.now k.ctx) k ≡ true →
             holds self.new k ≡ true → holds self.old k ≡ true }
         ensures fewer { IfOk result (λ moved. moved ≡ true →
@@ -202,7 +201,7 @@ impl PointIndex {
         let Some(due) = self.next_due(ctx, reach.get(ctx)) else {
             return Ok(false);
         };
-        self.move_on(&due, places, pending, reach)?;
+        self.move_on(&due, pending, reach)?;
         Ok(true)
     }
 
@@ -210,16 +209,16 @@ impl PointIndex {
     fn move_on(
         &mut self,
         due: &WaitingPoint,
-        places: &mut Places,
-        pending: &PendingWatches,
+        pending: &mut PendingWatches,
         reach: &Reach,
     ) -> Result<(), Refusal>
-        requires indexed { IsIndexed pending.now.entries places.old self.old }
-        requires none_fires { NoneFires pending.now.entries reach.now }
+        requires indexed { IsIndexed pending.old.entries pending.old.places self.old }
+        requires none_fires { NoneFires pending.old.entries reach.now }
         requires there { holds self.old due.now ≡ true }
         requires due { is_due due.now.ctx (value_at reach.now due.now.ctx) due.now ≡ true }
-        ensures indexed { IsIndexed pending.now.entries places.new self.new }
-        ensures registered { (q : ℕ) → registered places.new q ≡ registered places.old q }
+        ensures indexed { IsIndexed pending.new.entries pending.new.places self.new }
+        ensures entries { pending.new.entries ≡ pending.old.entries }
+        ensures registered { (q : ℕ) → registered pending.new.places q ≡ registered pending.old.places q }
         ensures less { (k : Waiting) → is_due k.ctx (value_at reach.now k.ctx) k ≡ true →
             holds self.new k ≡ true → holds self.old k ≡ true }
         ensures fewer { OnOk result (number_due due.now.ctx (value_at reach.now due.now.ctx) self.new <
@@ -230,8 +229,7 @@ impl PointIndex {
         let next = watch.fence.first_above(reach).unwrap();
         self.put(&next, registration)?;
         self.take(due);
-        let (cookie, place) = (watch.cookie, WaitingPoint::of(&next, registration));
-        places.replace(cookie, &place);
+        pending.replace(&WaitingPoint::of(&next, registration));
         Ok(())
     }
 

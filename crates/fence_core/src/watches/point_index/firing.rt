@@ -116,7 +116,7 @@ fn report(
     if !watch.fence.is_signalled(reach) {
         return Ok(());
     }
-    let Ok(_before) = fired.insert(registration, watch.cookie) else {
+    let Ok(_before) = fired.insert(registration, watch.cookie()) else {
         return Err(Refusal::Memory);
     };
     Ok(())

@@ -85,7 +85,7 @@ impl Gathered {
             return Ok(false);
         }
         self.cookies
-            .push(watch.cookie)
+            .push(watch.cookie())
             .map_err(|_| Refusal::Memory)?;
         self.last = Some(registration);
         Ok(true)

@@ -15,7 +15,7 @@ returns-then-has c =
     sym (ap (λ (r : Registry). list_any (is_for c.args.cookie) r.pending) c.self.view_is)
     ∙ sym (is_some-registration_of c.args.cookie c.self.inside.pending.entries)
     ∙ ap is_some (sym (c.self.invariant.0.by_cookie c.args.cookie))
-    ∙ is_some-registration_at (place_at c.self.inside.places c.args.cookie)
+    ∙ is_some-registration_at (place_at c.self.inside.pending.places c.args.cookie)
     ∙ sym c.has.ensures ∙ c.if-has.true in
     MatchOption-Some _ _ _ _ (cause_to_refuse-there c.args.self.now c.args.cookie there) refl
 
@@ -25,7 +25,7 @@ returns-then-len-ge-WATCHES c =
     sym (ap (λ (r : Registry). list_any (is_for c.args.cookie) r.pending) c.self.view_is)
     ∙ sym (is_some-registration_of c.args.cookie c.self.inside.pending.entries)
     ∙ ap is_some (sym (c.self.invariant.0.by_cookie c.args.cookie))
-    ∙ is_some-registration_at (place_at c.self.inside.places c.args.cookie)
+    ∙ is_some-registration_at (place_at c.self.inside.pending.places c.args.cookie)
     ∙ sym c.has.ensures ∙ c.if-has.false in
     let len = ap (λ (r : Registry). length r.pending) c.self.view_is in
     let same = length-values_of c.self.inside.pending.entries in
@@ -42,7 +42,7 @@ returns c =
     sym (ap (λ (r : Registry). list_any (is_for c.args.cookie) r.pending) c.self.view_is)
     ∙ sym (is_some-registration_of c.args.cookie c.self.inside.pending.entries)
     ∙ ap is_some (sym (c.self.invariant.0.by_cookie c.args.cookie))
-    ∙ is_some-registration_at (place_at c.self.inside.places c.args.cookie)
+    ∙ is_some-registration_at (place_at c.self.inside.pending.places c.args.cookie)
     ∙ sym c.has.ensures ∙ c.if-has.false in
     let len = ap (λ (r : Registry). length r.pending) c.self.view_is in
     let same = length-values_of c.self.inside.pending.entries in

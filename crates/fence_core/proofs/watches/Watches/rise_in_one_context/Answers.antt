@@ -27,7 +27,7 @@ settle_context-settled-requires-clause-none_fires c =
 pub invariant_of-self : goal.invariant_of-self
 invariant_of-self c =
     let step = c.settle-settled.ensures in (
-      AreRegistered-same c.self.inside.pending.entries c.self.inside.places c.settle-settled.new.places c.self.inside.made c.self.invariant.0 step.registered,
+      AreRegistered-same c.self.inside.pending.entries c.settle-settled.new.pending.entries c.self.inside.pending.places c.settle-settled.new.pending.places c.self.inside.made c.self.invariant.0 step.entries step.registered,
       step.indexed,
       λ settled. AreAbove-none_due c.settle-settled.new.self c.raise_to.new.self (on_ok c.settle-settled.result step.none_left (sym c.is_ok-self-inside.ensures.value ∙ settled)),
     )
@@ -35,7 +35,7 @@ invariant_of-self c =
 pub invariant_of-self-2 : goal.invariant_of-self-2
 invariant_of-self-2 c =
     let step = c.settle_context-settled.ensures in (
-      AreRegistered-same c.self.inside.pending.entries c.self.inside.places c.settle_context-settled.new.places c.self.inside.made c.self.invariant.0 step.registered,
+      AreRegistered-same c.self.inside.pending.entries c.settle_context-settled.new.pending.entries c.self.inside.pending.places c.settle_context-settled.new.pending.places c.self.inside.made c.self.invariant.0 step.entries step.registered,
       step.indexed,
       λ settled. AreAbove-one_context c.self.inside.index c.settle_context-settled.new.self c.self.inside.reach c.raise_to.new.self c.args.point.now c.raise_to.ensures.value c.raise_to.ensures.context.0 step.waiting (c.self.invariant.2 c.if-not-self.false) step.less
           (on_ok c.settle_context-settled.result step.none_left (sym c.is_ok-self-inside-2.ensures.value ∙ settled)),

@@ -12,7 +12,7 @@ settle-settled-requires-clause-none_fires c = λ r w is. at-none (fires c.args.r
 
 pub invariant_of-self : goal.invariant_of-self
 invariant_of-self c = (
-  AreRegistered-same c.self.inside.pending.entries c.self.inside.places c.settle-settled.new.places c.self.inside.made c.self.invariant.0 c.settle-settled.ensures.registered,
+  AreRegistered-same c.self.inside.pending.entries c.settle-settled.new.pending.entries c.self.inside.pending.places c.settle-settled.new.pending.places c.self.inside.made c.self.invariant.0 c.settle-settled.ensures.entries c.settle-settled.ensures.registered,
   c.settle-settled.ensures.indexed,
   λ settled. subst (AreAbove c.settle-settled.new.self) (sym c.copy_from.ensures.values)
       (AreAbove-none_due c.settle-settled.new.self c.args.reach.now (on_ok c.settle-settled.result c.settle-settled.ensures.none_left (sym c.is_ok-self-inside.ensures.value ∙ settled))),

@@ -7,7 +7,8 @@ use Rattle.fence_core.proofs.watches.point_index.PointIndex.settle.Given as goal
 
 abbrev pub invariant-loop-index : goal.invariant-loop-index
 invariant-loop-index l =
-    IsIndexed l.pending.entries l.places l.self ×
-    ((q : ℕ) → registered l.places q ≡ registered l.fn.places q) ×
+    IsIndexed l.pending.entries l.pending.places l.self ×
+    (l.pending.entries ≡ l.fn.pending.entries) ×
+    ((q : ℕ) → registered l.pending.places q ≡ registered l.fn.pending.places q) ×
     ((k : Waiting) → is_due k.ctx (value_at l.reach k.ctx) k ≡ true → holds l.self k ≡ true → holds l.fn.self k ≡ true) ×
     ((k : Waiting) → k.ctx ≤ l.index → is_due k.ctx (value_at l.reach k.ctx) k ≡ true → holds l.self k ≡ false)

@@ -7,8 +7,9 @@ use Rattle.fence_core.proofs.watches.point_index.PointIndex.settle_context.Given
 
 abbrev pub invariant-loop : goal.invariant-loop
 invariant-loop l =
-    IsIndexed l.pending.entries l.places l.self ×
-    ((q : ℕ) → registered l.places q ≡ registered l.fn.places q) ×
+    IsIndexed l.pending.entries l.pending.places l.self ×
+    (l.pending.entries ≡ l.fn.pending.entries) ×
+    ((q : ℕ) → registered l.pending.places q ≡ registered l.fn.pending.places q) ×
     ((k : Waiting) → is_due k.ctx (value_at l.reach k.ctx) k ≡ true → holds l.self k ≡ true → holds l.fn.self k ≡ true)
 
 abbrev pub decreases-loop : goal.decreases-loop

@@ -1,7 +1,7 @@
 use Rattle.std.proofs.Common.{[], ◌∷◌, ◌++◌, Some, if◌then◌else◌, ◌∙◌, ap, sym, subst}
 use Rattle.point_core.specs.Reach.{reaching}
-use Rattle.fence_core.specs.Fence.{members_of}
-use Rattle.fence_core.specs.Watch.{Watch, watch_of}
+use Rattle.fence_core.specs.Pending.{watch_in}
+use Rattle.fence_core.specs.Watch.{Watch}
 use Rattle.fence_core.specs.Reported.{cookie_if_fires}
 use Rattle.fence_core.specs.Gathered.{HasGathered}
 use Rattle.fence_core.proofs.Gathered.{HasGathered-same, HasGathered-put}
@@ -12,9 +12,9 @@ returns-in_default-clause-put c = λ _ fired h. HasGathered-same c.args.pending.
 
 pub returns-clause-put : goal.returns-clause-put
 returns-clause-put c = λ _ fired h.
-    let w : Watch = watch_of c.watch.inside.cookie (members_of c.watch.inside.fence) in
+    let w : Watch = watch_in c.in-Some.watch.now in
     let cookies = c.args.self.now.cookies.items in
-    let pushed = c.push.ensures.items ∙ ap (λ b. if b then cookies ++ c.watch.inside.cookie ∷ [] else cookies) (sym c.in_ok-map_err.ensures.variant) in
+    let pushed = c.push.ensures.items ∙ ap (λ b. if b then cookies ++ c.cookie.result ∷ [] else cookies) (sym c.in_ok-map_err.ensures.variant) ∙ ap (λ k. cookies ++ k ∷ []) c.cookie.ensures in
     subst (λ cs. HasGathered c.args.pending.now.entries (reaching c.args.reach.now c.args.point.now) c.args.registration fired cs (Some c.args.registration)) (sym pushed)
     (HasGathered-put c.args.pending.now.entries (reaching c.args.reach.now c.args.point.now) c.args.registration w fired cookies c.args.self.now.last h
-    (sym c.in-Some.ensures.value ∙ ap Some (sym c.watch.view_is)) (sym c.is_signalled_with.ensures ∙ c.if-not-is_signalled_with.false) (c.precedes.ensures.0 c.if-not-precedes.false))
+    (sym c.in-Some.ensures.value) (sym c.is_signalled_with.ensures ∙ c.if-not-is_signalled_with.false) (c.precedes.ensures.0 c.if-not-precedes.false))
