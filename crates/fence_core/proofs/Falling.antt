@@ -1,5 +1,5 @@
 -- Queues that fall: where a watch belongs, one more and one less, and the same queue in rising order.
-use Rattle.std.proofs.Common.{◌≡◌, ◌≢◌, ℕ, zero, suc, ◌+◌, ◌-◌, ◌<◌, ◌≤◌, inl, inr, refl, sym, ap, ◌∙◌, subst, nat_eq, Bool, true, false, not, cond, ◌&&◌, ◌||◌, List, [], ◌∷◌, ◌++◌, length, filter, get_or, drop, reverse, arith}
+use Rattle.std.proofs.Common.{◌≡◌, ◌≢◌, ℕ, zero, suc, ◌+◌, ◌-◌, ◌<◌, ◌≤◌, inl, inr, refl, sym, ap, ◌∙◌, subst, nat_eq, Bool, true, false, not, cond, ◌&&◌, ◌||◌, List, [], ◌∷◌, ◌++◌, length, filter, get_or, take, drop, reverse, arith}
 use Rattle.std.specs.declared.cmp.Ordering.TheVariants.{Less, Equal, Greater}
 use Rattle.std.specs.Ordering.{nat_cmp, ordering_then}
 use Rattle.std.specs.List.{insert, remove, AllByRecursion}
@@ -248,6 +248,19 @@ number-removed test (x ∷ q) zero w low is here =
     let one : number test (x ∷ q) ≡ length (x ∷ filter test q) = ap (λ b. length (cond b (x ∷ filter test q) (filter test q))) (ap test is ∙ here) in
     omega arith
 number-removed test (x ∷ q) (suc p) w low is here = fewer (test x) x (filter test (remove q p)) (filter test q) (number-removed test q p w (omega arith) is here)
+
+-- one more at the end, and the last one taken out
+pub insert-end : (q : List Standing) (p : ℕ) (w : Standing) → p ≡ length q → insert q p w ≡ q ++ w ∷ []
+insert-end [] zero w is = refl
+insert-end [] (suc p) w is = absurd (omega arith)
+insert-end (x ∷ q) zero w is = absurd (omega arith)
+insert-end (x ∷ q) (suc p) w is = ap (λ r. x ∷ r) (insert-end q p w (omega arith))
+
+pub remove-end : (q : List Standing) (p : ℕ) → p + 1 ≡ length q → remove q p ≡ take p q
+remove-end [] p is = absurd (omega arith)
+remove-end (x ∷ []) zero is = refl
+remove-end (x ∷ y ∷ q) zero is = absurd (omega arith)
+remove-end (x ∷ q) (suc p) is = ap (λ r. x ∷ r) (remove-end q p (omega arith))
 
 -- the search for a place
 module _ (w : Standing) (m : ℕ) (q : List Standing) (falling : IsFalling q) (low : m < length q) where

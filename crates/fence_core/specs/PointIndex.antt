@@ -88,6 +88,12 @@ pub record IsPlaceOf (watch : Standing) (place : ℕ) (queue : List Standing) : 
   pub over : (k : ℕ) (d : Standing) → k < place → StandsBefore watch (slice_index_or queue k d)
   pub others : (k : ℕ) (d : Standing) → place ≤ k → k < length queue → ¬ StandsBefore watch (slice_index_or queue k d)
 
+-- a range of places that has the place of the watch
+pub record IsRangeOf (watch : Standing) (low high : ℕ) (queue : List Standing) : Type 0 where
+  pub within : (low ≤ high) × (high ≤ length queue)
+  pub over : (k : ℕ) (d : Standing) → k < low → StandsBefore watch (slice_index_or queue k d)
+  pub others : (k : ℕ) (d : Standing) → high ≤ k → k < length queue → ¬ StandsBefore watch (slice_index_or queue k d)
+
 -- the watch is the one at the place
 abbrev pub StandsAt : Standing → ℕ → List Standing → Type 0
 StandsAt watch place queue = (place < length queue) × (slice_index_or queue place watch ≡ watch)

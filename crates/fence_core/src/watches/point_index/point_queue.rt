@@ -2,10 +2,11 @@
 //! fires leaves from the end. Only `put` and `take` change it; `PointIndex` has a queue for each context.
 ghost use Rattle.std.specs.Prelude.{◌≡◌, ◌↔◌, ◌<◌, ◌≤◌, true, false, not, ◌&&◌, ◌||◌, ◌+◌, ◌∷◌, []};
 ghost use Rattle.std.specs.Prelude.{length, drop, reverse, IsTrue};
+ghost use Rattle.std.specs.List.{insert, remove};
 ghost use Rattle.std.specs.Prelude.{OnOk, OnErr, IfErr, IfSome, IfNone};
 ghost use Rattle.point_core.specs.declared.refusal.Refusal.TheVariants.{Memory};
 ghost use Rattle.fence_core.specs.declared.watches.point_index.point_queue.Standing.{Standing as Stands};
-ghost use Rattle.fence_core.specs.PointIndex.{is_alike, has, is_low, number, StandsBefore, IsRising, IsPlaceOf, StandsAt};
+ghost use Rattle.fence_core.specs.PointIndex.{is_alike, has, is_low, number, StandsBefore, IsRising, IsPlaceOf, IsRangeOf, StandsAt};
 
 use crate::watches::registration::Registration;
 use point_core::Refusal;
@@ -74,7 +75,7 @@ impl PointQueue {
         if self.has_at(place, watch) {
             return Ok(());
         }
-        let Ok(()) = self.standing.insert(place, *watch) else {
+        let Ok(()) = put_at(&mut self.standing, place, watch) else {
             return Err(Refusal::Memory);
         };
         Ok(())
@@ -88,7 +89,7 @@ impl PointQueue {
     {
         let place = self.place_of(watch);
         if self.has_at(place, watch) {
-            self.standing.remove(place);
+            take_at(&mut self.standing, place);
         }
     }
 
@@ -125,8 +126,7 @@ impl PointQueue {
     fn place_of(&self, watch: &Standing) -> usize
         ensures place { IsPlaceOf watch.now result self.now }
     {
-        let mut low = 0;
-        let mut high = self.standing.len();
+        let (mut low, mut high) = self.range_of(watch);
         while low < high {
             let middle = low + (high - low) / 2;
             if watch.is_before(&self.standing[middle]) {
@@ -138,10 +138,61 @@ impl PointQueue {
         low
     }
 
+    /// A range with the place of the watch, found by steps from the end that double: most watches are put in and taken out
+    /// near the end.
+    fn range_of(&self, watch: &Standing) -> (usize, usize)
+        ensures range { IsRangeOf watch.now result.0 result.1 self.now }
+    {
+        let mut high = self.standing.len();
+        let mut step = 1;
+        while step <= high {
+            let middle = high - step;
+            if watch.is_before(&self.standing[middle]) {
+                return (middle + 1, high);
+            }
+            high = middle;
+            step *= 2;
+        }
+        (0, high)
+    }
+
     /// Whether the watch is at the place.
     fn has_at(&self, place: usize, watch: &Standing) -> bool
         ensures { IsTrue result ↔ StandsAt watch.now place self.now }
     {
         place < self.standing.len() && self.standing[place] == *watch
     }
+}
+
+/// Puts a watch in at the place. At the end no other is moved.
+///
+/// Fails only with `Memory`, and then leaves all as it was.
+fn put_at(standing: &mut Vec<Standing>, place: usize, watch: &Standing) -> Result<(), Refusal>
+    requires within { place ≤ length standing.old.items }
+    ensures items { OnOk result (standing.new.items ≡ insert standing.old.items place watch.now) }
+    ensures memory { IfErr result (λ e. e ≡ Memory) }
+    ensures unchanged { OnErr result (standing.new.items ≡ standing.old.items) }
+{
+    if place == standing.len() {
+        let Ok(()) = standing.push(*watch) else {
+            return Err(Refusal::Memory);
+        };
+        return Ok(());
+    }
+    let Ok(()) = standing.insert(place, *watch) else {
+        return Err(Refusal::Memory);
+    };
+    Ok(())
+}
+
+/// Takes the watch at the place out. At the end no other is moved.
+fn take_at(standing: &mut Vec<Standing>, place: usize)
+    requires within { place < length standing.old.items }
+    ensures items { standing.new.items ≡ remove standing.old.items place }
+{
+    if place + 1 == standing.len() {
+        standing.pop();
+        return;
+    }
+    standing.remove(place);
 }
