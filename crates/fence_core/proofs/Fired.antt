@@ -16,10 +16,10 @@ use Rattle.point_core.specs.Reach.{value_at}
 use Rattle.fence_core.specs.declared.watches.point_index.WaitingPoint.{WaitingPoint}
 use Rattle.fence_core.specs.declared.watches.point_index.point_queue.Standing.{Standing}
 use Rattle.fence_core.specs.PointIndex.{holds, is_due}
-use Rattle.fence_core.specs.Registered.{IsIndexed}
-use Rattle.fence_core.specs.Pending.{Places}
-use Rattle.fence_core.proofs.InOrder.{same_lists}
-use Rattle.fence_core.proofs.Registered.{is_at-true, is_at-is}
+use Rattle.fence_core.specs.Registered.{AreKept, IsIndexed}
+use Rattle.fence_core.specs.Pending.{Places, found, by_registration, in_order, watches_of}
+use Rattle.fence_core.proofs.InOrder.{is_at-true, is_at-is, same_lists, ordered-in_order}
+use Rattle.fence_core.proofs.ByCookie.{at-by_registration}
 use Rattle.fence_core.proofs.Indexed.{fires-due}
 use Rattle.fence_core.specs.Watch.{Watch, is_for, cookies_of}
 use Rattle.fence_core.specs.Watches.{fires}
@@ -86,20 +86,22 @@ values-reported reach (e ∷ es) = by (fires reach e.1) (values-reported reach e
     by false rest = rest
 
 -- if each registration was reported, the cookies stand by registration
-values-IsReported : (reach : List ℕ) (es : List (ℕ × Watch)) (fired : List (ℕ × ℕ)) → IsStrictlySortedBy nat_cmp (keys_of es) → IsStrictlySortedBy nat_cmp (keys_of fired) → ((r : ℕ) → IsReported es reach fired r) → values_of fired ≡ cookies_of (filter (fires reach) (values_of es))
-values-IsReported reach es fired ordered rising all =
-    ap values_of (same_lists fired (reported reach es) rising (ordered-reported reach es ordered) (λ r. all r ∙ sym (at-reported reach es r ordered)))
-    ∙ values-reported reach es
+values-IsReported : (reach : List ℕ) (es : Places) (fired : List (ℕ × ℕ)) → AreKept es → IsStrictlySortedBy nat_cmp (keys_of fired) → ((r : ℕ) → IsReported es reach fired r) → values_of fired ≡ cookies_of (filter (fires reach) (watches_of es))
+values-IsReported reach es fired kept rising all =
+    let ws = in_order (by_registration es) in
+    let ordered = ordered-in_order (by_registration es) in
+    ap values_of (same_lists fired (reported reach ws) rising (ordered-reported reach ws ordered) (λ r. all r ∙ ap (cookie_if_fires reach) (sym (at-by_registration es r kept)) ∙ sym (at-reported reach ws r ordered)))
+    ∙ values-reported reach ws
 
 -- if no watch was reported that doesn't fire, and each that fires was, each was reported
-pub IsReported-all : (reach : List ℕ) (es : List (ℕ × Watch)) (fired : List (ℕ × ℕ)) (r : ℕ) → AreOnlyFiring es reach fired → ((w : Watch) → at es r ≡ Some w → fires reach w ≡ true → IsReported es reach fired r) → IsReported es reach fired r
+pub IsReported-all : (reach : List ℕ) (es : Places) (fired : List (ℕ × ℕ)) (r : ℕ) → AreOnlyFiring es reach fired → ((w : Watch) → found es r ≡ Some w → fires reach w ≡ true → IsReported es reach fired r) → IsReported es reach fired r
 IsReported-all reach es fired r some all = by (at fired r) refl
   where
     by : (o : Option ℕ) → at fired r ≡ o → IsReported es reach fired r
     by (Some c) is = is ∙ sym (some r c is)
-    by None is = from (at es r) refl
+    by None is = from (found es r) refl
       where
-        from : (p : Option Watch) → at es r ≡ p → IsReported es reach fired r
+        from : (p : Option Watch) → found es r ≡ p → IsReported es reach fired r
         from None none = is ∙ sym (ap (cookie_if_fires reach) none)
         from (Some w) there = elim (cases_Bool (fires reach w)) [
           | inl fired_it ↦ all w there fired_it
@@ -107,17 +109,17 @@ IsReported-all reach es fired r some all = by (at fired r) refl
         ]
 
 -- what is reported of the points that are due is the cookies of the watches that fire
-pub values-fired : (reach : List ℕ) (es : List (ℕ × Watch)) (places : Places) (index : List (List Standing)) (fired : List (ℕ × ℕ)) → IsStrictlySortedBy nat_cmp (keys_of es) → IsIndexed es places index → IsStrictlySortedBy nat_cmp (keys_of fired) → AreOnlyFiring es reach fired → ((k : WaitingPoint) → is_due k.ctx (value_at reach k.ctx) k ≡ true → holds index k ≡ true → IsReported es reach fired k.registration) → values_of fired ≡ cookies_of (filter (fires reach) (values_of es))
-values-fired reach es places index fired ordered h rising some all =
-    values-IsReported reach es fired ordered rising (λ r. IsReported-all reach es fired r some (λ w found fired_it.
-    let k = fires-due es places index reach r w h found fired_it in
+pub values-fired : (reach : List ℕ) (es : Places) (index : List (List Standing)) (fired : List (ℕ × ℕ)) → AreKept es → IsIndexed es index → IsStrictlySortedBy nat_cmp (keys_of fired) → AreOnlyFiring es reach fired → ((k : WaitingPoint) → is_due k.ctx (value_at reach k.ctx) k ≡ true → holds index k ≡ true → IsReported es reach fired k.registration) → values_of fired ≡ cookies_of (filter (fires reach) (watches_of es))
+values-fired reach es index fired kept h rising some all =
+    values-IsReported reach es fired kept rising (λ r. IsReported-all reach es fired r some (λ w is fired_it.
+    let k = fires-due es index reach r w h is fired_it in
     subst (IsReported es reach fired) k.1 (all k.0 k.3 k.2)))
 
 -- if no point is due, no watch fires
-pub none-due : (reach : List ℕ) (es : List (ℕ × Watch)) (places : Places) (index : List (List Standing)) → IsStrictlySortedBy nat_cmp (keys_of es) → IsIndexed es places index → ((k : WaitingPoint) → holds index k ≡ true → is_due k.ctx (value_at reach k.ctx) k ≡ false) → cookies_of (filter (fires reach) (values_of es)) ≡ []
+pub none-due : (reach : List ℕ) (es : Places) (index : List (List Standing)) → AreKept es → IsIndexed es index → ((k : WaitingPoint) → holds index k ≡ true → is_due k.ctx (value_at reach k.ctx) k ≡ false) → cookies_of (filter (fires reach) (watches_of es)) ≡ []
 unfolding IsStrictlySortedBy
-none-due reach es places index ordered h none =
-    sym (values-fired reach es places index [] ordered h tt (λ r cookie is. absurd (none-some cookie is)) (λ k due there. absurd (false≢true (sym (none k there) ∙ due))))
+none-due reach es index kept h none =
+    sym (values-fired reach es index [] kept h tt (λ r cookie is. absurd (none-some cookie is)) (λ k due there. absurd (false≢true (sym (none k there) ∙ due))))
 
 none-of : (reach : List ℕ) (w : Watch) (ws : List Watch) → cookies_of (filter (fires reach) (w ∷ ws)) ≡ [] → (fires reach w ≡ false) × (cookies_of (filter (fires reach) ws) ≡ [])
 none-of reach w ws none = by (fires reach w) refl
@@ -140,8 +142,8 @@ none-fires reach (w ∷ ws) none =
     ap (λ b. b || list_any (fires reach) ws) parts.0 ∙ none-fires reach ws parts.1
 
 -- a watch that fires is among those whose cookies are reported
-pub Fires-some : (reach : List ℕ) (es : List (ℕ × Watch)) → Fires es reach → cookies_of (filter (fires reach) (values_of es)) ≡ [] → ⊥
-Fires-some reach es f none = by es f.pending none
+pub Fires-some : (reach : List ℕ) (es : Places) → AreKept es → Fires es reach → cookies_of (filter (fires reach) (watches_of es)) ≡ [] → ⊥
+Fires-some reach es kept f none = by (in_order (by_registration es)) (at-by_registration es f.registration kept ∙ f.pending) none
   where
     by : (fs : List (ℕ × Watch)) → at fs f.registration ≡ Some f.watch → cookies_of (filter (fires reach) (values_of fs)) ≡ [] → ⊥
     by [] is none = none-some f.watch is
@@ -231,7 +233,7 @@ none-left reach (w ∷ ws) = by (fires reach w) refl (none-left reach ws)
     by false is rest = ap (λ b. b || list_any (fires reach) (filter (λ w. not (fires reach w)) ws)) is ∙ rest
 
 -- a watch that does not fire was reported rightly
-pub reported-none : (es : List (ℕ × Watch)) (reach : List ℕ) (fired : List (ℕ × ℕ)) (r : ℕ) → AreOnlyFiring es reach fired → cookie_if_fires reach (at es r) ≡ None → IsReported es reach fired r
+pub reported-none : (es : Places) (reach : List ℕ) (fired : List (ℕ × ℕ)) (r : ℕ) → AreOnlyFiring es reach fired → cookie_if_fires reach (found es r) ≡ None → IsReported es reach fired r
 reported-none es reach fired r only none = by (at fired r) refl
   where
     by : (o : Option ℕ) → at fired r ≡ o → IsReported es reach fired r
@@ -239,9 +241,9 @@ reported-none es reach fired r only none = by (at fired r) refl
     by (Some c) is = absurd (none-some c (sym none ∙ only r c is))
 
 -- one more watch that fires
-module _ (es : List (ℕ × Watch)) (reach : List ℕ) (old new : List (ℕ × ℕ)) (r : ℕ) (w : Watch) (only : AreOnlyFiring es reach old) (found : at es r ≡ Some w) (fired : fires reach w ≡ true) (put : (q : ℕ) → at new q ≡ cond (is_at (nat_cmp r) q) (Some w.cookie) (at old q)) where
-  its : cookie_if_fires reach (at es r) ≡ Some w.cookie
-  its = ap (cookie_if_fires reach) found ∙ ap (λ b. cond b (Some w.cookie) None) fired
+module _ (es : Places) (reach : List ℕ) (old new : List (ℕ × ℕ)) (r : ℕ) (w : Watch) (only : AreOnlyFiring es reach old) (there : found es r ≡ Some w) (fired : fires reach w ≡ true) (put : (q : ℕ) → at new q ≡ cond (is_at (nat_cmp r) q) (Some w.cookie) (at old q)) where
+  its : cookie_if_fires reach (found es r) ≡ Some w.cookie
+  its = ap (cookie_if_fires reach) there ∙ ap (λ b. cond b (Some w.cookie) None) fired
 
   pub reported-put : IsReported es reach new r
   reported-put = put r ∙ ap (λ b. cond b (Some w.cookie) (at old r)) (is_at-true r r refl) ∙ sym its

@@ -12,21 +12,21 @@ use Rattle.point_core.specs.Reach.{value_at}
 use Rattle.fence_core.specs.declared.watches.point_index.WaitingPoint.{WaitingPoint}
 use Rattle.fence_core.specs.declared.watches.point_index.point_queue.Standing.{Standing}
 use Rattle.fence_core.specs.Watch.{Watch}
+use Rattle.fence_core.specs.Pending.{Places, found}
 use Rattle.fence_core.specs.Watches.{fires}
 use Rattle.fence_core.specs.PointIndex.{standing_of, is_alike, has, holds, is_due, IsRising}
 use Rattle.fence_core.specs.Reported.{at, cookie_if_fires, IsReported}
 use Rattle.fence_core.specs.Gathered.{IsAfter, AreGathered, HasGathered, AreFiredIn}
 use Rattle.fence_core.proofs.PointIndex.{IsRising-rest, first-least, due-at, alike-registration}
 use Rattle.fence_core.proofs.Indexed.{or_cases}
-use Rattle.fence_core.proofs.InOrder.{at-insert, All-insert, ordered-insert}
-use Rattle.fence_core.proofs.Registered.{insert_entry-last}
+use Rattle.fence_core.proofs.InOrder.{at-insert, All-insert, ordered-insert, insert_entry-last}
 use Rattle.fence_core.proofs.Fired.{reported-none, reported-put, reported-still, only-put}
 
 pub at_some : {T : Type 0} (P : T → Type 0) (o : Option T) (x : T) → IfSome o P → o ≡ Some x → P x
 at_some P None x h is = absurd (none-some x is)
 at_some P (Some y) x h is = subst P (same_Some y x is) h
 
-AreGathered-none : (es : List (ℕ × Watch)) (reach : List ℕ) → AreGathered es reach [] [] None
+AreGathered-none : (es : Places) (reach : List ℕ) → AreGathered es reach [] [] None
 unfolding IsStrictlySortedBy
 AreGathered-none es reach = record { values = refl; ordered = tt; before = λ r after. tt; only_firing = λ r cookie is. absurd (none-some cookie is) }
 
@@ -35,7 +35,7 @@ after-later None r later after up = tt
 after-later (Some last) r later after up = omega arith
 
 -- a watch that does not fire
-pub HasGathered-same : (es : List (ℕ × Watch)) (reach : List ℕ) (r : ℕ) (fired : List (ℕ × ℕ)) (cookies : List ℕ) (last : Option ℕ) → AreGathered es reach fired cookies last → cookie_if_fires reach (at es r) ≡ None → HasGathered es reach r fired cookies last
+pub HasGathered-same : (es : Places) (reach : List ℕ) (r : ℕ) (fired : List (ℕ × ℕ)) (cookies : List ℕ) (last : Option ℕ) → AreGathered es reach fired cookies last → cookie_if_fires reach (found es r) ≡ None → HasGathered es reach r fired cookies last
 HasGathered-same es reach r fired cookies last h none = record {
   more = fired;
   gathered = h;
@@ -44,8 +44,8 @@ HasGathered-same es reach r fired cookies last h none = record {
 }
 
 -- a watch that fires, of a later registration
-pub HasGathered-put : (es : List (ℕ × Watch)) (reach : List ℕ) (r : ℕ) (w : Watch) (fired : List (ℕ × ℕ)) (cookies : List ℕ) (last : Option ℕ) → AreGathered es reach fired cookies last → at es r ≡ Some w → fires reach w ≡ true → IsAfter last r → HasGathered es reach r fired (cookies ++ w.cookie ∷ []) (Some r)
-HasGathered-put es reach r w fired cookies last h found fired_it after =
+pub HasGathered-put : (es : Places) (reach : List ℕ) (r : ℕ) (w : Watch) (fired : List (ℕ × ℕ)) (cookies : List ℕ) (last : Option ℕ) → AreGathered es reach fired cookies last → found es r ≡ Some w → fires reach w ≡ true → IsAfter last r → HasGathered es reach r fired (cookies ++ w.cookie ∷ []) (Some r)
+HasGathered-put es reach r w fired cookies last h there fired_it after =
     let more : List (ℕ × ℕ) = insert_entry nat_cmp fired r w.cookie in
     let put : (q : ℕ) → at more q ≡ cond (is_at (nat_cmp r) q) (Some w.cookie) (at fired q) = at-insert fired r w.cookie in
     let is : more ≡ fired ++ (r, w.cookie) ∷ [] = insert_entry-last fired r w.cookie (h.before r after) in
@@ -55,20 +55,20 @@ HasGathered-put es reach r w fired cookies last h found fired_it after =
         values = ap values_of is ∙ map-append (λ (e : ℕ × ℕ). e.1) fired ((r, w.cookie) ∷ []) ∙ ap (λ cs. cs ++ w.cookie ∷ []) h.values;
         ordered = ordered-insert fired r w.cookie h.ordered;
         before = λ later up. All-insert (λ n. n < later) fired r w.cookie (h.before later (after-later last r later after up)) up;
-        only_firing = only-put es reach fired more r w h.only_firing found fired_it put;
+        only_firing = only-put es reach fired more r w h.only_firing there fired_it put;
       };
-      still = reported-still es reach fired more r w h.only_firing found fired_it put;
-      reported = reported-put es reach fired more r w h.only_firing found fired_it put;
+      still = reported-still es reach fired more r w h.only_firing there fired_it put;
+      reported = reported-put es reach fired more r w h.only_firing there fired_it put;
     }
 
 -- each watch of the context was looked at, or is still ahead
-pub record HasPassed (ctx : ℕ) (index : List (List Standing)) (ahead : List Standing) (es : List (ℕ × Watch)) (reach cookies : List ℕ) (last : Option ℕ) : Type 0 where
+pub record HasPassed (ctx : ℕ) (index : List (List Standing)) (ahead : List Standing) (es : Places) (reach cookies : List ℕ) (last : Option ℕ) : Type 0 where
   pub fired : List (ℕ × ℕ)
   pub gathered : AreGathered es reach fired cookies last
   pub rising : IsRising ahead
   pub passed : (k : WaitingPoint) → is_due ctx (value_at reach ctx) k ≡ true → holds index k ≡ true → (has ahead (standing_of k) ≡ true) ⊎ IsReported es reach fired k.registration
 
-module _ (ctx : ℕ) (index : List (List Standing)) (es : List (ℕ × Watch)) (reach : List ℕ) where
+module _ (ctx : ℕ) (index : List (List Standing)) (es : Places) (reach : List ℕ) where
   pub AreFiredIn-none : (cookies : List ℕ) → cookies ≡ [] → ((k : WaitingPoint) → k.ctx ≡ ctx → holds index k ≡ false) → AreFiredIn ctx index es reach cookies
   AreFiredIn-none cookies none nowhere = record {
     fired = [];

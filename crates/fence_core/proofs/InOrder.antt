@@ -1,22 +1,52 @@
 -- Lists by rising number: the same where the same is found; one more, one taken out, and any list put in order.
-use Rattle.std.proofs.Common.{◌≡◌, ℕ, suc, Bool, true, false, cond, nat_eq, refl, sym, ap, ◌∙◌, subst, List, [], ◌∷◌, length, None, Some, inl, inr}
-use Rattle.std.specs.List.{IsDistinct, AllByRecursion}
+use Rattle.std.proofs.Common.{◌≡◌, ◌≢◌, ℕ, ◌<◌, suc, Bool, true, false, cond, ◌||◌, nat_eq, refl, sym, ap, ◌∙◌, subst, List, [], ◌∷◌, ◌++◌, length, None, Some, arith, inl, inr}
+use Rattle.std.specs.List.{list_any, IsDistinct, AllByRecursion}
 use Rattle.std.specs.List.Sorted.{IsStrictlySortedBy}
-use Rattle.std.specs.Map.{keys_of, lookup, remove_entry}
+use Rattle.std.specs.Map.{keys_of, values_of, lookup, remove_entry}
 use Rattle.std.specs.BTreeMap.{is_at, insert_entry}
 use Rattle.std.specs.Ordering.{nat_cmp, is_eq, ordering_reverse, match_ordering}
 use Rattle.std.specs.declared.cmp.Ordering.{Ordering}
 use Rattle.std.specs.declared.cmp.Ordering.TheVariants.{Less, Equal, Greater}
 use Rattle.std.specs.Cmp.{nat_eq_equiv}
-use Rattle.std.proofs.lemmas.Bool.{cases_Bool}
+use Rattle.std.proofs.lemmas.Bool.{cases_Bool, eqb-true, eq-eqb}
+use Rattle.std.proofs.lemmas.Bool.Decides.{nat_tests}
 use Rattle.std.proofs.lemmas.Cmp.{nat_cmp_total, eq_by_cmp_equiv}
 use Rattle.std.proofs.lemmas.Option.{same_Some, none-some}
 use Rattle.std.proofs.lemmas.Map.{lookup-remove_entry}
 use Rattle.std.proofs.lemmas.Map.Keys.{IsDistinct-from_sorted}
 use Rattle.fence_core.specs.Reported.{at}
 use Rattle.fence_core.specs.Pending.{in_order}
-use Rattle.fence_core.proofs.PointIndex.{equal-nat, is_eq-nat_cmp}
-use Rattle.fence_core.proofs.Registered.{is_at-true, is_at-is}
+use Rattle.fence_core.proofs.PointIndex.{equal-nat, is_eq-nat_cmp, less-nat}
+
+pub is_at-true : (r q : ℕ) → r ≡ q → is_at (nat_cmp r) q ≡ true
+is_at-true r q is = is_eq-nat_cmp r q ∙ eq-eqb r q is
+
+pub is_at-false : (r q : ℕ) → r ≢ q → is_at (nat_cmp r) q ≡ false
+is_at-false r q other = is_eq-nat_cmp r q ∙ grind (arith, nat_tests, other)
+
+pub is_at-is : (r q : ℕ) → is_at (nat_cmp r) q ≡ true → r ≡ q
+is_at-is r q h = eqb-true r q (sym (is_eq-nat_cmp r q) ∙ h)
+
+pub at-All : {X : Type 0} (P : ℕ → Type 0) (es : List (ℕ × X)) (r : ℕ) (w : X) → AllByRecursion P (keys_of es) → at es r ≡ Some w → P r
+at-All P [] r w all is = absurd (none-some w is)
+at-All P (e ∷ es) r w all is = elim (cases_Bool (is_at (nat_cmp r) e.0)) [
+  | inl here ↦ subst P (sym (is_at-is r e.0 here)) all.0
+  | inr past ↦ at-All P es r w all.1 (sym (ap (λ b. cond b (Some e.1) (at es r)) past) ∙ is)
+]
+
+-- a later registration is another
+apart : {X : Type 0} (r : ℕ) (e : ℕ × X) → nat_cmp e.0 r ≡ Less → is_at (nat_cmp r) e.0 ≡ false
+apart r e less = let below = less-nat e.0 r less in is_at-false r e.0 (λ is. omega arith)
+
+-- one more, of the greatest registration
+greater : (made r : ℕ) → r < made → nat_cmp made r ≡ Greater
+greater made r low = grind (arith, nat_tests)
+
+pub insert_entry-last : {X : Type 0} (es : List (ℕ × X)) (made : ℕ) (w : X) → AllByRecursion (λ r. r < made) (keys_of es) → insert_entry nat_cmp es made w ≡ es ++ (made, w) ∷ []
+insert_entry-last [] made w low = refl
+insert_entry-last (e ∷ es) made w low =
+    ap (λ o. match_ordering o ((made, w) ∷ e ∷ es) ((e.0, w) ∷ es) (e ∷ insert_entry nat_cmp es made w)) (greater made e.0 low.0)
+    ∙ ap (λ xs. e ∷ xs) (insert_entry-last es made w low.1)
 
 at-below : {X : Type 0} (es : List (ℕ × X)) (r : ℕ) → AllByRecursion (λ y. nat_cmp r y ≡ Less) (keys_of es) → at es r ≡ None
 at-below [] r low = refl
@@ -166,22 +196,46 @@ length-in_order (e ∷ es) distinct =
     length-insert (in_order es) e.0 e.1 (at-in_order es e.0 ∙ lookup-apart e.0 es distinct.0)
     ∙ ap suc (length-in_order es distinct.1)
 
--- what is found behind one more, and without one
-pub at-put : {X : Type 0} (es more : List (ℕ × X)) (r : ℕ) (v : X) → ((q : ℕ) → lookup (nat_eq q) more ≡ cond (nat_eq r q) (Some v) (lookup (nat_eq q) es)) → (q : ℕ) → at (in_order more) q ≡ cond (is_at (nat_cmp r) q) (Some v) (at (in_order es) q)
-at-put es more r v put q =
+-- the list in order, with one more and without one
+pub in_order-put : {X : Type 0} (es more : List (ℕ × X)) (r : ℕ) (v : X) → ((q : ℕ) → lookup (nat_eq q) more ≡ cond (nat_eq r q) (Some v) (lookup (nat_eq q) es)) → in_order more ≡ insert_entry nat_cmp (in_order es) r v
+in_order-put es more r v put = same_lists (in_order more) (insert_entry nat_cmp (in_order es) r v) (ordered-in_order more) (ordered-insert (in_order es) r v (ordered-in_order es)) (λ q.
     at-in_order more q ∙ put q
     ∙ ap (λ b. cond b (Some v) (lookup (nat_eq q) es)) (sym (is_eq-nat_cmp r q))
     ∙ ap (λ o. cond (is_at (nat_cmp r) q) (Some v) o) (sym (at-in_order es q))
+    ∙ sym (at-insert (in_order es) r v q))
 
-pub at-taken : {X : Type 0} (es left : List (ℕ × X)) (r : ℕ) → ((q : ℕ) → lookup (nat_eq q) left ≡ cond (nat_eq r q) None (lookup (nat_eq q) es)) → (q : ℕ) → at (in_order left) q ≡ cond (is_at (nat_cmp r) q) None (at (in_order es) q)
-at-taken es left r taken q =
+pub in_order-taken : {X : Type 0} (es left : List (ℕ × X)) (r : ℕ) → ((q : ℕ) → lookup (nat_eq q) left ≡ cond (nat_eq r q) None (lookup (nat_eq q) es)) → in_order left ≡ remove_entry (is_at (nat_cmp r)) (in_order es)
+in_order-taken es left r taken = same_lists (in_order left) (remove_entry (is_at (nat_cmp r)) (in_order es)) (ordered-in_order left) (ordered-remove (is_at (nat_cmp r)) (in_order es) (ordered-in_order es)) (λ q.
     at-in_order left q ∙ taken q
     ∙ ap (λ b. cond b None (lookup (nat_eq q) es)) (sym (is_eq-nat_cmp r q))
     ∙ ap (λ o. cond (is_at (nat_cmp r) q) None o) (sym (at-in_order es q))
+    ∙ sym (at-remove (in_order es) r q (ordered-in_order es)))
 
--- the list in order, with one more and without one
-pub in_order-put : {X : Type 0} (es more : List (ℕ × X)) (r : ℕ) (v : X) → ((q : ℕ) → lookup (nat_eq q) more ≡ cond (nat_eq r q) (Some v) (lookup (nat_eq q) es)) → in_order more ≡ insert_entry nat_cmp (in_order es) r v
-in_order-put es more r v put = same_lists (in_order more) (insert_entry nat_cmp (in_order es) r v) (ordered-in_order more) (ordered-insert (in_order es) r v (ordered-in_order es)) (λ q. at-put es more r v put q ∙ sym (at-insert (in_order es) r v q))
+-- what holds of all that is found holds of all
+pub all-at : {X : Type 0} (P : ℕ → X → Type 0) (es : List (ℕ × X)) → IsStrictlySortedBy nat_cmp (keys_of es) → ((r : ℕ) (x : X) → at es r ≡ Some x → P r x) → AllByRecursion (λ (e : ℕ × X). P e.0 e.1) es
+unfolding IsStrictlySortedBy
+all-at P [] ordered h = tt
+all-at P (e ∷ es) ordered h = (
+  h e.0 e.1 (at-head e es),
+  all-at P es ordered.1 (λ r x is. h r x (ap (λ b. cond b (Some e.1) (at es r)) (apart r e (at-All (λ y. nat_cmp e.0 y ≡ Less) es r x ordered.0 is)) ∙ is)),
+)
 
-pub in_order-taken : {X : Type 0} (es left : List (ℕ × X)) (r : ℕ) → ((q : ℕ) → lookup (nat_eq q) left ≡ cond (nat_eq r q) None (lookup (nat_eq q) es)) → in_order left ≡ remove_entry (is_at (nat_cmp r)) (in_order es)
-in_order-taken es left r taken = same_lists (in_order left) (remove_entry (is_at (nat_cmp r)) (in_order es)) (ordered-in_order left) (ordered-remove (is_at (nat_cmp r)) (in_order es) (ordered-in_order es)) (λ q. at-taken es left r taken q ∙ sym (at-remove (in_order es) r q (ordered-in_order es)))
+pub all-keys : {X : Type 0} (P : ℕ → Type 0) (es : List (ℕ × X)) → AllByRecursion (λ (e : ℕ × X). P e.0) es → AllByRecursion P (keys_of es)
+all-keys P [] h = tt
+all-keys P (e ∷ es) h = (h.0, all-keys P es h.1)
+
+pub none-any : {X : Type 0} (test : X → Bool) (es : List (ℕ × X)) → AllByRecursion (λ (e : ℕ × X). test e.1 ≡ false) es → list_any test (values_of es) ≡ false
+none-any test [] h = refl
+none-any test (e ∷ es) h = ap (λ b. b || list_any test (values_of es)) h.0 ∙ none-any test es h.1
+
+-- if no watch passes the test, none that is found does
+pub at-none : {X : Type 0} (test : X → Bool) (es : List (ℕ × X)) (r : ℕ) (w : X) → list_any test (values_of es) ≡ false → at es r ≡ Some w → test w ≡ false
+at-none test [] r w none is = absurd (none-some w is)
+at-none test (e ∷ es) r w none is = elim (cases_Bool (is_at (nat_cmp r) e.0)) [
+  | inl here ↦ ap test (sym (same_Some e.1 w (sym (ap (λ b. cond b (Some e.1) (at es r)) here) ∙ is))) ∙ (or_none (test e.1) (list_any test (values_of es)) none).0
+  | inr past ↦ at-none test es r w (or_none (test e.1) (list_any test (values_of es)) none).1 (sym (ap (λ b. cond b (Some e.1) (at es r)) past) ∙ is)
+]
+  where
+    or_none : (a b : Bool) → (a || b) ≡ false → (a ≡ false) × (b ≡ false)
+    or_none true b h = absurd (cc)
+    or_none false b h = (refl, h)

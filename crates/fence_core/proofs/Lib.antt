@@ -10,6 +10,7 @@ pub mod Indexed
 mod Falling
 pub mod InOrder
 pub mod ByCookie
+pub mod Moved
 pub mod Fired
 pub mod Signalling
 pub mod Above

@@ -1,259 +1,150 @@
--- Pending watches by registration: found by their cookies, one taken out, and one more.
-use Rattle.std.proofs.Common.{◌≡◌, ◌≢◌, ℕ, ◌+◌, ◌<◌, nat_eq, Bool, true, false, not, cond, ◌||◌, refl, sym, ap, ◌∙◌, subst, List, [], ◌∷◌, ◌++◌, filter, length, is_some, Option, None, Some, arith, inl, inr}
+-- Pending watches by registration: none, one more, one taken out, and one moved.
+use Rattle.std.proofs.Common.{◌≡◌, ℕ, ◌+◌, ◌<◌, nat_eq, false, not, cond, refl, sym, ap, ◌∙◌, subst, List, [], ◌∷◌, ◌++◌, filter, length, is_some, Option, None, Some, arith, inl, inr}
 use Rattle.std.specs.List.{list_any, AllByRecursion, IsDistinct}
-use Rattle.std.specs.List.Sorted.{IsStrictlySortedBy}
-use Rattle.std.specs.Map.{keys_of, values_of, remove_entry}
-use Rattle.std.specs.BTreeMap.{is_at, insert_entry}
-use Rattle.std.specs.Ordering.{nat_cmp, match_ordering}
-use Rattle.std.specs.declared.cmp.Ordering.TheVariants.{Less, Greater}
-use Rattle.std.proofs.lemmas.Bool.{cases_Bool, eqb-true, eq-eqb}
-use Rattle.std.proofs.lemmas.Bool.Decides.{nat_tests}
+use Rattle.std.specs.Map.{keys_of, values_of, remove_entry, lookup, set_value}
+use Rattle.std.specs.BTreeMap.{is_at}
+use Rattle.std.specs.Ordering.{nat_cmp}
+use Rattle.std.proofs.lemmas.Bool.{cases_Bool, eqb-true, eq-eqb, false≢true}
 use Rattle.std.proofs.lemmas.Option.{same_Some, none-some}
 use Rattle.std.proofs.lemmas.List.{map-append}
 use Rattle.std.proofs.Math.Arith.{digits_mod}
-use Rattle.fence_core.specs.declared.watches.TheConstants.{WATCHES}
-use Rattle.fence_core.specs.Watch.{Watch, is_for, cookies_of, ArePending}
 use Rattle.point_core.specs.declared.entry.Point.{Point}
-use Rattle.fence_core.specs.Fence.{members_of, fence_of}
-use Rattle.fence_core.specs.Reported.{at}
-use Rattle.fence_core.specs.Registered.{registration_of, registration_at, place_at, registered, AreRegistered}
-use Rattle.fence_core.specs.Pending.{Places}
-use Rattle.fence_core.specs.Registration.{numbered, cookie_of}
+use Rattle.fence_core.specs.declared.watches.TheConstants.{WATCHES}
 use Rattle.fence_core.specs.declared.watches.registration.TheConstants.{COOKIES}
-use Rattle.fence_core.specs.declared.watches.point_index.WaitingPoint.{WaitingPoint}
+use Rattle.fence_core.specs.declared.watches.pending.PendingWatch.{PendingWatch}
+use Rattle.fence_core.specs.Fence.{members_of, fence_of}
+use Rattle.fence_core.specs.Registration.{numbered, cookie_of}
+use Rattle.fence_core.specs.Watch.{Watch, is_for, cookies_of, ArePending}
+use Rattle.fence_core.specs.Pending.{Places, watch_in, by_registration, in_order, watches_of}
+use Rattle.fence_core.specs.Registered.{AreKept, AreBefore, AreRegistered}
 use Rattle.fence_core.proofs.Pending.{ArePending-none, ArePending-filter, ArePending-push, filter-other, apart-any}
-use Rattle.fence_core.proofs.PointIndex.{is_eq-nat_cmp, less-nat}
-
-pub is_at-true : (r q : ℕ) → r ≡ q → is_at (nat_cmp r) q ≡ true
-is_at-true r q is = is_eq-nat_cmp r q ∙ eq-eqb r q is
-
-pub is_at-false : (r q : ℕ) → r ≢ q → is_at (nat_cmp r) q ≡ false
-is_at-false r q other = is_eq-nat_cmp r q ∙ grind (arith, nat_tests, other)
-
-pub is_at-is : (r q : ℕ) → is_at (nat_cmp r) q ≡ true → r ≡ q
-is_at-is r q h = eqb-true r q (sym (is_eq-nat_cmp r q) ∙ h)
-
-pub at-All : {X : Type 0} (P : ℕ → Type 0) (es : List (ℕ × X)) (r : ℕ) (w : X) → AllByRecursion P (keys_of es) → at es r ≡ Some w → P r
-at-All P [] r w all is = absurd (none-some w is)
-at-All P (e ∷ es) r w all is = elim (cases_Bool (is_at (nat_cmp r) e.0)) [
-  | inl here ↦ subst P (sym (is_at-is r e.0 here)) all.0
-  | inr past ↦ at-All P es r w all.1 (sym (ap (λ b. cond b (Some e.1) (at es r)) past) ∙ is)
-]
-
-registration_of-All : (P : ℕ → Type 0) (cookie r : ℕ) (es : List (ℕ × Watch)) → AllByRecursion P (keys_of es) → registration_of cookie es ≡ Some r → P r
-registration_of-All P cookie r [] all is = absurd (none-some r is)
-registration_of-All P cookie r (e ∷ es) all is = elim (cases_Bool (is_for cookie e.1)) [
-  | inl here ↦ subst P (same_Some e.0 r (sym (ap (λ b. cond b (Some e.0) (registration_of cookie es)) here) ∙ is)) all.0
-  | inr past ↦ registration_of-All P cookie r es all.1 (sym (ap (λ b. cond b (Some e.0) (registration_of cookie es)) past) ∙ is)
-]
-
-pub is_some-registration_of : (cookie : ℕ) (es : List (ℕ × Watch)) → is_some (registration_of cookie es) ≡ list_any (is_for cookie) (values_of es)
-is_some-registration_of cookie [] = refl
-is_some-registration_of cookie (e ∷ es) = by (is_for cookie e.1) (is_some-registration_of cookie es)
-  where
-    by : (b : Bool) → is_some (registration_of cookie es) ≡ list_any (is_for cookie) (values_of es) → is_some (cond b (Some e.0) (registration_of cookie es)) ≡ (b || list_any (is_for cookie) (values_of es))
-    by true rest = refl
-    by false rest = rest
-
-registration_of-none : (cookie : ℕ) (es : List (ℕ × Watch)) → list_any (is_for cookie) (values_of es) ≡ false → registration_of cookie es ≡ None
-registration_of-none cookie [] none = refl
-registration_of-none cookie (e ∷ es) none = by (is_for cookie e.1) none (registration_of-none cookie es)
-  where
-    by : (b : Bool) → (b || list_any (is_for cookie) (values_of es)) ≡ false → (list_any (is_for cookie) (values_of es) ≡ false → registration_of cookie es ≡ None) → cond b (Some e.0) (registration_of cookie es) ≡ None
-    by true none rest = absurd (cc)
-    by false none rest = rest none
-
--- a later registration is another
-apart : (r : ℕ) (e : ℕ × Watch) → nat_cmp e.0 r ≡ Less → is_at (nat_cmp r) e.0 ≡ false
-apart r e less = let below = less-nat e.0 r less in is_at-false r e.0 (λ is. omega arith)
-
--- the watch of a cookie is found by its registration
-pub at-registration_of : (cookie r : ℕ) (es : List (ℕ × Watch)) → IsStrictlySortedBy nat_cmp (keys_of es) → registration_of cookie es ≡ Some r → (w : Watch) × (at es r ≡ Some w) × (is_for cookie w ≡ true)
-unfolding IsStrictlySortedBy
-at-registration_of cookie r [] ordered is = absurd (none-some r is)
-at-registration_of cookie r (e ∷ es) ordered is = elim (cases_Bool (is_for cookie e.1)) [
-  | inl here ↦
-      let same = same_Some e.0 r (sym (ap (λ b. cond b (Some e.0) (registration_of cookie es)) here) ∙ is) in
-      (e.1, ap (λ b. cond b (Some e.1) (at es r)) (is_at-true r e.0 (sym same)), here)
-  | inr past ↦
-      let later = sym (ap (λ b. cond b (Some e.0) (registration_of cookie es)) past) ∙ is in
-      let found = at-registration_of cookie r es ordered.1 later in
-      let other = apart r e (registration_of-All (λ y. nat_cmp e.0 y ≡ Less) cookie r es ordered.0 later) in
-      (found.0, ap (λ b. cond b (Some e.1) (at es r)) other ∙ found.1, found.2)
-]
-
--- the watch of a cookie taken out by its registration
-module _ (cookie r : ℕ) where
-  left : List (ℕ × Watch) → List (ℕ × Watch)
-  left es = remove_entry (is_at (nat_cmp r)) es
-
-  pub values_of-remove : (es : List (ℕ × Watch)) → IsStrictlySortedBy nat_cmp (keys_of es) → IsDistinct nat_eq (cookies_of (values_of es)) → registration_of cookie es ≡ Some r → values_of (remove_entry (is_at (nat_cmp r)) es) ≡ filter (λ w. not (is_for cookie w)) (values_of es)
-  unfolding IsStrictlySortedBy IsDistinct
-  values_of-remove [] ordered distinct is = absurd (none-some r is)
-  values_of-remove (e ∷ es) ordered distinct is = elim (cases_Bool (is_for cookie e.1)) [
-    | inl here ↦
-        let same = same_Some e.0 r (sym (ap (λ b. cond b (Some e.0) (registration_of cookie es)) here) ∙ is) in
-        let none = apart-any cookie (values_of es) (subst (λ k. AllByRecursion (λ y. nat_eq k y ≡ false) (cookies_of (values_of es))) (eqb-true e.1.cookie cookie here) distinct.0) in
-        ap (λ b. values_of (cond b es (e ∷ remove_entry (is_at (nat_cmp r)) es))) (is_at-true r e.0 (sym same))
-        ∙ sym (filter-other cookie (values_of es) none)
-        ∙ sym (ap (λ b. cond (not b) (e.1 ∷ filter (λ w. not (is_for cookie w)) (values_of es)) (filter (λ w. not (is_for cookie w)) (values_of es))) here)
-    | inr past ↦
-        let later = sym (ap (λ b. cond b (Some e.0) (registration_of cookie es)) past) ∙ is in
-        let other = apart r e (registration_of-All (λ y. nat_cmp e.0 y ≡ Less) cookie r es ordered.0 later) in
-        ap (λ b. values_of (cond b es (e ∷ remove_entry (is_at (nat_cmp r)) es))) other
-        ∙ ap (λ ws. e.1 ∷ ws) (values_of-remove es ordered.1 distinct.1 later)
-        ∙ sym (ap (λ b. cond (not b) (e.1 ∷ filter (λ w. not (is_for cookie w)) (values_of es)) (filter (λ w. not (is_for cookie w)) (values_of es))) past)
-  ]
-
-  pub registration_of-remove : (es : List (ℕ × Watch)) (q : ℕ) → IsStrictlySortedBy nat_cmp (keys_of es) → IsDistinct nat_eq (cookies_of (values_of es)) → registration_of cookie es ≡ Some r → registration_of q (remove_entry (is_at (nat_cmp r)) es) ≡ cond (nat_eq cookie q) None (registration_of q es)
-  unfolding IsStrictlySortedBy IsDistinct
-  registration_of-remove [] q ordered distinct is = absurd (none-some r is)
-  registration_of-remove (e ∷ es) q ordered distinct is = elim (cases_Bool (is_for cookie e.1)) [
-    | inl here ↦
-        let same = same_Some e.0 r (sym (ap (λ b. cond b (Some e.0) (registration_of cookie es)) here) ∙ is) in
-        let none = registration_of-none cookie es (apart-any cookie (values_of es) (subst (λ k. AllByRecursion (λ y. nat_eq k y ≡ false) (cookies_of (values_of es))) (eqb-true e.1.cookie cookie here) distinct.0)) in
-        ap (λ b. registration_of q (cond b es (e ∷ remove_entry (is_at (nat_cmp r)) es))) (is_at-true r e.0 (sym same))
-        ∙ elim (cases_Bool (nat_eq cookie q)) [
-          | inl asked ↦
-              ap (λ c. registration_of c es) (sym (eqb-true cookie q asked)) ∙ none
-              ∙ sym (ap (λ b. cond b None (registration_of q (e ∷ es))) asked)
-          | inr other ↦
-              let not_it : is_for q e.1 ≡ false = let cookie_is = eqb-true e.1.cookie cookie here in ap (λ c. nat_eq c q) cookie_is ∙ other in
-              sym (ap (λ b. cond b (Some e.0) (registration_of q es)) not_it)
-              ∙ sym (ap (λ b. cond b None (registration_of q (e ∷ es))) other)
-        ]
-    | inr past ↦
-        let later = sym (ap (λ b. cond b (Some e.0) (registration_of cookie es)) past) ∙ is in
-        let apart_is = apart r e (registration_of-All (λ y. nat_cmp e.0 y ≡ Less) cookie r es ordered.0 later) in
-        let rest = registration_of-remove es q ordered.1 distinct.1 later in
-        ap (λ b. registration_of q (cond b es (e ∷ remove_entry (is_at (nat_cmp r)) es))) apart_is
-        ∙ ap (λ o. cond (is_for q e.1) (Some e.0) o) rest
-        ∙ elim (cases_Bool (nat_eq cookie q)) [
-          | inl asked ↦
-              let not_it : is_for q e.1 ≡ false = ap (λ c. nat_eq e.1.cookie c) (sym (eqb-true cookie q asked)) ∙ past in
-              ap (λ b. cond b (Some e.0) (cond (nat_eq cookie q) None (registration_of q es))) not_it
-              ∙ ap (λ b. cond b None (registration_of q es)) asked
-              ∙ sym (ap (λ b. cond b None (registration_of q (e ∷ es))) asked)
-          | inr other ↦
-              ap (λ b. cond (is_for q e.1) (Some e.0) (cond b None (registration_of q es))) other
-              ∙ sym (ap (λ b. cond b None (registration_of q (e ∷ es))) other)
-        ]
-  ]
-
-AllByRecursion-remove : (P : ℕ → Type 0) (test : ℕ → Bool) (es : List (ℕ × Watch)) → AllByRecursion P (keys_of es) → AllByRecursion P (keys_of (remove_entry test es))
-AllByRecursion-remove P test [] all = all
-AllByRecursion-remove P test (e ∷ es) all = by (test e.0) (AllByRecursion-remove P test es all.1)
-  where
-    by : (b : Bool) → AllByRecursion P (keys_of (remove_entry test es)) → AllByRecursion P (keys_of (cond b es (e ∷ remove_entry test es)))
-    by true rest = all.1
-    by false rest = (all.0, rest)
-
-pub AreRegistered-remove : (es left : List (ℕ × Watch)) (places fewer : Places) (made cookie r : ℕ) → AreRegistered es places made → registered places cookie ≡ Some r → left ≡ remove_entry (is_at (nat_cmp r)) es → IsStrictlySortedBy nat_cmp (keys_of left) → ((q : ℕ) → registered fewer q ≡ cond (nat_eq cookie q) None (registered places q)) → AreRegistered left fewer made
-AreRegistered-remove es left places fewer made cookie r h found is ordered out =
-    let found_is = sym (h.by_cookie cookie) ∙ found in
-    record {
-      pending = subst ArePending (sym (ap values_of is ∙ values_of-remove cookie r es h.ordered h.pending.distinct found_is)) (ArePending-filter (λ w. not (is_for cookie w)) h.pending);
-      ordered = ordered;
-      before = subst (λ xs. AllByRecursion (λ n. n < numbered made 0) (keys_of xs)) (sym is) (AllByRecursion-remove (λ n. n < numbered made 0) (is_at (nat_cmp r)) es h.before);
-      by_cookie = λ q. out q ∙ ap (λ o. cond (nat_eq cookie q) None o) (h.by_cookie q) ∙ sym (registration_of-remove cookie r es q h.ordered h.pending.distinct found_is) ∙ ap (registration_of q) (sym is);
-    }
-
-pub is_some-registration_at : (o : Option WaitingPoint) → is_some (registration_at o) ≡ is_some o
-is_some-registration_at None = refl
-is_some-registration_at (Some place) = refl
-
--- a place put in or taken out, by its registration
-pub registered-changed : (cookie : ℕ) (o : Option WaitingPoint) (places other : Places) → ((q : ℕ) → place_at other q ≡ cond (nat_eq cookie q) o (place_at places q)) → (q : ℕ) → registered other q ≡ cond (nat_eq cookie q) (registration_at o) (registered places q)
-registered-changed cookie o places other changed q = ap registration_at (changed q) ∙ by (nat_eq cookie q) (place_at places q)
-  where
-    by : (b : Bool) (p : Option WaitingPoint) → registration_at (cond b o p) ≡ cond b (registration_at o) (registration_at p)
-    by true p = refl
-    by false p = refl
-
--- one more, of the greatest registration
-greater : (made r : ℕ) → r < made → nat_cmp made r ≡ Greater
-greater made r low = grind (arith, nat_tests)
-
-pub insert_entry-last : {X : Type 0} (es : List (ℕ × X)) (made : ℕ) (w : X) → AllByRecursion (λ r. r < made) (keys_of es) → insert_entry nat_cmp es made w ≡ es ++ (made, w) ∷ []
-insert_entry-last [] made w low = refl
-insert_entry-last (e ∷ es) made w low =
-    ap (λ o. match_ordering o ((made, w) ∷ e ∷ es) ((e.0, w) ∷ es) (e ∷ insert_entry nat_cmp es made w)) (greater made e.0 low.0)
-    ∙ ap (λ xs. e ∷ xs) (insert_entry-last es made w low.1)
-
-registration_of-push : (es : List (ℕ × Watch)) (r : ℕ) (w : Watch) (q : ℕ) → list_any (is_for w.cookie) (values_of es) ≡ false → registration_of q (es ++ (r, w) ∷ []) ≡ cond (nat_eq w.cookie q) (Some r) (registration_of q es)
-registration_of-push [] r w q none = refl
-registration_of-push (e ∷ es) r w q none =
-    let parts = or_none (is_for w.cookie e.1) (list_any (is_for w.cookie) (values_of es)) none in
-    ap (λ o. cond (is_for q e.1) (Some e.0) o) (registration_of-push es r w q parts.1)
-    ∙ elim (cases_Bool (nat_eq w.cookie q)) [
-      | inl asked ↦
-          let not_it : is_for q e.1 ≡ false = ap (λ c. nat_eq e.1.cookie c) (sym (eqb-true w.cookie q asked)) ∙ parts.0 in
-          ap (λ b. cond b (Some e.0) (cond (nat_eq w.cookie q) (Some r) (registration_of q es))) not_it
-          ∙ ap (λ b. cond b (Some r) (registration_of q es)) asked
-          ∙ sym (ap (λ b. cond b (Some r) (registration_of q (e ∷ es))) asked)
-      | inr other ↦
-          ap (λ b. cond (is_for q e.1) (Some e.0) (cond b (Some r) (registration_of q es))) other
-          ∙ sym (ap (λ b. cond b (Some r) (registration_of q (e ∷ es))) other)
-    ]
-  where
-    or_none : (a b : Bool) → (a || b) ≡ false → (a ≡ false) × (b ≡ false)
-    or_none true b h = absurd (cc)
-    or_none false b h = (refl, h)
-
-AllByRecursion-push : (es : List (ℕ × Watch)) (r next : ℕ) (w : Watch) → r < next → AllByRecursion (λ n. n < r) (keys_of es) → AllByRecursion (λ n. n < next) (keys_of (es ++ (r, w) ∷ []))
-AllByRecursion-push [] r next w up low = (omega arith, tt)
-AllByRecursion-push (e ∷ es) r next w up low = (let first = low.0 in omega arith, AllByRecursion-push es r next w up low.1)
+use Rattle.fence_core.proofs.InOrder.{is_at-true, is_at-false, at-none, all-at, all-keys, none-any, insert_entry-last, in_order-put, in_order-taken, ordered-in_order}
+use Rattle.fence_core.proofs.ByCookie.{at-by_registration, found-is, found-there, AreKept-put, by_registration-put, still-there, AreKept-taken, by_registration-taken, by_registration-moved, lookup-moved}
 
 pub cookie_of-numbered : (made cookie : ℕ) → cookie < COOKIES → cookie_of (numbered made cookie) ≡ cookie
 cookie_of-numbered made cookie fits = digits_mod made fits
 
--- all registrations come before the next, whatever its cookie
-pub before-numbered : (es : List (ℕ × Watch)) (made cookie : ℕ) → AllByRecursion (λ r. r < numbered made 0) (keys_of es) → AllByRecursion (λ r. r < numbered made cookie) (keys_of es)
-before-numbered [] made cookie low = tt
-before-numbered (e ∷ es) made cookie low = (let first = low.0 in omega arith, before-numbered es made cookie low.1)
+-- what holds of each watch by its cookie holds of each entry
+all-entries : (P : ℕ → Watch → Type 0) (es : Places) → AreKept es → ((w : PendingWatch) → lookup (nat_eq (cookie_of w.place.registration)) es ≡ Some w → P w.place.registration (watch_in w)) → AllByRecursion (λ (e : ℕ × Watch). P e.0 e.1) (in_order (by_registration es))
+all-entries P es h each = all-at P (in_order (by_registration es)) (ordered-in_order (by_registration es)) (λ r v is.
+    let it = found-is es r v (sym (at-by_registration es r h) ∙ is) in
+    subst (λ x. P r x) it.3 (subst (λ n. P n (watch_in it.0)) it.2 (each it.0 (ap (λ n. lookup (nat_eq (cookie_of n)) es) it.2 ∙ it.1))))
 
-pub AreRegistered-push : (es more : List (ℕ × Watch)) (places grown : Places) (made r : ℕ) (w : Watch) → AreRegistered es places made → r ≡ numbered made w.cookie → w.cookie < COOKIES → list_any (is_for w.cookie) (values_of es) ≡ false → length (values_of es) < WATCHES → more ≡ insert_entry nat_cmp es r w → IsStrictlySortedBy nat_cmp (keys_of more)
-    → ((q : ℕ) → registered grown q ≡ cond (nat_eq w.cookie q) (Some r) (registered places q)) → AreRegistered more grown (made + 1)
-AreRegistered-push es more places grown made r w h numbered_is fits new low is ordered put =
-    let before = subst (λ m. AllByRecursion (λ n. n < m) (keys_of es)) (sym numbered_is) (before-numbered es made w.cookie h.before) in
-    let last = is ∙ insert_entry-last es r w before in
-    record {
-      pending = subst ArePending (sym (ap values_of last ∙ map-append (λ (e : ℕ × Watch). e.1) es ((r, w) ∷ []))) (ArePending-push w.cookie w.points h.pending new low);
-      ordered = ordered;
-      before = subst (λ xs. AllByRecursion (λ n. n < numbered (made + 1) 0) (keys_of xs)) (sym last) (AllByRecursion-push es r (numbered (made + 1) 0) w (omega arith) before);
-      by_cookie = λ q. put q ∙ ap (λ o. cond (nat_eq w.cookie q) (Some r) o) (h.by_cookie q) ∙ sym (registration_of-push es r w q new) ∙ ap (registration_of q) (sym last);
-    }
-
--- if no cookie has a place, nothing is registered
-none_registered : (places : Places) (made : ℕ) → ((q : ℕ) → place_at places q ≡ None) → AreRegistered [] places made
-unfolding IsStrictlySortedBy
-none_registered places made none = record { pending = ArePending-none; ordered = tt; before = tt; by_cookie = λ q. ap registration_at (none q) }
-
-pub AreRegistered-none : (es : List (ℕ × Watch)) (places : Places) (made : ℕ) → es ≡ [] → ((q : ℕ) → place_at places q ≡ None) → AreRegistered es places made
-AreRegistered-none es places made is none = subst (λ xs. AreRegistered xs places made) (sym is) (none_registered places made none)
-
-pub AreRegistered-same : (es kept : List (ℕ × Watch)) (places other : Places) (made : ℕ) → AreRegistered es places made → kept ≡ es → ((q : ℕ) → registered other q ≡ registered places q) → AreRegistered kept other made
-AreRegistered-same es kept places other made h entries same = subst (λ xs. AreRegistered xs other made) (sym entries) (record { pending = h.pending; ordered = h.ordered; before = h.before; by_cookie = λ q. same q ∙ h.by_cookie q })
-
--- a cookie that no watch has stands nowhere
-pub place-new : (es : List (ℕ × Watch)) (places : Places) (made cookie : ℕ) → AreRegistered es places made → list_any (is_for cookie) (values_of es) ≡ false → place_at places cookie ≡ None
-place-new es places made cookie h new = by (place_at places cookie) (h.by_cookie cookie ∙ registration_of-none cookie es new)
+-- a watch of the cookie is pending exactly if the cookie is there
+pub list_any-watches_of : (es : Places) (cookie : ℕ) → AreKept es → list_any (is_for cookie) (watches_of es) ≡ is_some (lookup (nat_eq cookie) es)
+list_any-watches_of es cookie h = by (lookup (nat_eq cookie) es) refl
   where
-    by : (o : Option WaitingPoint) → registration_at o ≡ None → o ≡ None
+    by : (o : Option PendingWatch) → lookup (nat_eq cookie) es ≡ o → list_any (is_for cookie) (watches_of es) ≡ is_some o
+    by None none = none-any (is_for cookie) (in_order (by_registration es)) (all-entries (λ r v. is_for cookie v ≡ false) es h (λ w there. elim (cases_Bool (nat_eq (cookie_of w.place.registration) cookie)) [
+      | inl same ↦ absurd (none-some w (sym none ∙ ap (λ c. lookup (nat_eq c) es) (sym (eqb-true (cookie_of w.place.registration) cookie same)) ∙ there))
+      | inr other ↦ other
+    ]))
+    by (Some w) there = elim (cases_Bool (list_any (is_for cookie) (watches_of es))) [
+      | inl any ↦ any
+      | inr none ↦
+          let its = at-none (is_for cookie) (in_order (by_registration es)) w.place.registration (watch_in w) none (at-by_registration es w.place.registration h ∙ found-there es cookie w h.own there) in
+          absurd (false≢true (sym its ∙ eq-eqb (cookie_of w.place.registration) cookie (h.own cookie w there)))
+    ]
+
+-- if no watch is of the cookie, it is not there
+pub lookup-new : (es : Places) (cookie : ℕ) → AreKept es → list_any (is_for cookie) (watches_of es) ≡ false → lookup (nat_eq cookie) es ≡ None
+lookup-new es cookie h none = by (lookup (nat_eq cookie) es) (sym (list_any-watches_of es cookie h) ∙ none)
+  where
+    by : (o : Option PendingWatch) → is_some o ≡ false → o ≡ None
     by None is = refl
-    by (Some place) is = absurd (none-some place.registration (sym is))
+    by (Some w) is = absurd (false≢true (sym is))
 
--- if no watch passes the test, none that is found does
-pub at-none : (test : Watch → Bool) (es : List (ℕ × Watch)) (r : ℕ) (w : Watch) → list_any test (values_of es) ≡ false → at es r ≡ Some w → test w ≡ false
-at-none test [] r w none is = absurd (none-some w is)
-at-none test (e ∷ es) r w none is = elim (cases_Bool (is_at (nat_cmp r) e.0)) [
-  | inl here ↦ ap test (sym (same_Some e.1 w (sym (ap (λ b. cond b (Some e.1) (at es r)) here) ∙ is))) ∙ (or_none (test e.1) (list_any test (values_of es)) none).0
-  | inr past ↦ at-none test es r w (or_none (test e.1) (list_any test (values_of es)) none).1 (sym (ap (λ b. cond b (Some e.1) (at es r)) past) ∙ is)
+-- none
+none_registered : (made : ℕ) → AreRegistered [] made
+unfolding IsDistinct
+none_registered made = record {
+  pending = ArePending-none;
+  kept = record { distinct = tt; own = λ cookie w there. absurd (none-some w there) };
+  before = record { each = λ cookie w there. absurd (none-some w there) };
+}
+
+pub AreRegistered-none : (es : Places) (made : ℕ) → es ≡ [] → AreRegistered es made
+AreRegistered-none es made is = subst (λ xs. AreRegistered xs made) (sym is) (none_registered made)
+
+-- one more, of the greatest registration
+module _ (es more : Places) (made cookie : ℕ) (w : PendingWatch) (numbered_is : w.place.registration ≡ numbered made cookie) (fits : cookie < COOKIES) (new : lookup (nat_eq cookie) es ≡ None) (put : (q : ℕ) → lookup (nat_eq q) more ≡ cond (nat_eq cookie q) (Some w) (lookup (nat_eq q) es)) (distinct : IsDistinct nat_eq (keys_of more)) (h : AreRegistered es made) where
+  its : cookie_of w.place.registration ≡ cookie
+  its = ap cookie_of numbered_is ∙ cookie_of-numbered made cookie fits
+
+  pub watches_of-push : watches_of more ≡ watches_of es ++ watch_in w ∷ []
+  watches_of-push =
+      let low : AllByRecursion (λ n. n < w.place.registration) (keys_of (in_order (by_registration es))) = all-keys (λ n. n < w.place.registration) (in_order (by_registration es)) (all-entries (λ n v. n < w.place.registration) es h.kept (λ v there. let up = h.before.each (cookie_of v.place.registration) v there in omega (arith, up, numbered_is))) in
+      ap values_of (in_order-put (by_registration es) (by_registration more) w.place.registration (watch_in w) (by_registration-put es more cookie w its new put h.kept distinct) ∙ insert_entry-last (in_order (by_registration es)) w.place.registration (watch_in w) low)
+      ∙ map-append (λ (e : ℕ × Watch). e.1) (in_order (by_registration es)) ((w.place.registration, watch_in w) ∷ [])
+
+  pub AreRegistered-push : list_any (is_for cookie) (watches_of es) ≡ false → length (watches_of es) < WATCHES → AreRegistered more (made + 1)
+  AreRegistered-push none room = record {
+    pending = subst ArePending (sym watches_of-push) (ArePending-push (watch_in w).cookie (watch_in w).points h.pending (ap (λ c. list_any (is_for c) (watches_of es)) its ∙ none) room);
+    kept = AreKept-put es more cookie w its new put h.kept distinct;
+    before = record {
+      each = λ q v is. elim (cases_Bool (nat_eq cookie q)) [
+        | inl here ↦
+            let same : w ≡ v = same_Some w v (sym (put q ∙ ap (λ b. cond b (Some w) (lookup (nat_eq q) es)) here) ∙ is) in
+            subst (λ (x : PendingWatch). x.place.registration < numbered (made + 1) 0) same (omega (arith, numbered_is, fits))
+        | inr other ↦
+            let up = h.before.each q v (sym (put q ∙ ap (λ b. cond b (Some w) (lookup (nat_eq q) es)) other) ∙ is) in
+            omega (arith, up)
+      ];
+    };
+  }
+
+-- one taken out
+values_of-remove : (cookie r : ℕ) (es : List (ℕ × Watch)) → IsDistinct nat_eq (cookies_of (values_of es)) → AllByRecursion (λ (e : ℕ × Watch). is_for cookie e.1 ≡ is_at (nat_cmp r) e.0) es → values_of (remove_entry (is_at (nat_cmp r)) es) ≡ filter (λ w. not (is_for cookie w)) (values_of es)
+unfolding IsDistinct
+values_of-remove cookie r [] distinct each = refl
+values_of-remove cookie r (e ∷ es) distinct each = elim (cases_Bool (is_for cookie e.1)) [
+  | inl here ↦
+      let none = apart-any cookie (values_of es) (subst (λ k. AllByRecursion (λ y. nat_eq k y ≡ false) (cookies_of (values_of es))) (eqb-true e.1.cookie cookie here) distinct.0) in
+      ap (λ b. values_of (cond b es (e ∷ remove_entry (is_at (nat_cmp r)) es))) (sym each.0 ∙ here)
+      ∙ sym (filter-other cookie (values_of es) none)
+      ∙ sym (ap (λ b. cond (not b) (e.1 ∷ filter (λ w. not (is_for cookie w)) (values_of es)) (filter (λ w. not (is_for cookie w)) (values_of es))) here)
+  | inr past ↦
+      ap (λ b. values_of (cond b es (e ∷ remove_entry (is_at (nat_cmp r)) es))) (sym each.0 ∙ past)
+      ∙ ap (λ ws. e.1 ∷ ws) (values_of-remove cookie r es distinct.1 each.1)
+      ∙ sym (ap (λ b. cond (not b) (e.1 ∷ filter (λ w. not (is_for cookie w)) (values_of es)) (filter (λ w. not (is_for cookie w)) (values_of es))) past)
 ]
-  where
-    or_none : (a b : Bool) → (a || b) ≡ false → (a ≡ false) × (b ≡ false)
-    or_none true b h = absurd (cc)
-    or_none false b h = (refl, h)
+
+module _ (es left : Places) (made cookie : ℕ) (w : PendingWatch) (there : lookup (nat_eq cookie) es ≡ Some w) (out : (q : ℕ) → lookup (nat_eq q) left ≡ cond (nat_eq cookie q) None (lookup (nat_eq q) es)) (distinct : IsDistinct nat_eq (keys_of left)) (h : AreRegistered es made) where
+  pub watches_of-remove : watches_of left ≡ filter (λ v. not (is_for cookie v)) (watches_of es)
+  watches_of-remove =
+      let r = w.place.registration in
+      ap values_of (in_order-taken (by_registration es) (by_registration left) r (by_registration-taken es left cookie w there out h.kept distinct))
+      ∙ values_of-remove cookie r (in_order (by_registration es)) h.pending.distinct (all-entries (λ n v. is_for cookie v ≡ is_at (nat_cmp r) n) es h.kept (λ v found. elim (cases_Bool (nat_eq (cookie_of v.place.registration) cookie)) [
+        | inl same ↦
+            let is : w ≡ v = same_Some w v (sym there ∙ ap (λ c. lookup (nat_eq c) es) (sym (eqb-true (cookie_of v.place.registration) cookie same)) ∙ found) in
+            same ∙ sym (is_at-true r v.place.registration (ap (λ (x : PendingWatch). x.place.registration) is))
+        | inr other ↦ other ∙ sym (is_at-false r v.place.registration (λ e. false≢true (sym other ∙ eq-eqb (cookie_of v.place.registration) cookie (ap cookie_of (sym e) ∙ h.kept.own cookie w there))))
+      ]))
+
+  pub AreRegistered-remove : AreRegistered left made
+  AreRegistered-remove = record {
+    pending = subst ArePending (sym watches_of-remove) (ArePending-filter (λ v. not (is_for cookie v)) h.pending);
+    kept = AreKept-taken es left cookie w there out h.kept distinct;
+    before = record { each = λ q v is. h.before.each q v (still-there es left cookie w there out h.kept distinct q v is).1 };
+  }
+
+-- one moved, or several
+pub AreRegistered-same : (es other : Places) (made : ℕ) → AreRegistered es made → watches_of other ≡ watches_of es → AreKept other → AreBefore made other → AreRegistered other made
+AreRegistered-same es other made h same kept before = record { pending = subst ArePending (sym same) h.pending; kept = kept; before = before }
+
+pub watches_of-moved : (cookie : ℕ) (es : Places) (w v : PendingWatch) → lookup (nat_eq cookie) es ≡ Some w → v.place.registration ≡ w.place.registration → v.fence ≡ w.fence → watches_of (set_value (nat_eq cookie) es v) ≡ watches_of es
+watches_of-moved cookie es w v there same fence = ap (λ xs. values_of (in_order xs)) (by_registration-moved (nat_eq cookie) es w v there same fence)
+
+pub AreBefore-moved : (made cookie : ℕ) (es : Places) (w v : PendingWatch) → lookup (nat_eq cookie) es ≡ Some w → v.place.registration ≡ w.place.registration → AreBefore made es → AreBefore made (set_value (nat_eq cookie) es v)
+AreBefore-moved made cookie es w v there same h = record {
+  each = λ q x is. elim (cases_Bool (nat_eq cookie q)) [
+    | inl here ↦
+        let its : v ≡ x = same_Some v x (sym (lookup-moved cookie es w v q there ∙ ap (λ b. cond b (Some v) (lookup (nat_eq q) es)) here) ∙ is) in
+        let up = h.each cookie w there in
+        subst (λ (y : PendingWatch). y.place.registration < numbered made 0) its (omega (arith, up, same))
+    | inr other ↦ h.each q x (sym (lookup-moved cookie es w v q there ∙ ap (λ b. cond b (Some v) (lookup (nat_eq q) es)) other) ∙ is)
+  ];
+}
 
 -- a fence of points waits for them
 pub members_of-fence_of : (ps : List Point) → members_of (fence_of ps) ≡ ps

@@ -20,13 +20,13 @@ mod pending;
 mod point_index;
 mod registration;
 
-use self::pending::PendingWatches;
+use self::pending::{PendingWatch, PendingWatches};
 use self::point_index::{PointIndex, WaitingPoint};
 use self::registration::Registration;
 use crate::fence::{Fence, first_above};
 use point_core::{LimitKind, Point, Reach, Refusal};
 use std::alloc::Global;
-use std::collections::BTreeMap;
+use std::collections::{BTreeMap, HashMap};
 use std::marker::Model;
 
 /// How many watches can be pending at a time.
@@ -53,16 +53,16 @@ pub struct Watches {
 }
 
 impl Model for Watches {
-    ghost use Rattle.std.specs.Map.{values_of};
     ghost use Rattle.fence_core.specs.Watch.{Registry, registry_of};
+    ghost use Rattle.fence_core.specs.Pending.{watches_of};
     ghost use Rattle.fence_core.specs.Registered.{AreRegistered, IsIndexed, IsSettled};
 
     ghost Value = { Registry };
 
-    ghost view = { λ ws. registry_of (values_of ws.pending.entries) ws.made ws.reach };
+    ghost view = { λ ws. registry_of (watches_of ws.pending.entries) ws.made ws.reach };
 
-    ghost invariant = { λ ws. AreRegistered ws.pending.entries ws.pending.places ws.made ×
-        IsIndexed ws.pending.entries ws.pending.places ws.index ×
+    ghost invariant = { λ ws. AreRegistered ws.pending.entries ws.made ×
+        IsIndexed ws.pending.entries ws.index ×
         IsSettled ws.is_settled ws.index ws.reach };
 }
 
@@ -80,7 +80,7 @@ impl Watches {
     {
         Watches {
             alloc,
-            pending: PendingWatches::new(alloc),
+            pending: HashMap::new(alloc),
             index: PointIndex::new(alloc),
             made,
             reach: Reach::zero(),
@@ -121,7 +121,8 @@ impl Watches {
         let registration = Registration::of(self.made, cookie);
         self.index.put(&first, registration)?;
         let place = WaitingPoint::of(&first, registration);
-        let Ok(_new) = self.pending.insert(&place, fence) else {
+        let watch = PendingWatch { place, fence };
+        let Ok(_new) = self.pending.insert(cookie, watch) else {
             self.index.take(&place);
             return Err(Refusal::Memory);
         };
@@ -137,7 +138,7 @@ impl Watches {
     pub fn free(&self, cookie: u64) -> Result<(), Refusal>
         ensures { MatchOption (cause_to_refuse self.now cookie) (IsOk result) (λ cause. result ≡ Err cause) }
     {
-        if self.pending.has(cookie) {
+        if self.pending.contains_key(&cookie) {
             return Err(Refusal::Exists);
         }
         if self.pending.len() >= WATCHES || self.made == WATCHES_EVER {
@@ -152,10 +153,10 @@ impl Watches {
         ensures found { result ≡ has_watch self.old cookie }
         ensures without { self.new ≡ without_watch self.old cookie }
     {
-        let Some(place) = self.pending.remove(cookie) else {
+        let Some(watch) = self.pending.remove(&cookie) else {
             return false;
         };
-        self.index.take(&place);
+        self.index.take(&watch.place);
         true
     }
 

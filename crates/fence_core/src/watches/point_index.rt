@@ -8,7 +8,8 @@ ghost use Rattle.std.specs.List.Sorted.{IsStrictlySortedBy};
 ghost use Rattle.point_core.specs.declared.refusal.Refusal.TheVariants.{Memory};
 ghost use Rattle.fence_core.specs.declared.watches.point_index.WaitingPoint.{WaitingPoint as Waiting};
 ghost use Rattle.fence_core.specs.PointIndex.{waiting, is_same, queue_at, holds, is_due, number_due, AreWaiting};
-ghost use Rattle.fence_core.specs.Registered.{registered, IsIndexed, NoneFires};
+ghost use Rattle.fence_core.specs.Pending.{watches_of};
+ghost use Rattle.fence_core.specs.Registered.{IsIndexed, AreKept, AreBefore, NoneFires};
 ghost use Rattle.fence_core.specs.Reported.{IsReported, AreOnlyFiring, Fires};
 ghost use Rattle.fence_core.specs.Gathered.{AreFiredIn};
 ghost use Rattle.point_core.specs.Reach.{value_at, reaching};
@@ -22,7 +23,7 @@ use self::firing::report_reached;
 use self::point_queue::{PointQueue, Standing};
 use self::single_rise::gathered_in_order;
 use super::due_floor::DueFloor;
-use super::pending::PendingWatches;
+use super::pending::{PendingWatches, find, replace};
 use super::registration::Registration;
 use point_core::{Context, Point, Reach, Refusal};
 use std::alloc::Global;
@@ -30,7 +31,7 @@ use std::collections::BTreeMap;
 use std::marker::Model;
 
 /// A point, and the registration of a watch that waits for it.
-#[derive(Clone, Copy, PartialEq, Eq, PartialOrd, Ord)]
+#[derive(Clone, Copy)]
 pub(super) struct WaitingPoint {
     ctx: Context,
     value: u64,
@@ -136,11 +137,13 @@ impl PointIndex {
         pending: &mut PendingWatches,
         reach: &Reach,
     ) -> Result<(), Refusal>
-        requires indexed { IsIndexed pending.old.entries pending.old.places self.old }
+        requires indexed { IsIndexed pending.old.entries self.old }
+        requires kept { AreKept pending.old.entries }
         requires none_fires { NoneFires pending.old.entries reach.now }
-        ensures indexed { IsIndexed pending.new.entries pending.new.places self.new }
-        ensures entries { pending.new.entries ≡ pending.old.entries }
-        ensures registered { (q : ℕ) → registered pending.new.places q ≡ registered pending.old.places q }
+        ensures indexed { IsIndexed pending.new.entries self.new }
+        ensures kept { AreKept pending.new.entries }
+        ensures same { watches_of pending.new.entries ≡ watches_of pending.old.entries }
+        ensures before { (made : ℕ) → AreBefore made pending.old.entries → AreBefore made pending.new.entries }
         ensures none_left { OnOk result ((k : Waiting) → is_due k.ctx (value_at reach.now k.ctx) k ≡ true →
             holds self.new k ≡ false) }
     {
@@ -162,11 +165,13 @@ impl PointIndex {
         ctx: Context,
         reach: &Reach,
     ) -> Result<(), Refusal>
-        requires indexed { IsIndexed pending.old.entries pending.old.places self.old }
+        requires indexed { IsIndexed pending.old.entries self.old }
+        requires kept { AreKept pending.old.entries }
         requires none_fires { NoneFires pending.old.entries reach.now }
-        ensures indexed { IsIndexed pending.new.entries pending.new.places self.new }
-        ensures entries { pending.new.entries ≡ pending.old.entries }
-        ensures registered { (q : ℕ) → registered pending.new.places q ≡ registered pending.old.places q }
+        ensures indexed { IsIndexed pending.new.entries self.new }
+        ensures kept { AreKept pending.new.entries }
+        ensures same { watches_of pending.new.entries ≡ watches_of pending.old.entries }
+        ensures before { (made : ℕ) → AreBefore made pending.old.entries → AreBefore made pending.new.entries }
         ensures waiting { AreWaiting self.old }
         ensures less { (k : Waiting) → is_due k.ctx (value_at reach.now k.ctx) k ≡ true →
             holds self.new k ≡ true → holds self.old k ≡ true }
@@ -186,11 +191,13 @@ impl PointIndex {
         ctx: Context,
         reach: &Reach,
     ) -> Result<bool, Refusal>
-        requires indexed { IsIndexed pending.old.entries pending.old.places self.old }
+        requires indexed { IsIndexed pending.old.entries self.old }
+        requires kept { AreKept pending.old.entries }
         requires none_fires { NoneFires pending.old.entries reach.now }
-        ensures indexed { IsIndexed pending.new.entries pending.new.places self.new }
-        ensures entries { pending.new.entries ≡ pending.old.entries }
-        ensures registered { (q : ℕ) → registered pending.new.places q ≡ registered pending.old.places q }
+        ensures indexed { IsIndexed pending.new.entries self.new }
+        ensures kept { AreKept pending.new.entries }
+        ensures same { watches_of pending.new.entries ≡ watches_of pending.old.entries }
+        ensures before { (made : ℕ) → AreBefore made pending.old.entries → AreBefore made pending.new.entries }
         ensures less { (k : Waiting) → is_due k.ctx (value_at reach.now k.ctx) k ≡ true →
             holds self.new k ≡ true → holds self.old k ≡ true }
         ensures fewer { IfOk result (λ moved. moved ≡ true →
@@ -212,24 +219,26 @@ impl PointIndex {
         pending: &mut PendingWatches,
         reach: &Reach,
     ) -> Result<(), Refusal>
-        requires indexed { IsIndexed pending.old.entries pending.old.places self.old }
+        requires indexed { IsIndexed pending.old.entries self.old }
+        requires kept { AreKept pending.old.entries }
         requires none_fires { NoneFires pending.old.entries reach.now }
         requires there { holds self.old due.now ≡ true }
         requires due { is_due due.now.ctx (value_at reach.now due.now.ctx) due.now ≡ true }
-        ensures indexed { IsIndexed pending.new.entries pending.new.places self.new }
-        ensures entries { pending.new.entries ≡ pending.old.entries }
-        ensures registered { (q : ℕ) → registered pending.new.places q ≡ registered pending.old.places q }
+        ensures indexed { IsIndexed pending.new.entries self.new }
+        ensures kept { AreKept pending.new.entries }
+        ensures same { watches_of pending.new.entries ≡ watches_of pending.old.entries }
+        ensures before { (made : ℕ) → AreBefore made pending.old.entries → AreBefore made pending.new.entries }
         ensures less { (k : Waiting) → is_due k.ctx (value_at reach.now k.ctx) k ≡ true →
             holds self.new k ≡ true → holds self.old k ≡ true }
         ensures fewer { OnOk result (number_due due.now.ctx (value_at reach.now due.now.ctx) self.new <
             number_due due.now.ctx (value_at reach.now due.now.ctx) self.old) }
     {
         let registration = due.registration;
-        let watch = pending.get(&registration).unwrap();
+        let watch = find(pending, &registration).unwrap();
         let next = watch.fence.first_above(reach).unwrap();
         self.put(&next, registration)?;
         self.take(due);
-        pending.replace(&WaitingPoint::of(&next, registration));
+        replace(pending, &WaitingPoint::of(&next, registration));
         Ok(())
     }
 

@@ -11,7 +11,7 @@ ghost use Rattle.fence_core.specs.Reported.{IsReported, AreOnlyFiring, Fires};
 
 use super::point_queue::PointQueue;
 use crate::watches::due_floor::DueFloor;
-use crate::watches::pending::PendingWatches;
+use crate::watches::pending::{PendingWatches, find};
 use crate::watches::registration::Registration;
 use point_core::{Context, Reach, Refusal};
 use std::collections::BTreeMap;
@@ -110,7 +110,7 @@ fn report(
     ensures memory { IfErr result (λ e. e ≡ Memory) }
     ensures some_fires { OnErr result (Fires pending.now.entries reach.now) }
 {
-    let Some(watch) = pending.get(&registration) else {
+    let Some(watch) = find(pending, &registration) else {
         return Ok(());
     };
     if !watch.fence.is_signalled(reach) {

@@ -8,7 +8,7 @@ ghost use Rattle.fence_core.specs.Reported.{Fires};
 
 use super::point_queue::PointQueue;
 use crate::fence::value_with;
-use crate::watches::pending::PendingWatches;
+use crate::watches::pending::{PendingWatches, find};
 use crate::watches::registration::Registration;
 use point_core::{Point, Reach, Refusal};
 use std::alloc::Global;
@@ -75,7 +75,7 @@ impl Gathered {
         ensures memory { IfErr result (λ e. e ≡ Memory) }
         ensures some_fires { OnErr result (Fires pending.now.entries (reaching reach.now point.now)) }
     {
-        let Some(watch) = pending.get(&registration) else {
+        let Some(watch) = find(pending, &registration) else {
             return Ok(true);
         };
         if !watch.fence.is_signalled_with(reach, point) {

@@ -4,15 +4,15 @@ use Rattle.fence_core.specs.Watch.{Registry}
 use Rattle.fence_core.specs.Watches.{fires}
 use Rattle.fence_core.specs.PointIndex.{AreAbove}
 use Rattle.fence_core.proofs.Above.{AreAbove-none_due, on_ok}
-use Rattle.fence_core.proofs.Registered.{AreRegistered-same, at-none}
+use Rattle.fence_core.proofs.Registered.{AreRegistered-same}
 use Rattle.fence_core.proofs.watches.Watches.rise_to.Goals as goal
 
 pub settle-settled-requires-clause-none_fires : goal.settle-settled-requires-clause-none_fires
-settle-settled-requires-clause-none_fires c = λ r w is. at-none (fires c.args.reach.now) c.self.inside.pending.entries r w (ap (λ (r : Registry). list_any (fires c.args.reach.now) r.pending) c.self.view_is ∙ c.requires.none_fires) is
+settle-settled-requires-clause-none_fires c = ap (λ (r : Registry). list_any (fires c.args.reach.now) r.pending) c.self.view_is ∙ c.requires.none_fires
 
 pub invariant_of-self : goal.invariant_of-self
 invariant_of-self c = (
-  AreRegistered-same c.self.inside.pending.entries c.settle-settled.new.pending.entries c.self.inside.pending.places c.settle-settled.new.pending.places c.self.inside.made c.self.invariant.0 c.settle-settled.ensures.entries c.settle-settled.ensures.registered,
+  AreRegistered-same c.self.inside.pending.entries c.settle-settled.new.pending.entries c.self.inside.made c.self.invariant.0 c.settle-settled.ensures.same c.settle-settled.ensures.kept (c.settle-settled.ensures.before c.self.inside.made c.self.invariant.0.before),
   c.settle-settled.ensures.indexed,
   λ settled. subst (AreAbove c.settle-settled.new.self) (sym c.copy_from.ensures.values)
       (AreAbove-none_due c.settle-settled.new.self c.args.reach.now (on_ok c.settle-settled.result c.settle-settled.ensures.none_left (sym c.is_ok-self-inside.ensures.value ∙ settled))),

@@ -1,52 +1,46 @@
-use Rattle.std.proofs.Common.{◌≡◌, ◌≢◌, ◌∙◌, ℕ, sym, ap, subst, cond, nat_eq, not, ◌&&◌, Some}
+use Rattle.std.proofs.Common.{◌≢◌, ◌∙◌, sym, ap, subst, nat_eq, not, ◌&&◌}
 use Rattle.std.specs.Prelude.{IfSome, option_copied}
+use Rattle.std.specs.Map.{lookup, set_value}
 use Rattle.std.proofs.lemmas.Bool.{false≢true}
-use Rattle.std.proofs.lemmas.Option.{same_Some}
 use Rattle.point_core.specs.Reach.{value_at}
-use Rattle.fence_core.specs.Watch.{Watch}
 use Rattle.fence_core.specs.Fence.{members_of}
-use Rattle.fence_core.specs.PointIndex.{waiting, is_same, is_due, IsOneAbove}
 use Rattle.fence_core.specs.Registration.{cookie_of}
-use Rattle.fence_core.specs.Pending.{watch_in, watch_if_any}
-use Rattle.fence_core.specs.Registered.{place_at, registration_at, registered, IsIndexed}
+use Rattle.fence_core.specs.PointIndex.{waiting, is_same, is_due, IsOneAbove}
 use Rattle.fence_core.specs.declared.watches.point_index.WaitingPoint.{WaitingPoint as Waiting}
 use Rattle.fence_core.proofs.Above.{above-not_due}
-use Rattle.fence_core.proofs.Gathered.{at_some}
-use Rattle.fence_core.proofs.Indexed.{IsIndexed-move}
+use Rattle.fence_core.proofs.Moved.{AreMoved, moved-on, some-above}
 use Rattle.fence_core.proofs.watches.point_index.PointIndex.move_on.Goals as goal
+use Rattle.fence_core.proofs.watches.point_index.PointIndex.move_on.Goals.{After-replace}
 
-pub returns-clause-indexed : goal.returns-clause-indexed
-returns-clause-indexed c =
+-- the pending watches and the index at the end
+moved : (c : After-replace) → AreMoved c.args.pending.now.entries c.replace.new.pending.entries c.take.new.self
+moved c =
     let reach = c.args.reach.now in
     let due = c.args.due.now in
-    let r = due.registration in
+    let es = c.args.pending.now.entries in
     let p = c.unwrap-next.result in
-    let w = watch_in c.unwrap-watch.result.now in
-    let found = sym c.get.ensures.value ∙ ap (λ o. watch_if_any (option_copied o)) c.unwrap-watch.ensures in
-    let one : IsOneAbove reach (members_of c.unwrap-watch.result.now.fence) p = subst (λ o. IfSome o (λ x. IsOneAbove reach (members_of c.unwrap-watch.result.now.fence) x)) c.unwrap-next.ensures c.first_above.ensures.above in
-    let member = one.member r in
-    let apart : due ≢ waiting p r = λ e. false≢true (sym (above-not_due reach p r one.above) ∙ sym (ap (λ (x : Waiting). is_due x.ctx (value_at reach x.ctx) x) e) ∙ c.requires.due) in
-    let own : w.cookie ≡ cookie_of r = ap cookie_of (at_some _ c.get.result c.unwrap-watch.result c.get.ensures.own c.unwrap-watch.ensures) in
-    let stands : (q : ℕ) → place_at c.replace.new.self.places q ≡ cond (nat_eq w.cookie q) (Some (waiting p r)) (place_at c.args.pending.now.places q) = λ q.
-    c.replace.ensures.places q
-    ∙ ap (λ (k : Waiting). cond (nat_eq (cookie_of k.registration) q) (Some k) (place_at c.args.pending.now.places q)) c.of.ensures
-    ∙ ap (λ n. cond (nat_eq n q) (Some (waiting p r)) (place_at c.args.pending.now.places q)) (sym own) in
-    subst (λ es. IsIndexed es c.replace.new.self.places c.take.new.self) (sym c.replace.ensures.entries)
-    (IsIndexed-move c.args.pending.now.entries c.args.pending.now.places c.replace.new.self.places c.args.self.now c.take.new.self due p w c.requires.indexed c.requires.there found member apart stands
-    (λ k. c.take.ensures.taken k ∙ ap (λ b. not (is_same due k) && b) (c.in_ok-put.ensures.put k)))
+    let x = c.unwrap-watch.result.now in
+    let found = sym c.find.ensures ∙ ap option_copied c.unwrap-watch.ensures in
+    let one : IsOneAbove reach (members_of x.fence) p = subst (λ o. IfSome o (λ q. IsOneAbove reach (members_of x.fence) q)) c.unwrap-next.ensures c.first_above.ensures.above in
+    let apart : due ≢ waiting p due.registration = λ e. false≢true (sym (above-not_due reach p due.registration one.above) ∙ sym (ap (λ (k : Waiting). is_due k.ctx (value_at reach k.ctx) k) e) ∙ c.requires.due) in
+    moved-on es c.replace.new.pending.entries c.args.self.now c.take.new.self due p x c.requires.indexed c.requires.kept c.requires.there found (one.member due.registration) apart
+    (λ w there.
+    c.replace.ensures.moved w (ap (λ (k : Waiting). lookup (nat_eq (cookie_of k.registration)) es) c.of.ensures ∙ there)
+    ∙ ap (λ (k : Waiting). set_value (nat_eq (cookie_of k.registration)) es (record { place = k; fence = w.fence })) c.of.ensures)
+    (λ k. c.take.ensures.taken k ∙ ap (λ b. not (is_same due k) && b) (c.in_ok-put.ensures.put k))
 
--- the watch has a place under its cookie
-pub replace-requires : goal.replace-requires
-replace-requires c =
-    let r = c.args.due.now.registration in
-    let w = watch_in c.unwrap-watch.result.now in
-    let found = sym c.get.ensures.value ∙ ap (λ o. watch_if_any (option_copied o)) c.unwrap-watch.ensures in
-    let own : w.cookie ≡ cookie_of r = ap cookie_of (at_some _ c.get.result c.unwrap-watch.result c.get.ensures.own c.unwrap-watch.ensures) in
-    let its = c.requires.indexed.owned c.args.due.now c.requires.there in
-    let its_is : its.0 ≡ w = same_Some its.0 w (sym its.1 ∙ found) in
-    record {
-      there = ap (λ (k : Waiting). registered c.args.pending.now.places (cookie_of k.registration)) c.of.ensures
-          ∙ ap (registered c.args.pending.now.places) (sym own ∙ ap (λ (v : Watch). v.cookie) (sym its_is))
-          ∙ ap registration_at its.3
-          ∙ sym (ap (λ (k : Waiting). Some k.registration) c.of.ensures);
-    }
+pub returns-clause-indexed : goal.returns-clause-indexed
+returns-clause-indexed c = (moved c).indexed
+
+pub returns-clause-kept : goal.returns-clause-kept
+returns-clause-kept c = (moved c).kept
+
+pub returns-clause-same : goal.returns-clause-same
+returns-clause-same c = (moved c).same
+
+pub returns-clause-before : goal.returns-clause-before
+returns-clause-before c = (moved c).before
+
+-- it does not fire
+pub unwrap-next-requires : goal.unwrap-next-requires
+unwrap-next-requires c = some-above c.args.pending.now.entries c.args.reach.now c.args.due.now.registration c.unwrap-watch.result.now c.first_above.result c.requires.kept c.requires.none_fires (sym c.find.ensures ∙ ap option_copied c.unwrap-watch.ensures) c.first_above.ensures.signalled
