@@ -439,9 +439,7 @@ impl Desk {
         ensures unchanged { OnErr result (self.new ≡ self.old) }
     {
         let file = self.files.get(name).ok_or(Refusal::NoEntry)?;
-        let reach = self.timelines.as_reach();
-        self.watches
-            .register(cookie, file.points.as_slice(), reach)?;
+        self.watches.watch(cookie, file.points.as_slice())?;
         Ok(())
     }
 

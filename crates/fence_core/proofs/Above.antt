@@ -8,7 +8,7 @@ use Rattle.point_core.specs.Reach.{value_at, with_value, reaching, is_reached, I
 use Rattle.point_core.proofs.Values.{value_at-with_value_same, value_at-with_value_other, later_values-is, later_values-at_least, IsAtLeast-at}
 use Rattle.fence_core.specs.declared.watches.point_index.WaitingPoint.{WaitingPoint}
 use Rattle.fence_core.specs.declared.watches.point_index.point_queue.Standing.{Standing}
-use Rattle.fence_core.specs.PointIndex.{waiting, is_same, holds, is_due, AreWaiting, AreAbove}
+use Rattle.fence_core.specs.PointIndex.{waiting, is_same, holds, is_due, IsOneAbove, AreWaiting, AreAbove}
 use Rattle.fence_core.proofs.PointIndex.{holds-nothing, is_same-is, one_point}
 use Rattle.fence_core.proofs.Indexed.{or_cases}
 
@@ -109,6 +109,22 @@ AreAbove-put_above old new p registration before after h high past put = λ k th
   | inl added ↦ subst (λ (x : WaitingPoint). is_due x.ctx (value_at after x.ctx) x ≡ false) (one_point (waiting p registration) k added) (above-not_due after p registration past)
   | inr kept ↦ not_due-lower (value_at after k.ctx) (value_at before k.ctx) k k.ctx (high.values k.ctx) (h k kept)
 ]
+
+-- what is above a reach is above an earlier one that is as high
+pub AreAbove-later : (ks : List (List Standing)) (before after : List ℕ) → AreAbove ks before → IsAtLeast before after → AreAbove ks after
+AreAbove-later ks before after h high = λ k there. not_due-lower (value_at after k.ctx) (value_at before k.ctx) k k.ctx (high.values k.ctx) (h k there)
+
+pub above-lower : (reach kept : List ℕ) (ps : List Point) (p : Point) → IsAtLeast reach kept → IsOneAbove reach ps p → IsOneAbove kept ps p
+above-lower reach kept ps p high h = record {
+  member = h.member;
+  above = elim (cases_Bool (is_reached kept p)) [
+    | inl low ↦
+        let under = leb-true p.value (value_at kept p.ctx) low in
+        let up = high.values p.ctx in
+        absurd (false≢true (sym h.above ∙ le-leb p.value (value_at reach p.ctx) (omega arith)))
+    | inr past ↦ past
+  ];
+}
 
 -- what holds of a call that was not refused
 pub on_ok : {X E : Type 0} {P : Type 0} (r : Result X E) → OnOk r P → is_ok r ≡ true → P

@@ -1,9 +1,9 @@
 //! `Watches`: callbacks that fire once their fence is signalled, as Linux's `dma_fence_add_callback`. The desk keeps
-//! one registry and calls `register`, `remove` and, before each rise, `after_inc`.
+//! one registry and calls `watch`, `remove` and, before each rise, `after_inc`.
 //!
 //! The registry stores each pending watch once by cookie, with one of its points, and that point in `index` once by
 //! context. While `is_settled`, every point of the index is above the kept reach.
-ghost use Rattle.std.specs.Prelude.{◌≡◌, ◌↔◌, ◌≤◌, [], Ok, Err, IfOk, IfErr, OnOk, OnErr, IsOk, MatchOption, IsTrue, false, replicate};
+ghost use Rattle.std.specs.Prelude.{◌≡◌, ◌↔◌, ◌≤◌, [], Ok, Err, None, IfOk, IfErr, OnOk, OnErr, IsOk, MatchOption, IsTrue, false, replicate};
 ghost use Rattle.point_core.specs.declared.context.TheConstants.{CONTEXTS};
 ghost use Rattle.std.specs.List.{list_any};
 ghost use Rattle.std.specs.Map.{values_of};
@@ -12,6 +12,7 @@ ghost use Rattle.point_core.specs.Agreement.{HasRisingContexts};
 ghost use Rattle.point_core.specs.Reach.{IsAtLeast, reaching};
 ghost use Rattle.point_core.specs.Refusal.{IsRefusedFor};
 ghost use Rattle.fence_core.specs.Fence.{members_of};
+ghost use Rattle.fence_core.specs.PointIndex.{IsOneAbove};
 ghost use Rattle.fence_core.specs.Watch.{registry_of, ArePending};
 ghost use Rattle.fence_core.specs.Watches.{no_watches, has_watch, cause_to_refuse, cause_to_refuse_watch, with_watch, without_watch, without_watches, fires, fired_by, after_rise_to};
 
@@ -117,16 +118,46 @@ impl Watches {
         let Some(first) = first_above(points, reach) else {
             return Err(Refusal::Signalled);
         };
+        self.enter(cookie, points, &first)?;
+        self.is_settled = follow(&mut self.reach, self.is_settled, reach);
+        Ok(())
+    }
+
+    /// As `register`, at the last reach that was handed in.
+    pub fn watch(&mut self, cookie: u64, points: &[Point]) -> Result<(), Refusal>
+        requires rising { HasRisingContexts points.now }
+        ensures refused { IsRefusedFor (cause_to_refuse_watch self.old cookie points.now self.old.reach) result }
+        ensures last { OnOk result (self.new ≡ with_watch self.old cookie points.now self.old.reach) }
+        ensures unchanged { OnErr result (self.new ≡ self.old) }
+    {
+        self.free(cookie)?;
+        let Some(first) = first_above(points, &self.reach) else {
+            return Err(Refusal::Signalled);
+        };
+        self.enter(cookie, points, &first)?;
+        Ok(())
+    }
+
+    /// Puts in a watch of a free cookie, which is indexed at the first of its points above the kept reach.
+    ///
+    /// Fails only with `Memory`, and then leaves all as it was.
+    fn enter(&mut self, cookie: u64, points: &[Point], first: &Point) -> Result<(), Refusal>
+        requires free { cause_to_refuse self.old cookie ≡ None }
+        requires rising { HasRisingContexts points.now }
+        requires above { IsOneAbove self.old.reach points.now first.now }
+        ensures last { OnOk result (self.new ≡ with_watch self.old cookie points.now self.old.reach) }
+        ensures memory { IfErr result (λ e. e ≡ Memory) }
+        ensures unchanged { OnErr result (self.new ≡ self.old) }
+    {
         let fence = Fence::of(self.alloc, points)?;
         let registration = Registration::of(self.made, cookie);
-        self.index.put(&first, registration)?;
-        let place = WaitingPoint::of(&first, registration);
+        self.index.put(first, registration)?;
+        let place = WaitingPoint::of(first, registration);
         let watch = PendingWatch { place, fence };
         let Ok(_new) = self.pending.insert(cookie, watch) else {
             self.index.take(&place);
             return Err(Refusal::Memory);
         };
-        self.is_settled = follow(&mut self.reach, self.is_settled, reach);
         self.made += 1;
         Ok(())
     }

@@ -18,27 +18,27 @@ returns-in_err-file-clause-refused c =
     let same = none.1 in
     rw (← c.self.view_is, missing, p.1, p.2, same) refl
 
-pub returns-in_err-register-clause-refused : goal.returns-in_err-register-clause-refused
-returns-in_err-register-clause-refused c =
+pub returns-in_err-watch-clause-refused : goal.returns-in_err-watch-clause-refused
+returns-in_err-watch-clause-refused c =
     let found = accepted_look_up c.self.inside.files c.args.name.now _ _ _ c.get.ensures.found (sym c.ok_or.ensures.value ∙ c.in_ok-file.was) in
     let listed : c.as_slice.result.now ≡ c.in_ok-file.file.now.points = c.as_slice.ensures ∙ ap (λ (f : File). f.points) c.file.view_is in
     let points = watch_points c.self.inside.files c.args.name.now c.in_ok-file.file.now c.as_slice.result.now found listed in
-    let cause = watch-there (record { timelines = c.self.inside.timelines; files = c.self.inside.files; buffers = c.self.inside.buffers; watches = c.self.inside.watches }) c.args.name.now c.args.cookie c.in_ok-file.file.now found ∙ ap (λ reach. cause_to_refuse_watch c.self.inside.watches c.args.cookie (points_at c.self.inside.files c.args.name.now) reach) (sym c.as_reach-reach.ensures.value) ∙ ap (λ ps. cause_to_refuse_watch c.self.inside.watches c.args.cookie ps c.as_reach-reach.result.now) (sym points) in
+    let cause = watch-there (record { timelines = c.self.inside.timelines; files = c.self.inside.files; buffers = c.self.inside.buffers; watches = c.self.inside.watches }) c.args.name.now c.args.cookie c.in_ok-file.file.now found ∙ ap (λ reach. cause_to_refuse_watch c.self.inside.watches c.args.cookie (points_at c.self.inside.files c.args.name.now) reach) (sym c.self.invariant.watches) ∙ ap (λ ps. cause_to_refuse_watch c.self.inside.watches c.args.cookie ps c.self.inside.watches.reach) (sym points) in
     rw (← c.self.view_is)
-    (refused_as _ _ _ _ cause (refused_again _ _ (cause_to_refuse_watch c.self.inside.watches c.args.cookie c.as_slice.result.now c.as_reach-reach.result.now) _ c.in_err-register.ensures.refused) c.from_residual-in_err-register.ensures.1)
+    (refused_as _ _ _ _ cause (refused_again _ _ (cause_to_refuse_watch c.self.inside.watches c.args.cookie c.as_slice.result.now c.self.inside.watches.reach) _ c.in_err-watch.ensures.refused) c.from_residual-in_err-watch.ensures.1)
 
 pub returns-clause-refused : goal.returns-clause-refused
 returns-clause-refused c =
     let found = accepted_look_up c.self.inside.files c.args.name.now _ _ _ c.get.ensures.found (sym c.ok_or.ensures.value ∙ c.in_ok-file.was) in
     let listed : c.as_slice.result.now ≡ c.in_ok-file.file.now.points = c.as_slice.ensures ∙ ap (λ (f : File). f.points) c.file.view_is in
     let points = watch_points c.self.inside.files c.args.name.now c.in_ok-file.file.now c.as_slice.result.now found listed in
-    let cause = watch-there (record { timelines = c.self.inside.timelines; files = c.self.inside.files; buffers = c.self.inside.buffers; watches = c.self.inside.watches }) c.args.name.now c.args.cookie c.in_ok-file.file.now found ∙ ap (λ reach. cause_to_refuse_watch c.self.inside.watches c.args.cookie (points_at c.self.inside.files c.args.name.now) reach) (sym c.as_reach-reach.ensures.value) ∙ ap (λ ps. cause_to_refuse_watch c.self.inside.watches c.args.cookie ps c.as_reach-reach.result.now) (sym points) in
-    rw (← c.self.view_is) (accepted_as _ _ _ _ cause c.in_ok-register.ensures.refused)
+    let cause = watch-there (record { timelines = c.self.inside.timelines; files = c.self.inside.files; buffers = c.self.inside.buffers; watches = c.self.inside.watches }) c.args.name.now c.args.cookie c.in_ok-file.file.now found ∙ ap (λ reach. cause_to_refuse_watch c.self.inside.watches c.args.cookie (points_at c.self.inside.files c.args.name.now) reach) (sym c.self.invariant.watches) ∙ ap (λ ps. cause_to_refuse_watch c.self.inside.watches c.args.cookie ps c.self.inside.watches.reach) (sym points) in
+    rw (← c.self.view_is) (accepted_as _ _ _ _ cause c.in_ok-watch.ensures.refused)
 
 pub returns-clause-done : goal.returns-clause-done
 returns-clause-done c =
     let found = accepted_look_up c.self.inside.files c.args.name.now _ _ _ c.get.ensures.found (sym c.ok_or.ensures.value ∙ c.in_ok-file.was) in
     let listed : c.as_slice.result.now ≡ c.in_ok-file.file.now.points = c.as_slice.ensures ∙ ap (λ (f : File). f.points) c.file.view_is in
     let points = watch_points c.self.inside.files c.args.name.now c.in_ok-file.file.now c.as_slice.result.now found listed in
-    let done = IsDone-watch (record { timelines = c.self.inside.timelines; files = c.self.inside.files; buffers = c.self.inside.buffers; watches = c.self.inside.watches }) c.args.name.now c.args.cookie c.as_slice.result.now c.as_reach-reach.result.now c.register.new.self points c.in_ok-register.ensures.last in
+    let done = IsDone-watch (record { timelines = c.self.inside.timelines; files = c.self.inside.files; buffers = c.self.inside.buffers; watches = c.self.inside.watches }) c.args.name.now c.args.cookie c.as_slice.result.now c.self.inside.watches.reach c.watch.new.self points c.in_ok-watch.ensures.last in
     rw (← c.self.view_is) done
