@@ -1,9 +1,9 @@
 -- The reach of clocks.
-use Rattle.std.proofs.Common.{◌≡◌, ◌≢◌, ◌↔◌, ℕ, ◌+◌, ◌-◌, ◌<◌, ◌≤◌, suc, max, refl, sym, ap, ◌∙◌, Bool, true, false, ◌&&◌, ◌||◌, nat_le, if◌then◌else◌, List, [], ◌∷◌, ◌++◌, length, take, map, get_or, set, arith, get_or-set_same, get_or-set_other, inl, inr}
+use Rattle.std.proofs.Common.{◌≡◌, ◌≢◌, ◌↔◌, ℕ, ◌+◌, ◌-◌, ◌<◌, ◌≤◌, suc, max, refl, sym, ap, ◌∙◌, Bool, true, false, ◌&&◌, ◌||◌, nat_le, if◌then◌else◌, List, [], ◌∷◌, ◌++◌, append_assoc, append-nil, length, take, drop, map, get_or, set, arith, get_or-set_same, get_or-set_other, inl, inr}
 use Rattle.std.proofs.lemmas.Bool.{cases_lt, false≢true}
 use Rattle.std.proofs.Math.ListN.{get_or-map}
 use Rattle.std.proofs.Math.Seq.{take-suc}
-use Rattle.std.proofs.lemmas.List.{map-set}
+use Rattle.std.proofs.lemmas.List.{map-set, take-append-drop}
 use Rattle.point_core.specs.declared.clocks.Clock.{Clock}
 use Rattle.point_core.specs.declared.entry.Point.{Point}
 use Rattle.std.specs.List.{list_all, list_any}
@@ -120,6 +120,17 @@ common_status-take_more {next} clocks ps i p status low is before told =
     ∙ ap (λ q. common_status clocks (take i ps ++ q ∷ [])) is
     ∙ ap (common_status clocks) (sym (take-suc ps i p low))
     ∙ ap (λ n. common_status clocks (take n ps)) more
+
+-- more points stay active
+active-append : (clocks : List Clock) (ps more : List Point) → common_status clocks ps ≡ Active → common_status clocks (ps ++ more) ≡ Active
+active-append clocks ps [] is = ap (common_status clocks) (append-nil ps) ∙ is
+active-append clocks ps (p ∷ more) is =
+    let next : common_status clocks (ps ++ p ∷ []) ≡ Active = common_status-push clocks ps p ∙ ap (λ s. status_with s (status_at clocks p)) is in
+    ap (common_status clocks) (sym (append_assoc ps (p ∷ []) more)) ∙ active-append clocks (ps ++ p ∷ []) more next
+
+-- points are active once the first of them are
+pub common_status-active : (clocks : List Clock) (ps : List Point) (i : ℕ) → common_status clocks (take i ps) ≡ Active → common_status clocks ps ≡ Active
+common_status-active clocks ps i is = ap (common_status clocks) (sym (take-append-drop i ps)) ∙ active-append clocks (take i ps) (drop i ps) is
 
 -- points that are not active are signalled or in part cancelled
 pub status_of-not_active : {P : Type 0} (signalled cancelled : Bool) → ((signalled ≡ true) ↔ P) → ((status_of signalled cancelled ≢ Active) ↔ P)

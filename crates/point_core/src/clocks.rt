@@ -160,6 +160,9 @@ impl Clocks {
         let mut status = Status::Signalled;
         for point in points {
             status = status.with(self.status(*point));
+            if let Status::Active = status {
+                return Status::Active;
+            }
         }
         status
     }
