@@ -1,6 +1,6 @@
 //! `LatestPoints`: the latest point of each context. Exports and merges collect points in one, and list those above a
 //! reach.
-ghost use Rattle.std.specs.Prelude.{◌≡◌, ℕ, ◌<◌, ◌≤◌, List, [], ◌∷◌, ◌++◌, length, max, IfOk, IfErr, OnOk};
+ghost use Rattle.std.specs.Prelude.{◌≡◌, ℕ, ◌+◌, ◌<◌, ◌≤◌, List, [], ◌∷◌, ◌++◌, length, max, take, IfOk, IfErr, OnOk};
 ghost use Rattle.point_core.specs.declared.context.TheConstants.{CONTEXTS};
 ghost use Rattle.point_core.specs.declared.entry.Entry.{Entry};
 ghost use Rattle.point_core.specs.Agreement.{as_entries, HasContexts};
@@ -64,6 +64,14 @@ impl LatestPoints {
         self.values.get(ctx.index())
     }
 
+    /// The latest point of the context at an index, from 0.
+    fn at(&self, index: usize) -> u64
+        requires within { index < CONTEXTS }
+        ensures value { result ≡ value_at self.now (index + 1) }
+    {
+        self.values.get(index)
+    }
+
     /// The number of contexts up to the last that has a point or a value.
     pub fn used(&self) -> usize
         ensures last { result ≡ used_of self.now }
@@ -102,27 +110,55 @@ impl LatestPoints {
         ensures points { IfOk result (λ ps. ps.items ≡ points_above self.now reach.now) }
         ensures memory { IfErr result (λ e. e ≡ Refusal.Memory) }
     {
-        let mut points = Vec::with_capacity(alloc, self.number_above(reach))?;
-        self.list(reach, &mut points)?;
+        let number = self.number_above(reach);
+        let mut points = Vec::with_capacity(alloc, number)?;
+        self.list_most(reach, &mut points, number)?;
         Ok(points)
     }
 
-    /// Like `points`, but clears and reuses the list `points`; allocates only to grow it.
+    /// Like `points`, but reuses the list `points`; allocates only to grow it.
     pub fn list(&self, reach: &Reach, points: &mut Vec<Point>) -> Result<(), Refusal>
         ensures points { OnOk result (points.new.items ≡ points_above self.now reach.now) }
         ensures memory { IfErr result (λ e. e ≡ Refusal.Memory) }
     {
-        points.clear();
+        self.list_most(reach, points, self.used())
+    }
+
+    /// As `list`, of at most that many points. They are written to places of a slice: while each was pushed, the list's length
+    /// and address were stored and loaded for each, and a point took 20 instructions.
+    #[inline(always)]
+    fn list_most(&self, reach: &Reach, points: &mut Vec<Point>, most: usize) -> Result<(), Refusal>
+        requires most { length (points_above self.now reach.now) ≤ most }
+        ensures points { OnOk result (points.new.items ≡ points_above self.now reach.now) }
+        ensures memory { IfErr result (λ e. e ≡ Refusal.Memory) }
+    {
+        let unset = Point {
+            ctx: Context::at(0),
+            value: 0,
+        };
+        points.resize(most, unset)?;
+        let number = self.write_above(reach, points.as_mut_slice());
+        points.truncate(number);
+        Ok(())
+    }
+
+    /// Writes the latest points that are above the reach to the first of the places, and answers how many they are.
+    #[inline(always)]
+    fn write_above(&self, reach: &Reach, places: &mut [Point]) -> usize
+        requires room { length (points_above self.now reach.now) ≤ length places.old }
+        ensures points { take result places.new ≡ points_above self.now reach.now }
+    {
+        let mut number = 0;
         for index in 0..self.used() {
-            let ctx = Context::at(index);
-            let value = self.get(ctx);
-            if value > reach.get(ctx) {
-                points
-                    .push(Point { ctx, value })
-                    .map_err(|_| Refusal::Memory)?;
+            let value = self.at(index);
+            if value > reach.at(index) {
+                let place = &mut places[number];
+                place.ctx = Context::at(index);
+                place.value = value;
+                number += 1;
             }
         }
-        Ok(())
+        number
     }
 
     /// The number of contexts whose latest point is above the reach.
