@@ -7,7 +7,7 @@ use Rattle.point_core.specs.declared.refusal.Refusal.TheVariants.{NoEntry, Exist
 use Rattle.point_core.specs.declared.refusal.LimitKind.TheVariants.{Timelines}
 use Rattle.point_core.specs.Agreement.{as_entries, all_reached, top}
 use Rattle.point_core.specs.Latest.{raised_to}
-use Rattle.point_core.specs.Reach.{value_at}
+use Rattle.point_core.specs.Reach.{value_at, IsAtLeast}
 use Rattle.point_core.specs.declared.entry.Entry.{Entry}
 use Rattle.point_core.specs.declared.clocks.Clock.{Clock}
 use Rattle.point_core.specs.Clocks.{common_status}
@@ -46,9 +46,11 @@ HaveTimelines made fs = All (λ (f : File). AreMade made f.points) fs
 pub record HasNoneBehind (made : ℕ) (reach : List ℕ) (es : List Entry) : Type 0 where
   pub tops : (usage ctx : ℕ) → made < ctx → raised_to (value_at reach ctx) (top es usage ctx) ≡ value_at reach ctx
 
--- files and buffers of a desk have points of timelines that were made, and its watches know the timelines' values
+-- files and buffers of a desk have points of timelines that were made, the timelines have reached the files' floors, and the watches
+-- know the timelines' values
 pub record IsOfItsTimelines (d : DeskState) : Type 0 where
   pub files : HaveTimelines (length d.timelines) d.files
+  pub floors : All (λ (f : File). IsAtLeast (reach_of d.timelines) f.floor) d.files
   pub buffers : (name : List ℕ) → HasNoneBehind (length d.timelines) (reach_of d.timelines) (entries_of d.buffers name)
   pub watches : d.watches.reach ≡ reach_of d.timelines
 

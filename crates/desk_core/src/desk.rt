@@ -329,7 +329,7 @@ impl Desk {
         ensures unchanged { OnErr result (self.new ≡ self.old) }
     {
         let reach = self.timelines.as_reach();
-        self.files.merge(name, first, second, reach)?;
+        self.files.merge_reached(name, first, second, reach)?;
         Ok(())
     }
 

@@ -87,6 +87,7 @@ impl Floor {
     pub fn used(&self) -> usize
         ensures last { result ≡ used_of self.now }
         ensures past { (ctx : ℕ) → result < ctx → value_at self.now ctx ≡ 0 }
+        ensures full { length self.now ≡ CONTEXTS }
     {
         self.values.len()
     }

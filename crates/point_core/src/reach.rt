@@ -111,6 +111,7 @@ impl Reach {
         ensures last { result ≡ used_of self.now }
         ensures within { result ≤ CONTEXTS }
         ensures past { (ctx : ℕ) → result < ctx → value_at self.now ctx ≡ 0 }
+        ensures full { length self.now ≡ CONTEXTS }
     {
         self.values.used()
     }

@@ -8,12 +8,13 @@ use Rattle.point_core.specs.declared.entry.Point.{Point}
 use Rattle.point_core.specs.declared.entry.Entry.{Entry}
 use Rattle.point_core.specs.Agreement.{as_entries, listing, merged, HasContexts}
 use Rattle.point_core.specs.Latest.{IsLatest, points_above}
-use Rattle.point_core.specs.Reach.{later_values}
+use Rattle.point_core.specs.Reach.{later_values, IsAtLeast}
 use Rattle.point_core.proofs.Agreement.{as_entries-append, HasContexts-append}
 use Rattle.point_core.proofs.Latest.{IsLatest-empty}
 use Rattle.point_core.proofs.Listings.{points_above-IsLatest}
+use Rattle.point_core.proofs.Values.{later_values-at_least}
 use Rattle.syncfile_core.specs.SyncFile.{File, file_of}
-use Rattle.syncfile_core.specs.Merge.{points_of, merged_file, IsGathered, StandsForUnion}
+use Rattle.syncfile_core.specs.Merge.{points_of, floor_of, merged_file, IsGathered, StandsForUnion}
 use Rattle.syncfile_core.proofs.Unions.{has_floor, length-floor_of, StandsForUnion-merged_file}
 
 points_of-last : (inputs : List File) (f : File) → points_of (inputs ++ f ∷ []) ≡ points_of inputs ++ f.points
@@ -41,6 +42,12 @@ pub merged-is : {table least : List ℕ} {points : List Point} (name : List ℕ)
 merged-is {table} {least} {points} name inputs reach gathered is =
     ap (λ ps. file_of name ps least) (is ∙ points_above-IsLatest gathered.latest)
     ∙ ap (file_of name (listing (as_entries (points_of inputs)) 0 reach)) gathered.floor
+
+-- a reach that has both floors is the floor of the merge
+pub floor_of-reached : (f g : File) (reach : List ℕ) → length f.floor ≡ length reach → length g.floor ≡ length reach → IsAtLeast reach f.floor × IsAtLeast reach g.floor → floor_of reach (f ∷ g ∷ []) ≡ reach
+floor_of-reached f g reach first second both =
+    ap (λ floor. later_values floor g.floor) (later_values-at_least reach f.floor (sym first) both.0)
+    ∙ later_values-at_least reach g.floor (sym second) both.1
 
 -- two inputs
 entries-two : (f g : File) → as_entries (points_of (f ∷ g ∷ [])) ≡ as_entries f.points ++ as_entries g.points

@@ -1,13 +1,14 @@
 //! `Files`: the open sync files by name. Each has at most one point of each context, and none of them changes once it
 //! is made.
-ghost use Rattle.std.specs.Prelude.{◌≡◌, ◌++◌, [], ◌∷◌, length, OnOk, OnErr, IfOk, IfErr, IsOk, None, option_copied, MatchOption, MatchBool, MatchResult, IfSome, Some, Ok, Err};
+ghost use Rattle.std.specs.Prelude.{◌≡◌, ◌++◌, [], ◌∷◌, length, All, OnOk, OnErr, IfOk, IfErr, IsOk, None, option_copied, MatchOption, MatchBool, MatchResult, IfSome, Some, Ok, Err};
 ghost use Rattle.point_core.specs.declared.refusal.Refusal.TheVariants.{Memory, NoEntry};
 ghost use Rattle.syncfile_core.specs.declared.files.TheConstants.{FILES};
-ghost use Rattle.syncfile_core.specs.SyncFile.{file_of, plain_file};
+ghost use Rattle.syncfile_core.specs.SyncFile.{File, file_of, plain_file};
 ghost use Rattle.syncfile_core.specs.Drafts.{pending_of};
-ghost use Rattle.syncfile_core.specs.Merge.{files_at, merge_of, cause_to_refuse_merge, StandsForUnion};
+ghost use Rattle.syncfile_core.specs.Merge.{files_at, floor_of, merge_of, cause_to_refuse_merge, StandsForUnion};
 ghost use Rattle.point_core.specs.Agreement.{as_entry, HasRisingContexts};
 ghost use Rattle.point_core.specs.Clocks.{common_status};
+ghost use Rattle.point_core.specs.Reach.{IsAtLeast};
 ghost use Rattle.syncfile_core.specs.Status.{info_of, ReportsSetsOf};
 ghost use Rattle.point_core.specs.Refusal.{IsRefusedFor};
 ghost use Rattle.syncfile_core.specs.Files.{has_file, without_file, names_of, HasDistinctNames, HasStanding, cause_to_refuse};
@@ -141,12 +142,34 @@ impl Files {
     /// maximum of the reach and of both floors. Linux's `sync_file_merge` drops and keeps the same points.
     ///
     /// Fails with `NoEntry` if an input is not open, then as `free` does, then with `Memory`; nothing is made then.
+    ///
+    /// For users of the library; no program here calls it.
     pub fn merge(&mut self, name: Name, a: &Name, b: &Name, reach: &Reach) -> Result<(), Refusal>
         ensures refused { IsRefusedFor (cause_to_refuse_merge self.old name (a.now ∷ b.now ∷ [])) result }
         ensures last { OnOk result (self.new ≡ self.old ++ merge_of self.old name (a.now ∷ b.now ∷ []) reach.now ∷ []) }
         ensures union { OnOk result
             (StandsForUnion (files_at self.old (a.now ∷ b.now ∷ []))
             (merge_of self.old name (a.now ∷ b.now ∷ []) reach.now)) }
+        ensures unchanged { OnErr result (self.new ≡ self.old) }
+    {
+        self.merge_many(name, &[*a, *b], reach)
+    }
+
+    /// As `merge`, of files whose floors the reach has: then it is the floor of the merge, and no floor is looked at.
+    pub fn merge_reached(
+        &mut self,
+        name: Name,
+        a: &Name,
+        b: &Name,
+        reach: &Reach,
+    ) -> Result<(), Refusal>
+        requires floors { All (λ (f : File). IsAtLeast reach.now f.floor) self.old }
+        ensures refused { IsRefusedFor (cause_to_refuse_merge self.old name (a.now ∷ b.now ∷ [])) result }
+        ensures last { OnOk result (self.new ≡ self.old ++ merge_of self.old name (a.now ∷ b.now ∷ []) reach.now ∷ []) }
+        ensures union { OnOk result
+            (StandsForUnion (files_at self.old (a.now ∷ b.now ∷ []))
+            (merge_of self.old name (a.now ∷ b.now ∷ []) reach.now)) }
+        ensures floor { OnOk result (floor_of reach.now (files_at self.old (a.now ∷ b.now ∷ [])) ≡ reach.now) }
         ensures unchanged { OnErr result (self.new ≡ self.old) }
     {
         let left = self.made.known(a)?;

@@ -4,6 +4,7 @@ ghost use Rattle.point_core.specs.declared.entry.Entry.{Entry};
 ghost use Rattle.point_core.specs.declared.refusal.Refusal.TheVariants.{Memory};
 ghost use Rattle.point_core.specs.Agreement.{HasRisingContexts};
 ghost use Rattle.point_core.specs.Latest.{IsLatest};
+ghost use Rattle.point_core.specs.Reach.{IsAtLeast};
 ghost use Rattle.syncfile_core.specs.SyncFile.{File};
 ghost use Rattle.syncfile_core.specs.Drafts.{drafted};
 ghost use Rattle.syncfile_core.specs.Merge.{IsGathered, IsGatheredAbove, StandsForUnion, merged_file, floor_of};
@@ -13,18 +14,20 @@ use crate::sync_file::SyncFile;
 use point_core::{Floor, LatestPoints, Reach, Refusal};
 
 impl Draft {
-    /// Draws the merge of two files, in one pass over their points.
+    /// Draws the merge of two files whose floors the reach has, in one pass over their points.
     pub(crate) fn draw_merge(
         &mut self,
         left: &SyncFile,
         right: &SyncFile,
         reach: &Reach,
     ) -> Result<(), Refusal>
+        requires floors { IsAtLeast reach.now left.now.floor × IsAtLeast reach.now right.now.floor }
         ensures file { OnOk result ((name : List ℕ) →
             drafted name self.new ≡ merged_file name (left.now ∷ right.now ∷ []) reach.now) }
         ensures rising { OnOk result (HasRisingContexts self.new.points.items) }
         ensures union { OnOk result ((name : List ℕ) → StandsForUnion (left.now ∷ right.now ∷ [])
             (merged_file name (left.now ∷ right.now ∷ []) reach.now)) }
+        ensures floor { OnOk result (floor_of reach.now (left.now ∷ right.now ∷ []) ≡ reach.now) }
         ensures memory { IfErr result (λ e. e ≡ Memory) }
     {
         let (ps, qs) = (left.points.as_slice(), right.points.as_slice());
@@ -33,24 +36,23 @@ impl Draft {
     }
 }
 
-/// The maximum, for each context, of the reach and both files' floors: the reach, if no floor is above it.
+/// The maximum, for each context, of the reach and both files' floors, which is the reach.
 fn draw_floor(
     floor: &mut Floor,
     left: &SyncFile,
     right: &SyncFile,
     reach: &Reach,
 ) -> Result<(), Refusal>
+    requires floors { IsAtLeast reach.now left.now.floor × IsAtLeast reach.now right.now.floor }
     ensures floor { OnOk result (floor.new ≡ floor_of reach.now (left.now ∷ right.now ∷ [])) }
     ensures floors { (length left.now.floor ≡ length reach.now) × (length right.now.floor ≡ length reach.now) }
     ensures memory { IfErr result (λ e. e ≡ Memory) }
 {
-    if reach.at_least_floor(&left.floor) && reach.at_least_floor(&right.floor) {
-        return floor.copy_from(reach);
-    }
-    let mut greatest = *reach;
-    greatest.join_floor(&left.floor);
-    greatest.join_floor(&right.floor);
-    floor.copy_from(&greatest)
+    // for the proof: floors and reach have a value of each context
+    let _left = left.floor.used();
+    let _right = right.floor.used();
+    let _reach = reach.used();
+    floor.copy_from(reach)
 }
 
 /// For each context, the latest point of a reach and the inputs so far, and the maximum of their floors.

@@ -1,4 +1,4 @@
-//! Calls of `syncfile_core`: merges of many files, and a file from a listing.
+//! Calls of `syncfile_core`: merges of many files and of two, and a file from a listing.
 ghost use Rattle.std.specs.Prelude.{IfOk};
 ghost use Rattle.point_core.specs.Agreement.{HasRisingContexts};
 
@@ -19,6 +19,7 @@ pub(crate) fn make_calls(rt: &HostRuntime, calls: &mut Calls) {
 fn create_and_merge(rt: &HostRuntime, calls: &mut Calls, files: &mut Files) -> Result<(), Refusal> {
     let (f, g, h) = (name(b'f')?, name(b'g')?, name(b'h')?);
     let (m, n, p) = (name(b'm')?, name(b'n')?, name(b'p')?);
+    let q = name(b'q')?;
     create(rt, calls, files, f, point(0, 5));
     create(rt, calls, files, g, point(1, 2));
     create(rt, calls, files, h, point(0, 7));
@@ -27,7 +28,8 @@ fn create_and_merge(rt: &HostRuntime, calls: &mut Calls, files: &mut Files) -> R
     merge_many(rt, calls, files, n, &[f, g, h]);
     merge_many(rt, calls, files, p, &[f, p]);
     merge_many(rt, calls, files, m, &[f]);
-    for file in [f, g, h, m, n, p] {
+    merge(rt, calls, files, q, &f, &g);
+    for file in [f, g, h, m, n, p, q] {
         show_points(rt, calls, files, &file);
     }
     info(rt, calls, files, &m);
@@ -49,6 +51,15 @@ fn merge_many(rt: &HostRuntime, calls: &mut Calls, files: &mut Files, made: Name
         Err(refusal) => Err(refusal),
     };
     calls.tell(rt, "merge_many", &merged);
+}
+
+/// As `merge_many`, of two files.
+fn merge(rt: &HostRuntime, calls: &mut Calls, files: &mut Files, made: Name, a: &Name, b: &Name) {
+    let merged = match calls.allow() {
+        Ok(()) => files.merge(made, a, b, &Reach::zero()),
+        Err(refusal) => Err(refusal),
+    };
+    calls.tell(rt, "merge", &merged);
 }
 
 fn show_points(rt: &HostRuntime, calls: &mut Calls, files: &Files, file: &Name) {

@@ -23,7 +23,7 @@ invariant_of-self-2 c =
     let reach = c.as_reach-reach.result.now in
     let usage = usage_number (export_usage c.args.flags) in
     let listed = pending_of-listing c.in_ok-latest.latest (entries_of c.self.inside.buffers c.args.buffer.now) usage reach c.in_ok-latest.ensures.none c.in_ok-latest.ensures.some in
-    inside-export c.adopt_latest.new.self c.args.name c.args.buffer.now usage reach (pending_of (option_copied c.in_ok-latest.latest) reach) reach c.in_ok-adopt_latest.ensures.last listed c.as_reach-reach.ensures.value c.self.invariant
+    inside-export c.adopt_latest.new.self c.args.name c.args.buffer.now usage reach (pending_of (option_copied c.in_ok-latest.latest) reach) c.in_ok-adopt_latest.ensures.last listed c.as_reach-reach.ensures.value c.self.invariant
 
 pub returns-in_err-adopt_latest-clause-refused : goal.returns-in_err-adopt_latest-clause-refused
 returns-in_err-adopt_latest-clause-refused c =

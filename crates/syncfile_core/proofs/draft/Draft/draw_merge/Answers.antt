@@ -3,7 +3,7 @@ use Rattle.point_core.specs.Agreement.{as_entries, HasRisingContexts}
 use Rattle.point_core.proofs.Agreement.{listing-rising}
 use Rattle.syncfile_core.specs.SyncFile.{File}
 use Rattle.syncfile_core.proofs.Causes.{OnOk-always}
-use Rattle.syncfile_core.proofs.Merging.{StandsForUnion-two}
+use Rattle.syncfile_core.proofs.Merging.{StandsForUnion-two, floor_of-reached}
 use Rattle.syncfile_core.proofs.draft.Draft.draw_merge.Goals as goal
 
 pub returns-clause-rising : goal.returns-clause-rising
@@ -17,3 +17,7 @@ returns-clause-union c =
     let qs : c.as_slice-qs.result.now ≡ c.args.right.now.points = c.as_slice-qs.ensures ∙ ap (λ (f : File). f.points) c.right.view_is in
     let within = rw (ps, qs) at c.in_ok-merge_into.ensures.contexts in
     OnOk-always c.draw_floor.result _ (λ name. StandsForUnion-two name c.args.left.now c.args.right.now c.args.reach.now within c.draw_floor.ensures.floors.0 c.draw_floor.ensures.floors.1)
+
+pub returns-clause-floor : goal.returns-clause-floor
+returns-clause-floor c =
+    OnOk-always c.draw_floor.result _ (floor_of-reached c.args.left.now c.args.right.now c.args.reach.now c.draw_floor.ensures.floors.0 c.draw_floor.ensures.floors.1 c.requires.floors)

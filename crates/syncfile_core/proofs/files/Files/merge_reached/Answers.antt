@@ -2,13 +2,14 @@ use Rattle.std.proofs.Common.{◌≡◌, [], ◌∷◌, ◌++◌, sym, subst, ap
 use Rattle.std.specs.List.{cons_option}
 use Rattle.point_core.specs.declared.refusal.Refusal.TheVariants.{NoEntry}
 use Rattle.point_core.specs.Refusal.{IsRefusedFor}
-use Rattle.point_core.proofs.Named.{has_named-Some, has_named-None}
+use Rattle.point_core.specs.Reach.{IsAtLeast}
+use Rattle.point_core.proofs.Named.{has_named-Some, has_named-None, named-All}
 use Rattle.syncfile_core.specs.Files.{cause_to_refuse}
-use Rattle.syncfile_core.specs.SyncFile.{file_name, file_at}
-use Rattle.syncfile_core.specs.Merge.{files_at, merged_file, StandsForUnion}
+use Rattle.syncfile_core.specs.SyncFile.{File, file_name, file_at}
+use Rattle.syncfile_core.specs.Merge.{files_at, floor_of, merged_file, StandsForUnion}
 use Rattle.syncfile_core.proofs.Causes.{IsRefusedFor-Err, cause_to_refuse_merge-first_absent, cause_to_refuse_merge-second_absent, cause_to_refuse_merge-both}
 use Rattle.syncfile_core.proofs.Standing.{OnOk-drawn}
-use Rattle.syncfile_core.proofs.files.Files.merge.Goals as goal
+use Rattle.syncfile_core.proofs.files.Files.merge_reached.Goals as goal
 
 pub returns-in_err-left-clause-refused : goal.returns-in_err-left-clause-refused
 returns-in_err-left-clause-refused c =
@@ -53,3 +54,24 @@ returns-clause-union c =
     OnOk-drawn c.make.result c.draw_merge-drawn.result _ _ _
     (λ union last. subst (λ fs. StandsForUnion fs (merged_file c.args.name fs c.args.reach.now)) (sym files) (union c.args.name))
     c.make.ensures.drawn c.draw_merge-drawn.ensures.union c.make.ensures.last
+
+pub draw_merge-drawn-requires : goal.draw_merge-drawn-requires
+draw_merge-drawn-requires c =
+    let one = ap (λ fs. file_at fs c.args.a.now) (sym c.self.view_is) ∙ c.in_ok-left.ensures.found in
+    let other = ap (λ fs. file_at fs c.args.b.now) (sym c.self.view_is) ∙ c.in_ok-right.ensures.found in
+    record {
+      floors =
+          let P : File → Type 0 = λ f. IsAtLeast c.args.reach.now f.floor in
+          (named-All file_name P c.args.self.now c.args.a.now c.in_ok-left.left.now c.requires.floors one, named-All file_name P c.args.self.now c.args.b.now c.in_ok-right.right.now c.requires.floors other);
+    }
+
+pub returns-clause-floor : goal.returns-clause-floor
+returns-clause-floor c =
+    let one = ap (λ fs. file_at fs c.args.a.now) (sym c.self.view_is) ∙ c.in_ok-left.ensures.found in
+    let other = ap (λ fs. file_at fs c.args.b.now) (sym c.self.view_is) ∙ c.in_ok-right.ensures.found in
+    let files : files_at c.args.self.now (c.args.a.now ∷ c.args.b.now ∷ []) ≡ c.in_ok-left.left.now ∷ c.in_ok-right.right.now ∷ [] =
+    ap (λ found. cons_option found (cons_option (file_at c.args.self.now c.args.b.now) [])) one
+    ∙ ap (λ found. c.in_ok-left.left.now ∷ cons_option found []) other in
+    OnOk-drawn c.make.result c.draw_merge-drawn.result _ _ _
+    (λ floor last. subst (λ fs. floor_of c.args.reach.now fs ≡ c.args.reach.now) (sym files) floor)
+    c.make.ensures.drawn c.draw_merge-drawn.ensures.floor c.make.ensures.last
