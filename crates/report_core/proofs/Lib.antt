@@ -5,3 +5,4 @@ pub mod PassedOn
 pub mod Placed
 pub mod Statuses
 pub mod Widths
+pub mod Written

@@ -7,20 +7,17 @@ ghost use Rattle.command_core.specs.Tables.{row_count};
 ghost use Rattle.report_core.specs.Status.{status_text};
 ghost use Rattle.report_core.specs.Tables.{timeline_text};
 ghost use Rattle.report_core.specs.Answer.{line_text, fired_text, raised_text, fence_text, info_line, info_text, show_text};
-ghost use Rattle.report_core.specs.Answer.{report_text, refusal_text, details, value_line, driver_of, text_of};
+ghost use Rattle.report_core.specs.Answer.{report_text, refusal_text, details, value_line, text_of};
 ghost use Rattle.report_core.specs.LineEnd.{line_end};
-ghost use Rattle.report_core.specs.declared.answer.TheConstants.{DRIVER_BYTES};
 
+use crate::fence_line::push_fence;
 use crate::line::{TEXT_LINE_BYTES, TextLine};
 use crate::number_line::push_numbered;
 use crate::report::{report_text, show_text, timelines_text};
 use crate::rows::{NUMBER_WIDTH, STATUS_BYTES, status_text};
-use command_core::{Answer, FenceRow, Info, Maker, Report, ShowRow};
+use command_core::{Answer, Info, Report, ShowRow};
 use itoa::Buffer;
 use point_core::{Refusal, Status};
-
-/// The most bytes of a driver's name, `sw_sync`.
-const DRIVER_BYTES: usize = 7;
 
 /// The bytes of the answer `ok`, with its line feed.
 const DONE_BYTES: usize = 3;
@@ -180,20 +177,6 @@ fn push_info_line(info: &Info, out: &mut Vec<u8>) -> Result<(), Refusal>
     line.push_to(out)
 }
 
-#[inline(always)]
-fn push_fence(fence: &FenceRow, out: &mut Vec<u8>) -> Result<(), Refusal>
-    ensures ok { OnOk result (out.new.items ≡ out.old.items ++ fence_text fence.now) }
-    ensures err { OnErr result ((result ≡ Err Memory) × StartsWith out.new.items out.old.items) }
-{
-    let mut line = TextLine::new();
-    put_status(&mut line, fence.status);
-    put_number(&mut line, fence.point);
-    put_driver(&mut line, fence.driver);
-    put_word(&mut line, fence.timeline.as_bytes());
-    line.put_text(b"fence");
-    line.push_to(out)
-}
-
 /// Puts a space and the status before the line. Each arm copies a text whose length the compiler knows.
 #[inline(always)]
 fn put_status(line: &mut TextLine, status: Status)
@@ -205,19 +188,6 @@ fn put_status(line: &mut TextLine, status: Status)
         Status::Active => put_word(line, status_text(Status::Active)),
         Status::Signalled => put_word(line, status_text(Status::Signalled)),
         Status::Cancelled => put_word(line, status_text(Status::Cancelled)),
-    }
-}
-
-/// Puts a space and the driver's name before the line.
-#[inline(always)]
-fn put_driver(line: &mut TextLine, driver: Maker)
-    requires { length line.old + 1 + DRIVER_BYTES ≤ TEXT_LINE_BYTES }
-    ensures text { line.new ≡ 32 ∷ driver_of driver ++ line.old }
-    ensures len { length line.new ≤ length line.old + 1 + DRIVER_BYTES }
-{
-    match driver {
-        Maker::SwSync => put_word(line, b"sw_sync"),
-        Maker::Stub => put_word(line, b"stub"),
     }
 }
 

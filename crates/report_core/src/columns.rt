@@ -124,7 +124,7 @@ fn numbered_column(letter: u8, number: u64) -> [u8; SUBJECT_WIDTH]
 
 /// Puts the text at a place of the row.
 #[inline(always)]
-fn put_at(row: &mut [u8], place: usize, text: &[u8])
+pub(crate) fn put_at(row: &mut [u8], place: usize, text: &[u8])
     requires { place + length text.now ≤ length row.old }
     ensures { row.new ≡ take place row.old ++ text.now ++ drop (place + length text.now) row.old }
 {

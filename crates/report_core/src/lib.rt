@@ -6,6 +6,7 @@
 
 mod answer;
 mod columns;
+mod fence_line;
 mod line;
 mod number_line;
 mod passing;

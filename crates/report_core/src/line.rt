@@ -19,9 +19,6 @@ const _: () = prove!(TEXT_LINE_BYTES == 92);
 /// Lines up to this length are appended with one fixed-size copy.
 const SHORT_BYTES: usize = 32;
 
-/// Longer lines, up to this length, are appended with one copy of this many bytes.
-const MIDDLE_BYTES: usize = 2 * SHORT_BYTES;
-
 /// The bytes of the array: behind the line there is room for the rest of a copy.
 const ARRAY_BYTES: usize = TEXT_LINE_BYTES + SHORT_BYTES;
 
@@ -122,8 +119,6 @@ impl TextLine {
         let length = self.len();
         if length <= SHORT_BYTES {
             push_first(&self.bytes[start..start + SHORT_BYTES], length, out)
-        } else if length <= MIDDLE_BYTES {
-            push_first(&self.bytes[start..start + MIDDLE_BYTES], length, out)
         } else {
             push_first(self.as_bytes(), length, out)
         }
