@@ -30,6 +30,7 @@ impl Drawing {
         window: &Window,
         reasons: &mut X,
     ) -> Result<Drawing, Refusal>
+        ensures memory { IfErr result (λ e. e ≡ Memory) }
         ensures shown { IfOk result (λ drawing. ShowsScript window.now (script_of script.now) drawing.run.history drawing.picture) }
         ensures refused { IfOk result (λ drawing. HasRefused window.now (script_of script.now) (drawing_refused drawing)) }
     {

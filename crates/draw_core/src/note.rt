@@ -18,7 +18,8 @@ pub trait Explain {
     /// Sees a command that `desk` has just accepted, of line `line`.
     ///
     /// Fails only with `Memory`.
-    fn accept(&mut self, line: u32, command: &Command, desk: &Desk) -> Result<(), Refusal>;
+    fn accept(&mut self, line: u32, command: &Command, desk: &Desk) -> Result<(), Refusal>
+        ensures memory { IfErr result (λ e. e ≡ Memory) };
 
     /// Appends to `note` why a line was refused, which `desk` has just done.
     ///
@@ -28,7 +29,8 @@ pub trait Explain {
         desk: &Desk,
         refused: &RefusedLine<'_>,
         note: &mut Vec<u8>,
-    ) -> Result<(), Refusal>;
+    ) -> Result<(), Refusal>
+        ensures memory { IfErr result (λ e. e ≡ Memory) };
 }
 
 /// A line that the desk has refused: its bytes, the command that they say or why they say none, and the error.

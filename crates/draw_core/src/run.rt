@@ -64,6 +64,7 @@ impl Run {
         window: &Window,
         reasons: &mut X,
     ) -> Result<Run, Refusal>
+        ensures memory { IfErr result (λ e. e ≡ Memory) }
         ensures columns { IfOk result (λ run.
             lines_drawn run.history.columns.items ≡ drawn_lines window.now (script_of script.now)) }
         ensures shown { IfOk result (λ run. ShowsRun window.now (script_of script.now)
@@ -116,6 +117,7 @@ impl Run {
     }
 
     fn new(alloc: Global, window: &Window) -> Result<Run, Refusal>
+        ensures memory { IfErr result (λ e. e ≡ Memory) }
         ensures drawn { IfOk result (λ run.
             HasDrawn window.now [] run.desk run.history.columns.items run.history.bars.items run.history.refused) }
         ensures window { IfOk result (λ run. run.window ≡ window.now) }
@@ -138,6 +140,7 @@ impl Run {
         requires rising { AreRising 1 lines.now }
         requires none { HasDrawn self.old.window [] self.old.desk self.old.history.columns.items self.old.history.bars.items
             self.old.history.refused }
+        ensures memory { IfErr result (λ e. e ≡ Memory) }
         ensures drawn { OnOk result (HasDrawn self.old.window lines.now
             self.new.desk self.new.history.columns.items self.new.history.bars.items self.new.history.refused) }
         ensures waits { self.new.history.waits ≡ self.old.history.waits }
@@ -159,6 +162,7 @@ impl Run {
         body: &Body,
         reasons: &mut X,
     ) -> Result<(), Refusal>
+        ensures memory { IfErr result (λ e. e ≡ Memory) }
         ensures drawn { OnOk result ((done : List LineModel) → All (λ (l : LineModel). l.number < line.now.number) done →
             HasDrawn self.old.window done self.old.desk self.old.history.columns.items self.old.history.bars.items
             self.old.history.refused →
@@ -186,6 +190,7 @@ impl Run {
     ) -> Result<(), Refusal>
         requires before { line < self.old.window.first }
         requires within { line ≤ self.old.window.last }
+        ensures memory { IfErr result (λ e. e ≡ Memory) }
         ensures drawn { OnOk result ((done : List LineModel) → All (λ (l : LineModel). l.number < line) done →
             HasDrawn self.old.window done self.old.desk self.old.history.columns.items self.old.history.bars.items
             self.old.history.refused →
@@ -221,6 +226,7 @@ impl Run {
         answer: &Answer,
         reasons: &mut X,
     ) -> Result<(), Refusal>
+        ensures memory { IfErr result (λ e. e ≡ Memory) }
         ensures columns { OnOk result (lines_drawn self.new.history.columns.items
             ≡ lines_drawn self.old.history.columns.items ++ line.now.number ∷ []) }
         ensures marks { OnOk result (marks_of self.new.history.columns.items
@@ -255,6 +261,7 @@ impl Run {
         answer: &Answer,
         reasons: &mut X,
     ) -> Result<(), Refusal>
+        ensures memory { IfErr result (λ e. e ≡ Memory) }
         ensures columns { self.new.history.columns ≡ self.old.history.columns }
         ensures bars { OnOk result (self.new.history.bars.items
             ≡ bars_after_line column body.now answer.now self.old.history.bars.items) }
@@ -286,7 +293,9 @@ impl Run {
         body: &Body,
         answer: &Answer,
         reasons: &X,
-    ) -> Result<Vec<u8>, Refusal> {
+    ) -> Result<Vec<u8>, Refusal>
+        ensures memory { IfErr result (λ e. e ≡ Memory) }
+    {
         let mut note = Vec::new(self.alloc);
         push_answer(line, answer, &mut note)?;
         if let Answer::Refused(refusal) = answer {
@@ -303,6 +312,7 @@ impl Run {
     /// Enters the points for which the pending files wait.
     fn finish(&mut self) -> Result<(), Refusal>
         requires none { self.old.history.waits.items ≡ [] }
+        ensures memory { IfErr result (λ e. e ≡ Memory) }
         ensures asked { OnOk result (AreAskedFirst self.old.history.columns.items self.old.desk
             self.old.history.bars.items self.new.history.bars.items) }
         ensures waits { OnOk result (All (IsWaitBy self.old.desk self.new.history.bars.items) self.new.history.waits.items) }
@@ -317,6 +327,7 @@ impl Run {
     }
 
     fn wait_for_all(&mut self) -> Result<(), Refusal>
+        ensures memory { IfErr result (λ e. e ≡ Memory) }
         ensures waits { OnOk result (All (IsWaitBy self.old.desk self.old.history.bars.items) self.old.history.waits.items →
             All (IsWaitBy self.old.desk self.old.history.bars.items) self.new.history.waits.items) }
         ensures told { OnOk result (self.new.history.waits.items ≡ self.old.history.waits.items
@@ -333,6 +344,7 @@ impl Run {
     }
 
     fn wait_for(&mut self, place: usize) -> Result<(), Refusal>
+        ensures memory { IfErr result (λ e. e ≡ Memory) }
         ensures waits { OnOk result (All (IsWaitBy self.old.desk self.old.history.bars.items) self.old.history.waits.items →
             All (IsWaitBy self.old.desk self.old.history.bars.items) self.new.history.waits.items) }
         ensures told { OnOk result (self.new.history.waits.items
@@ -404,6 +416,7 @@ fn push_waits(
     points: &[Point],
     history: &mut History,
 ) -> Result<(), Refusal>
+    ensures memory { IfErr result (λ e. e ≡ Memory) }
     ensures waits { OnOk result (AddsWaits desk.now bar points.now history.old.waits.items history.new.waits.items) }
     ensures told { OnOk result (history.new.waits.items
         ≡ history.old.waits.items ++ waits_for desk.now.timelines bar points.now) }
