@@ -4,6 +4,7 @@ ghost use Rattle.explore_report.specs.Cases.{by_place, case_at, cases_of, client
 ghost use Rattle.explore_core.specs.Alike.{answers_along};
 ghost use Rattle.explore_report.specs.Making.{HasMade, case_commands, case_standing, section_at};
 ghost use Rattle.desk_core.specs.theorem.World.{empty_world};
+ghost use Rattle.report_core.specs.Answer.{text_of};
 
 use crate::context::Section;
 use crate::expected::{Finding, finding_of};
@@ -12,7 +13,6 @@ use crate::row::push_commands;
 use crate::schedule::Making;
 use command_core::Answer;
 use explore_core::{Found, Given};
-use point_core::Refusal;
 use report_core::print;
 use std::alloc::{AllocError, Global};
 
@@ -48,7 +48,7 @@ pub(crate) fn cases_of(
     plan: &PlanScript<'_>,
     found: &Found,
     making: &mut Making,
-) -> Result<Vec<Case>, Refusal>
+) -> Result<Vec<Case>, AllocError>
     ensures cases { IfOk result (λ cases. map judged_of cases.items ≡ cases_of plan.now found.now) }
 {
     // The commands of the first section, whose answers no schedule changes.
@@ -64,7 +64,7 @@ fn push_cases(
     first: &[Answer],
     found: &Found,
     cases: &mut Vec<Case>,
-) -> Result<(), Refusal>
+) -> Result<(), AllocError>
     requires first { first.now ≡ answers_along empty_world plan.now.plan.first }
     ensures pushed { OnOk result (map judged_of cases.new.items ≡ map judged_of cases.old.items ++ cases_of plan.now found.now) }
 {
@@ -82,7 +82,7 @@ fn push_first(
     plan: &PlanScript<'_>,
     answers: &[Answer],
     cases: &mut Vec<Case>,
-) -> Result<(), Refusal>
+) -> Result<(), AllocError>
     ensures pushed { OnOk result (map judged_of cases.new.items ≡ map judged_of cases.old.items ++ first_cases plan.now answers.now) }
 {
     let mut rows = Vec::new(alloc);
@@ -98,7 +98,7 @@ fn push_answers(
     rows: &[usize],
     answers: &[Answer],
     cases: &mut Vec<Case>,
-) -> Result<(), Refusal>
+) -> Result<(), AllocError>
     ensures pushed { OnOk result (map judged_of cases.new.items
         ≡ map judged_of cases.old.items ++ by_place (first_case plan.now rows.now) 0 answers.now) }
 {
@@ -115,7 +115,7 @@ fn push_answer(
     place: usize,
     answer: &Answer,
     cases: &mut Vec<Case>,
-) -> Result<(), Refusal>
+) -> Result<(), AllocError>
     ensures pushed { OnOk result (map judged_of cases.new.items
         ≡ map judged_of cases.old.items ++ first_case plan.now rows.now place answer.now) }
 {
@@ -138,7 +138,7 @@ fn push_clients(
     given: &[Given],
     clients: usize,
     cases: &mut Vec<Case>,
-) -> Result<(), Refusal>
+) -> Result<(), AllocError>
     ensures pushed { OnOk result (map judged_of cases.new.items
         ≡ map judged_of cases.old.items ++ client_cases plan.now given.now clients) }
 {
@@ -157,7 +157,7 @@ fn push_section(
     client: usize,
     section: Section,
     cases: &mut Vec<Case>,
-) -> Result<(), Refusal>
+) -> Result<(), AllocError>
     ensures pushed { OnOk result (map judged_of cases.new.items
         ≡ map judged_of cases.old.items ++ section_cases plan.now given.now client section) }
 {
@@ -175,7 +175,7 @@ fn push_lines(
     client: usize,
     rows: &[usize],
     cases: &mut Vec<Case>,
-) -> Result<(), Refusal>
+) -> Result<(), AllocError>
     ensures pushed { OnOk result (map judged_of cases.new.items
         ≡ map judged_of cases.old.items ++ by_place (line_cases plan.now given.now client) 0 rows.now) }
 {
@@ -194,7 +194,7 @@ fn push_given(
     place: usize,
     index: usize,
     cases: &mut Vec<Case>,
-) -> Result<(), Refusal>
+) -> Result<(), AllocError>
     ensures pushed { OnOk result (map judged_of cases.new.items
         ≡ map judged_of cases.old.items ++ line_cases plan.now given.now client place index) }
 {
@@ -212,7 +212,7 @@ fn push_if(
     place: usize,
     index: usize,
     cases: &mut Vec<Case>,
-) -> Result<(), Refusal>
+) -> Result<(), AllocError>
     ensures pushed { OnOk result (map judged_of cases.new.items
         ≡ map judged_of cases.old.items ++ case_at plan.now client place index one.now) }
 {
@@ -237,7 +237,7 @@ fn push_case(
     answer: &Answer,
     schedule: &[usize],
     cases: &mut Vec<Case>,
-) -> Result<(), Refusal>
+) -> Result<(), AllocError>
     ensures pushed { OnOk result (map judged_of cases.new.items
         ≡ map judged_of cases.old.items ++ judged plan.now index answer.now schedule.now ∷ []) }
 {
@@ -253,12 +253,10 @@ fn case_of(
     index: usize,
     answer: &Answer,
     schedule: &[usize],
-) -> Result<Case, Refusal>
+) -> Result<Case, AllocError>
     ensures judged { IfOk result (λ one. judged_of one ≡ judged plan.now index answer.now schedule.now) }
 {
-    let mut text = Vec::new(alloc);
-    // The number is printed of lines that are no command.
-    print(0, answer, &mut text)?;
+    let text = answer_text(alloc, answer)?;
     let finding = finding_of(alloc, plan, index, answer, text.as_slice())?;
     let mut clients = Vec::new(alloc);
     clients.extend_from_slice(schedule)?;
@@ -268,4 +266,16 @@ fn case_of(
         finding,
         schedule: clients,
     })
+}
+
+/// The text of an answer to a command.
+pub(crate) fn answer_text(alloc: Global, answer: &Answer) -> Result<Vec<u8>, AllocError>
+    ensures text { IfOk result (λ text. text.items ≡ text_of 0 answer.now) }
+{
+    let mut text = Vec::new(alloc);
+    // The number is printed of lines that are no command.
+    let Ok(()) = print(0, answer, &mut text) else {
+        return Err(AllocError);
+    };
+    Ok(text)
 }

@@ -7,17 +7,17 @@ use crate::report::Report;
 use crate::schedule::Making;
 use crate::why::{Form, add_stuck_lines, add_why};
 use desk_core::Desk;
-use point_core::Refusal;
+use std::alloc::AllocError;
 use text_core::Page;
 
-pub(crate) fn json_of(report: &Report<'_>, making: &mut Making) -> Result<Vec<u8>, Refusal> {
+pub(crate) fn json_of(report: &Report<'_>, making: &mut Making) -> Result<Vec<u8>, AllocError> {
     let mut page = Page::new(report.alloc);
     if let Some(schedule) = &report.found.stuck {
         add_stuck(report, schedule.as_slice(), making, &mut page);
     }
     add_rows(report, &mut page);
     add_totals(report, &mut page);
-    Ok(page.finish()?)
+    page.finish()
 }
 
 fn add_rows(report: &Report<'_>, page: &mut Page) {

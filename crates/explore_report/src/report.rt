@@ -1,6 +1,7 @@
 //! `Report`: what is found of a plan, by its lines, to be written as text, as JSON, or as scripts of schedules. `fencectl explore`
 //! makes one.
-ghost use Rattle.std.specs.Prelude.{◌≡◌, IfOk, count_by};
+ghost use Rattle.std.specs.Prelude.{◌≡◌, IfErr, IfOk, count_by};
+ghost use Rattle.point_core.specs.declared.refusal.Refusal.TheVariants.{Memory};
 ghost use Rattle.explore_report.specs.Report.{IsReport, findings_in, is_wrong, outcome_of, stuck_in};
 
 use crate::case::{Case, cases_of};
@@ -40,6 +41,7 @@ impl<'a> Report<'a> {
         plan: &'a PlanScript<'a>,
         found: &'a Found,
     ) -> Result<Report<'a>, Refusal>
+        ensures memory { IfErr result (λ e. e ≡ Memory) }
         ensures report { IfOk result (IsReport plan.now found.now) }
     {
         let mut making = Making::new(alloc);
@@ -56,32 +58,38 @@ impl<'a> Report<'a> {
     /// The report as text; `name` is the plan's file. With `everything` it has the answers of all lines.
     ///
     /// Fails with `Memory` only.
-    pub fn text(&self, name: &str, everything: bool) -> Result<Vec<u8>, Refusal> {
+    pub fn text(&self, name: &str, everything: bool) -> Result<Vec<u8>, Refusal>
+        ensures memory { IfErr result (λ e. e ≡ Memory) }
+    {
         let mut making = Making::new(self.alloc);
         let text = text::text_of(self, name, everything, &mut making);
         drop(making);
-        text
+        Ok(text?)
     }
 
     /// The report as JSON, an object on each line.
     ///
     /// Fails with `Memory` only.
-    pub fn json(&self) -> Result<Vec<u8>, Refusal> {
+    pub fn json(&self) -> Result<Vec<u8>, Refusal>
+        ensures memory { IfErr result (λ e. e ≡ Memory) }
+    {
         let mut making = Making::new(self.alloc);
         let json = objects::json_of(self, &mut making);
         drop(making);
-        json
+        Ok(json?)
     }
 
     /// The schedule of that number as a script, with the answers as what it expects; none if the report shows fewer. The first
     /// is number 1.
     ///
     /// Fails with `Memory` only.
-    pub fn script(&self, number: usize) -> Result<Option<Vec<u8>>, Refusal> {
+    pub fn script(&self, number: usize) -> Result<Option<Vec<u8>>, Refusal>
+        ensures memory { IfErr result (λ e. e ≡ Memory) }
+    {
         let mut making = Making::new(self.alloc);
         let script = witness::script_of(self, number, &mut making);
         drop(making);
-        script
+        Ok(script?)
     }
 
     /// How many answers are wrong.

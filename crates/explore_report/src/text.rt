@@ -7,7 +7,7 @@ use crate::row::Row;
 use crate::schedule::Making;
 use crate::why::{Form, add_stuck_lines, add_why};
 use desk_core::Desk;
-use point_core::Refusal;
+use std::alloc::AllocError;
 use text_core::Page;
 
 /// The most answers that are listed of a line.
@@ -21,7 +21,7 @@ pub(crate) fn text_of(
     name: &str,
     everything: bool,
     making: &mut Making,
-) -> Result<Vec<u8>, Refusal> {
+) -> Result<Vec<u8>, AllocError> {
     let mut page = Page::new(report.alloc);
     add_stuck(report, name, making, &mut page);
     add_findings(report, name, making, &mut page);
@@ -32,7 +32,7 @@ pub(crate) fn text_of(
     } else {
         add_bound(report, &mut page);
     }
-    Ok(page.finish()?)
+    page.finish()
 }
 
 /// The schedule that gets stuck, and why each client waits.

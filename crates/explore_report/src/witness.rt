@@ -1,20 +1,18 @@
 //! The schedules of a report as scripts, which expect their answers: `fencectl check` passes them.
-use crate::case::Case;
+use crate::case::{Case, answer_text};
 use crate::context::Section;
 use crate::plan_script::PlanScript;
 use crate::report::Report;
 use crate::schedule::Making;
 use command_core::Answer;
-use point_core::Refusal;
-use report_core::print;
-use std::alloc::Global;
+use std::alloc::{AllocError, Global};
 use text_core::Page;
 
 pub(crate) fn script_of(
     report: &Report<'_>,
     number: usize,
     making: &mut Making,
-) -> Result<Option<Vec<u8>>, Refusal> {
+) -> Result<Option<Vec<u8>>, AllocError> {
     let mut page = Page::new(report.alloc);
     if !add_script(report, number, making, &mut page) {
         return Ok(None);
@@ -103,9 +101,8 @@ fn add_step(plan: &PlanScript<'_>, index: usize, is_stuck: bool, page: &mut Page
 }
 
 fn add_answer(alloc: Global, answer: &Answer, page: &mut Page) {
-    let mut text = Vec::new(alloc);
-    match print(0, answer, &mut text) {
-        Ok(()) => add_notes(text.as_slice(), page),
+    match answer_text(alloc, answer) {
+        Ok(text) => add_notes(text.as_slice(), page),
         Err(_) => page.fail(),
     }
 }
