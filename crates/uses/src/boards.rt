@@ -16,6 +16,7 @@ pub(crate) fn make_calls(rt: &HostRuntime, calls: &mut Calls) {
     OpenGate.leave(1, 0);
     if let Ok((words, seat)) = words_of(rt, calls, 1, 1, 0) {
         use_board(rt, calls, &words, seat);
+        drop(words);
     }
 }
 
@@ -26,6 +27,7 @@ fn use_board(rt: &HostRuntime, calls: &mut Calls, words: &Words, mut seat: Seat)
     if let Ok(board) = Board::empty(rt.alloc(), words) {
         put_and_look(rt, calls, &board, words, &mut seat);
         settle(rt, calls, &board, words, seat);
+        drop(board);
     }
 }
 
@@ -38,11 +40,10 @@ fn put_and_look(rt: &HostRuntime, calls: &mut Calls, board: &Board, words: &Word
     let ctx = Context::at(0);
     let put = board.put(words, seat, 0, Point { ctx, value: 4 }, Usage::Read);
     calls.tell(rt, "put", &put);
-    let listing = match calls.allow() {
-        Ok(()) => board.export(rt.alloc(), words, seat, 0, Usage::Read),
-        Err(refusal) => Err(refusal),
-    };
-    show_listing(rt, calls, &listing);
+    if calls.allows(rt, "export") {
+        let listing = board.export(rt.alloc(), words, seat, 0, Usage::Read);
+        show_listing(rt, calls, &listing);
+    }
 }
 
 /// Settles the plan of that put, and takes the seat back.
@@ -50,22 +51,17 @@ fn settle(rt: &HostRuntime, calls: &mut Calls, board: &Board, words: &Words, sea
     requires own { (seat.words ≡ words.now) × (board.now ≡ words.now) }
 {
     if let Ok(mut all) = seat.gather() {
-        let settled = settled(rt.alloc(), calls, board, words, &mut all);
-        calls.tell(rt, "settle", &settled);
+        if calls.allows(rt, "settle") {
+            let settled = settled(rt.alloc(), board, words, &mut all);
+            calls.tell(rt, "settle", &settled);
+        }
         calls.tell(rt, "seat", &all.seat().parts());
     }
 }
 
-fn settled(
-    alloc: Global,
-    calls: &Calls,
-    board: &Board,
-    words: &Words,
-    all: &mut Whole,
-) -> Result<Settled, Refusal>
+fn settled(alloc: Global, board: &Board, words: &Words, all: &mut Whole) -> Result<Settled, Refusal>
     requires own { (all.old.words ≡ words.now) × (board.now ≡ words.now) }
 {
-    calls.allow()?;
     let plans = plans_of(alloc, &[&[Act::Put(0, point(0, 4), Usage::Read)]])?;
     board.settle(alloc, words, all, plans.as_slice())
 }

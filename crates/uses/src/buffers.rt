@@ -6,30 +6,30 @@ use syncfile_core::SyncFile;
 
 pub(crate) fn make_calls(rt: &HostRuntime, calls: &mut Calls) {
     if let Ok(mut buffers) = Buffers::new(rt.alloc()) {
-        drop(create_and_import(rt, calls, &mut buffers));
+        create_and_import(rt, calls, &mut buffers);
+        drop(buffers);
     }
 }
 
-fn create_and_import(
-    rt: &HostRuntime,
-    calls: &mut Calls,
-    buffers: &mut Buffers,
-) -> Result<(), Refusal> {
-    let (b, x) = (name(b'B')?, name(b'X')?);
+fn create_and_import(rt: &HostRuntime, calls: &mut Calls, buffers: &mut Buffers) {
+    let (b, x) = (name(b'B'), name(b'X'));
     create(rt, calls, buffers, b);
     create(rt, calls, buffers, b);
     import_plain(rt, calls, buffers, b, x);
-    export(rt, calls, buffers, &b);
-    table(rt, calls, buffers, &b);
-    Ok(())
+    // For reading, above no value.
+    if calls.allows(rt, "export") {
+        show_listing(rt, calls, &buffers.export(&b, 1, &Reach::zero()));
+    }
+    if calls.allows(rt, "table") {
+        calls.tell(rt, "table", &buffers.table(&b, &Reach::zero()));
+    }
 }
 
 fn create(rt: &HostRuntime, calls: &mut Calls, buffers: &mut Buffers, buffer: Name) {
-    let created = match calls.allow() {
-        Ok(()) => buffers.create(buffer),
-        Err(refusal) => Err(refusal),
-    };
-    calls.tell(rt, "create", &created);
+    if calls.allows(rt, "create") {
+        let created = buffers.create(buffer);
+        calls.tell(rt, "create", &created);
+    }
 }
 
 /// Imports a file into one buffer with each of these flags, and into another, which doesn't exist.
@@ -45,6 +45,7 @@ fn import_plain(
             import(rt, calls, buffers, &there, &file, flags);
         }
         import(rt, calls, buffers, &missing, &file, 0);
+        drop(file);
     }
 }
 
@@ -56,20 +57,10 @@ fn import(
     file: &SyncFile,
     flags: u32,
 ) {
-    let imported = match calls.allow() {
-        Ok(()) => buffers.import(to, file, flags, &Reach::zero()),
-        Err(refusal) => Err(refusal),
-    };
-    calls.tell(rt, "import", &imported);
-}
-
-/// Exports for reading, above no value.
-fn export(rt: &HostRuntime, calls: &mut Calls, buffers: &Buffers, from: &Name) {
-    let listing = match calls.allow() {
-        Ok(()) => buffers.export(from, 1, &Reach::zero()),
-        Err(refusal) => Err(refusal),
-    };
-    show_listing(rt, calls, &listing);
+    if calls.allows(rt, "import") {
+        let imported = buffers.import(to, file, flags, &Reach::zero());
+        calls.tell(rt, "import", &imported);
+    }
 }
 
 pub(crate) fn show_listing(
@@ -78,15 +69,7 @@ pub(crate) fn show_listing(
     listing: &Result<Listing, Refusal>,
 ) {
     match listing {
-        Ok(listing) => calls.tell(rt, "export", &listing.points.as_slice()),
-        Err(refusal) => calls.tell(rt, "export", refusal),
+        Ok(exported) => calls.tell(rt, "export", &exported.points.as_slice()),
+        Err(_) => calls.tell_made(rt, "export", listing),
     }
-}
-
-fn table(rt: &HostRuntime, calls: &mut Calls, buffers: &Buffers, buffer: &Name) {
-    let rows = match calls.allow() {
-        Ok(()) => buffers.table(buffer, &Reach::zero()),
-        Err(refusal) => Err(refusal),
-    };
-    calls.tell(rt, "table", &rows);
 }

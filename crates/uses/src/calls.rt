@@ -1,5 +1,6 @@
 //! `Calls`: which calls are left out, and how many were made. It prints the answer of each.
-ghost use Rattle.std.specs.Prelude.{◌<◌};
+ghost use Rattle.std.specs.Prelude.{◌<◌, [], ◌∷◌};
+ghost use Rattle.point_core.specs.Name.{IsName};
 
 use point_core::{Context, Name, Point, Reach, Refusal};
 use std::fmt::Debug;
@@ -40,6 +41,15 @@ impl Calls {
         }
     }
 
+    /// Whether the next call is made. One that is left out is answered Memory.
+    pub(crate) fn allows(&mut self, rt: &HostRuntime, call: &str) -> bool {
+        let allowed = self.allow();
+        if allowed.is_err() {
+            self.tell(rt, call, &allowed);
+        }
+        allowed.is_ok()
+    }
+
     /// Prints the answer of a call.
     pub(crate) fn tell<A: Debug>(&mut self, rt: &HostRuntime, call: &str, answer: &A) {
         self.number = self.number.saturating_add(1);
@@ -62,8 +72,10 @@ impl Calls {
 }
 
 /// A name of one letter.
-pub(crate) fn name(letter: u8) -> Result<Name, Refusal> {
-    Name::read(&[letter]).ok_or(Refusal::Syntax)
+pub(crate) fn name(letter: u8) -> Name
+    requires letter { IsName (letter ∷ []) }
+{
+    Name::read(&[letter]).unwrap()
 }
 
 /// A point of the context at an index.
@@ -87,12 +99,10 @@ pub(crate) fn plain(
     calls: &mut Calls,
     point: Point,
 ) -> Result<SyncFile, Refusal> {
-    let made = made(rt, calls, point);
+    let made = match calls.allow() {
+        Ok(()) => SyncFile::plain(rt.alloc(), name(b'f'), point),
+        Err(refusal) => Err(refusal),
+    };
     calls.tell_made(rt, "SyncFile::plain", &made);
     made
-}
-
-fn made(rt: &HostRuntime, calls: &Calls, point: Point) -> Result<SyncFile, Refusal> {
-    calls.allow()?;
-    SyncFile::plain(rt.alloc(), name(b'f')?, point)
 }

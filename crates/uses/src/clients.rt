@@ -70,18 +70,18 @@ fn run_listed<R: Threads + Wait + Sync, T: SharedTable>(
     calls: &mut Calls,
     clients: &[&[Act]],
 ) {
-    let settled = settled::<R, T>(threads, rt.alloc(), calls, clients);
-    calls.tell(rt, "run_clients", &settled);
+    if calls.allows(rt, "run_clients") {
+        let settled = settled::<R, T>(threads, rt.alloc(), clients);
+        calls.tell(rt, "run_clients", &settled);
+    }
 }
 
 /// The settled end of clients with these acts.
 fn settled<R: Threads + Wait + Sync, T: SharedTable>(
     threads: &R,
     alloc: Global,
-    calls: &Calls,
     clients: &[&[Act]],
 ) -> Result<Settled, Refusal> {
-    calls.allow()?;
     let plans = plans_of(alloc, clients)?;
     match run_clients::<R, T, OpenGate>(threads, alloc, 1, plans.as_slice(), &OpenGate) {
         Ok((settled, _table)) => Ok(settled),

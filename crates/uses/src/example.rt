@@ -9,14 +9,12 @@ use crate::example::running::merge_beside_a_driver;
 use std::thread::Threads;
 
 pub(crate) fn make_calls(rt: &HostRuntime, threads: &impl Threads, calls: &mut Calls) {
-    let frames = match calls.allow() {
-        Ok(()) => draw(rt.alloc()),
-        Err(refusal) => Err(refusal),
-    };
-    calls.tell(rt, "draw", &frames);
-    let pending = match calls.allow() {
-        Ok(()) => merge_beside_a_driver(threads, rt.alloc()),
-        Err(refusal) => Err(refusal),
-    };
-    calls.tell(rt, "merge_beside_a_driver", &pending);
+    if calls.allows(rt, "draw") {
+        let frames = draw(rt.alloc());
+        calls.tell(rt, "draw", &frames);
+    }
+    if calls.allows(rt, "merge_beside_a_driver") {
+        let pending = merge_beside_a_driver(threads, rt.alloc());
+        calls.tell(rt, "merge_beside_a_driver", &pending);
+    }
 }

@@ -19,6 +19,7 @@ pub(crate) fn make_calls<T: Wait>(rt: &HostRuntime, threads: &T, calls: &mut Cal
         drop(fence_of(rt, calls, &words, 0, point(1, 1)));
         share(rt, threads, calls, &words, &mut seat);
         share_at_once(rt, threads, calls, &words, &mut seat);
+        drop(words);
     }
 }
 
@@ -48,6 +49,7 @@ fn share<T: Wait>(rt: &HostRuntime, threads: &T, calls: &mut Calls, words: &Word
 {
     if let Ok(fence) = fence_of(rt, calls, words, 0, point(0, 2)) {
         signal_once_driven(rt, threads, calls, &fence, words, seat);
+        drop(fence);
     }
 }
 
@@ -64,6 +66,7 @@ fn share_at_once<T: Wait>(
 {
     if let Ok(fence) = fence_of(rt, calls, words, 1, point(0, 0)) {
         add_beside_signal(rt, threads, calls, &fence, words, seat);
+        drop(fence);
     }
 }
 
@@ -121,11 +124,10 @@ fn add<T: Wait>(
     fence: &SharedFence,
     cookie: u64,
 ) {
-    let added = match calls.allow() {
-        Ok(()) => fence.add_callback(threads, cookie),
-        Err(refusal) => Err(refusal),
-    };
-    calls.tell(rt, "add_callback", &added);
+    if calls.allows(rt, "add_callback") {
+        let added = fence.add_callback(threads, cookie);
+        calls.tell(rt, "add_callback", &added);
+    }
 }
 
 /// Signals the fence, and returns its token the first time.

@@ -4,22 +4,27 @@ ghost use Rattle.point_core.specs.Agreement.{HasRisingContexts};
 
 use crate::calls::{Calls, name, point, reach_at};
 use point_core::{Clocks, Items, Listing, Name, Point, Reach, Refusal};
+use std::alloc::Global;
 use syncfile_core::Files;
 
-pub(crate) fn make_calls(rt: &HostRuntime, calls: &mut Calls) {
+pub(crate) fn make_calls_on_merges(rt: &HostRuntime, calls: &mut Calls) {
     if let Ok(mut files) = Files::new(rt.alloc()) {
-        drop(create_and_merge(rt, calls, &mut files));
+        create_and_merge(rt, calls, &mut files);
+        drop(files);
     }
+}
+
+pub(crate) fn make_calls_on_one(rt: &HostRuntime, calls: &mut Calls) {
     if let Ok(mut files) = Files::new(rt.alloc()) {
-        drop(adopt_and_close(rt, calls, &mut files));
+        adopt_and_close(rt, calls, &mut files);
+        drop(files);
     }
 }
 
 /// Merges no files, files of two contexts, a file that is missing, and into a name that is taken.
-fn create_and_merge(rt: &HostRuntime, calls: &mut Calls, files: &mut Files) -> Result<(), Refusal> {
-    let (f, g, h) = (name(b'f')?, name(b'g')?, name(b'h')?);
-    let (m, n, p) = (name(b'm')?, name(b'n')?, name(b'p')?);
-    let q = name(b'q')?;
+fn create_and_merge(rt: &HostRuntime, calls: &mut Calls, files: &mut Files) {
+    let (f, g, h) = (name(b'f'), name(b'g'), name(b'h'));
+    let (m, n, p, q) = (name(b'm'), name(b'n'), name(b'p'), name(b'q'));
     create(rt, calls, files, f, point(0, 5));
     create(rt, calls, files, g, point(1, 2));
     create(rt, calls, files, h, point(0, 7));
@@ -28,38 +33,29 @@ fn create_and_merge(rt: &HostRuntime, calls: &mut Calls, files: &mut Files) -> R
     merge_many(rt, calls, files, n, &[f, g, h]);
     merge_many(rt, calls, files, p, &[f, p]);
     merge_many(rt, calls, files, m, &[f]);
-    merge(rt, calls, files, q, &f, &g);
+    if calls.allows(rt, "merge") {
+        let merged = files.merge(q, &f, &g, &Reach::zero());
+        calls.tell(rt, "merge", &merged);
+    }
     for file in [f, g, h, m, n, p, q] {
         show_points(rt, calls, files, &file);
     }
     info(rt, calls, files, &m);
-    Ok(())
 }
 
 fn create(rt: &HostRuntime, calls: &mut Calls, files: &mut Files, file: Name, point: Point) {
-    let created = match calls.allow() {
-        Ok(()) => files.create(file, point),
-        Err(refusal) => Err(refusal),
-    };
-    calls.tell(rt, "create", &created);
+    if calls.allows(rt, "create") {
+        let created = files.create(file, point);
+        calls.tell(rt, "create", &created);
+    }
 }
 
 /// Merges the files at a reach of 0, which drops no point.
 fn merge_many(rt: &HostRuntime, calls: &mut Calls, files: &mut Files, made: Name, inputs: &[Name]) {
-    let merged = match calls.allow() {
-        Ok(()) => files.merge_many(made, inputs, &Reach::zero()),
-        Err(refusal) => Err(refusal),
-    };
-    calls.tell(rt, "merge_many", &merged);
-}
-
-/// As `merge_many`, of two files.
-fn merge(rt: &HostRuntime, calls: &mut Calls, files: &mut Files, made: Name, a: &Name, b: &Name) {
-    let merged = match calls.allow() {
-        Ok(()) => files.merge(made, a, b, &Reach::zero()),
-        Err(refusal) => Err(refusal),
-    };
-    calls.tell(rt, "merge", &merged);
+    if calls.allows(rt, "merge_many") {
+        let merged = files.merge_many(made, inputs, &Reach::zero());
+        calls.tell(rt, "merge_many", &merged);
+    }
 }
 
 fn show_points(rt: &HostRuntime, calls: &mut Calls, files: &Files, file: &Name) {
@@ -78,53 +74,46 @@ fn show_floor(rt: &HostRuntime, calls: &mut Calls, files: &Files, file: &Name) {
 
 /// The file's name, status and fences at the value 4 of the first context. A file without points has one fence.
 fn info(rt: &HostRuntime, calls: &mut Calls, files: &Files, file: &Name) {
-    let info = match calls.allow() {
-        Ok(()) => files.info(file, &Clocks::open(&reach_at(4))),
-        Err(refusal) => Err(refusal),
-    };
-    calls.tell(rt, "info", &info);
+    if calls.allows(rt, "info") {
+        let info = files.info(file, &Clocks::open(&reach_at(4)));
+        calls.tell(rt, "info", &info);
+    }
 }
 
 /// Makes a file of a listing, and closes it.
-fn adopt_and_close(rt: &HostRuntime, calls: &mut Calls, files: &mut Files) -> Result<(), Refusal> {
-    let m = name(b'm')?;
+fn adopt_and_close(rt: &HostRuntime, calls: &mut Calls, files: &mut Files) {
+    let m = name(b'm');
     adopt(rt, calls, files, m);
     show_points(rt, calls, files, &m);
     show_floor(rt, calls, files, &m);
-    names(rt, calls, files);
+    if calls.allows(rt, "names") {
+        calls.tell(rt, "names", &files.names());
+    }
     info(rt, calls, files, &m);
     show_state(rt, calls, files, &m);
     calls.tell(rt, "close", &files.close(&m));
     show_state(rt, calls, files, &m);
-    Ok(())
 }
 
 /// Makes a file of a pending point, above a floor.
 fn adopt(rt: &HostRuntime, calls: &mut Calls, files: &mut Files, file: Name) {
-    let adopted = match listing(rt, calls) {
-        Ok(listing) => files.adopt(file, listing),
-        Err(refusal) => Err(refusal),
-    };
-    calls.tell(rt, "adopt", &adopted);
+    if calls.allows(rt, "adopt") {
+        let adopted = match listing(rt.alloc()) {
+            Ok(listing) => files.adopt(file, listing),
+            Err(refusal) => Err(refusal),
+        };
+        calls.tell(rt, "adopt", &adopted);
+    }
 }
 
-fn listing(rt: &HostRuntime, calls: &Calls) -> Result<Listing, Refusal>
+fn listing(alloc: Global) -> Result<Listing, Refusal>
     ensures rising { IfOk result (λ listing. HasRisingContexts listing.points) }
 {
-    calls.allow()?;
-    let points = Vec::from_slice(rt.alloc(), &[point(0, 5)])?;
+    let points = Vec::from_slice(alloc, &[point(0, 5)])?;
     Ok(Listing {
         points: Items::of(points),
         floor: reach_at(4),
     })
-}
-
-fn names(rt: &HostRuntime, calls: &mut Calls, files: &Files) {
-    let names = match calls.allow() {
-        Ok(()) => files.names(),
-        Err(refusal) => Err(refusal),
-    };
-    calls.tell(rt, "names", &names);
 }
 
 /// Whether the name is free, and the file's status at its floor and once its point is reached.

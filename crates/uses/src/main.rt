@@ -27,7 +27,8 @@ fn main(rt: HostRuntime) -> ExitCode {
     let mut calls = Calls::read(&mut rt.stdin());
     example::make_calls(&rt, &rt, &mut calls);
     timelines::make_calls(&rt, &mut calls);
-    files::make_calls(&rt, &mut calls);
+    files::make_calls_on_merges(&rt, &mut calls);
+    files::make_calls_on_one(&rt, &mut calls);
     reservations::make_calls(&rt, &mut calls);
     buffers::make_calls(&rt, &mut calls);
     scripts::make_calls(&rt, &mut calls);

@@ -8,6 +8,7 @@ use resv_core::Resv;
 pub(crate) fn make_calls(rt: &HostRuntime, calls: &mut Calls) {
     if let Ok(mut resv) = Resv::new(rt.alloc()) {
         add_and_list(rt, calls, &mut resv);
+        drop(resv);
     }
 }
 
@@ -19,7 +20,9 @@ fn add_and_list(rt: &HostRuntime, calls: &mut Calls, resv: &mut Resv) {
     collect(rt, calls, resv, Usage::Write, 0);
     collect(rt, calls, resv, Usage::Read, 0);
     collect(rt, calls, resv, Usage::Read, 9);
-    table(rt, calls, resv);
+    if calls.allows(rt, "table") {
+        calls.tell(rt, "table", &resv.table(&Reach::zero()));
+    }
     calls.tell(rt, "test", &resv.test(Usage::Write, &reach_at(5)));
     calls.tell(rt, "test", &resv.test(Usage::Read, &reach_at(5)));
 }
@@ -27,11 +30,10 @@ fn add_and_list(rt: &HostRuntime, calls: &mut Calls, resv: &mut Resv) {
 fn reserve(rt: &HostRuntime, calls: &mut Calls, resv: &mut Resv, places: usize)
     requires few { places ≤ 2 }
 {
-    let reserved = match calls.allow() {
-        Ok(()) => resv.reserve(places, &Reach::zero()),
-        Err(refusal) => Err(refusal),
-    };
-    calls.tell(rt, "reserve", &reserved);
+    if calls.allows(rt, "reserve") {
+        let reserved = resv.reserve(places, &Reach::zero());
+        calls.tell(rt, "reserve", &reserved);
+    }
 }
 
 /// Adds a fence, if there is room for it.
@@ -44,17 +46,8 @@ fn add(rt: &HostRuntime, calls: &mut Calls, resv: &mut Resv, point: Point, usage
 }
 
 fn collect(rt: &HostRuntime, calls: &mut Calls, resv: &Resv, usage: Usage, value: u64) {
-    let points = match calls.allow() {
-        Ok(()) => resv.collect(usage, &reach_at(value)),
-        Err(refusal) => Err(refusal),
-    };
-    calls.tell(rt, "collect", &points);
-}
-
-fn table(rt: &HostRuntime, calls: &mut Calls, resv: &Resv) {
-    let rows = match calls.allow() {
-        Ok(()) => resv.table(&Reach::zero()),
-        Err(refusal) => Err(refusal),
-    };
-    calls.tell(rt, "table", &rows);
+    if calls.allows(rt, "collect") {
+        let points = resv.collect(usage, &reach_at(value));
+        calls.tell(rt, "collect", &points);
+    }
 }

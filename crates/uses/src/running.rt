@@ -10,6 +10,7 @@ use words_core::{Driver, Seat, Words};
 pub(crate) fn make_calls(rt: &HostRuntime, calls: &mut Calls) {
     if let Ok((words, mut seat)) = words_of(rt, calls, 2, 0, 0) {
         merge_and_look(rt, calls, &words, &mut seat);
+        drop(words);
     }
 }
 
@@ -18,24 +19,11 @@ fn merge_and_look(rt: &HostRuntime, calls: &mut Calls, words: &Words, seat: &mut
     requires own { (seat.old.words ≡ words.now) × (1 < seat.old.parts) }
     requires context { 1 ≤ words.now.contexts }
 {
-    if let Ok(f) = plain(rt, calls, point(0, 5)) {
-        merge_with_other(rt, calls, words, seat, &f);
+    let files = (plain(rt, calls, point(0, 5)), plain(rt, calls, point(1, 2)));
+    if let (Ok(f), Ok(g)) = &files {
+        merge_once_driven(rt, calls, words, seat, f, g);
     }
-}
-
-fn merge_with_other(
-    rt: &HostRuntime,
-    calls: &mut Calls,
-    words: &Words,
-    seat: &mut Seat,
-    f: &SyncFile,
-)
-    requires own { (seat.old.words ≡ words.now) × (1 < seat.old.parts) }
-    requires context { 1 ≤ words.now.contexts }
-{
-    if let Ok(g) = plain(rt, calls, point(1, 2)) {
-        merge_once_driven(rt, calls, words, seat, f, &g);
-    }
+    drop(files);
 }
 
 /// Drives the first context to 5, which signals the first file, and merges both.
@@ -58,6 +46,7 @@ fn merge_once_driven(
         poll(rt, calls, words, seat, &m);
         wait(rt, calls, words, seat, &m, 3);
         look_elsewhere(rt, calls, &m, g);
+        drop(m);
     }
 }
 
@@ -116,6 +105,7 @@ fn look_elsewhere(rt: &HostRuntime, calls: &mut Calls, m: &SyncFile, g: &SyncFil
     if let Ok((words, mut seat)) = words_of(rt, calls, 2, 0, 0) {
         look_at_unknown(rt, calls, &words, &mut seat);
         look_while_driven(rt, calls, &words, &mut seat, m, g);
+        drop(words);
     }
 }
 
@@ -126,6 +116,7 @@ fn look_at_unknown(rt: &HostRuntime, calls: &mut Calls, words: &Words, seat: &mu
 {
     if let Ok(unknown) = plain(rt, calls, point(2, 1)) {
         poll(rt, calls, words, seat, &unknown);
+        drop(unknown);
     }
 }
 

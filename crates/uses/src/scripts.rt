@@ -10,9 +10,8 @@ pub(crate) fn make_calls(rt: &HostRuntime, calls: &mut Calls) {
     calls.tell(rt, "read_script", &lines);
     calls.tell(rt, "the first line's command", &first_command(&lines));
     cut(rt, calls);
-    if let Ok(a) = name(b'a') {
-        run_commands(rt, calls, &[Command::Timeline(a), Command::Inc(a, 2)]);
-    }
+    let a = name(b'a');
+    run_commands(rt, calls, &[Command::Timeline(a), Command::Inc(a, 2)]);
     print_refusal(rt, calls);
 }
 
@@ -43,18 +42,16 @@ fn cut(rt: &HostRuntime, calls: &mut Calls) {
 }
 
 fn run_commands(rt: &HostRuntime, calls: &mut Calls, commands: &[Command]) {
-    let answers = match calls.allow() {
-        Ok(()) => answers(rt.alloc(), commands),
-        Err(refusal) => Err(refusal),
-    };
-    calls.tell(rt, "run", &answers);
+    if calls.allows(rt, "run") {
+        let answers = answers(rt.alloc(), commands);
+        calls.tell(rt, "run", &answers);
+    }
 }
 
 fn answers(alloc: Global, commands: &[Command]) -> Result<Vec<Answer>, Refusal> {
-    match run(alloc, commands) {
-        Ok((_desk, answers)) => Ok(answers),
-        Err(refusal) => Err(refusal),
-    }
+    let (desk, answers) = run(alloc, commands)?;
+    drop(desk);
+    Ok(answers)
 }
 
 /// Prints a refusal of line 3, twice, into one text.
@@ -68,9 +65,8 @@ fn print_refusal(rt: &HostRuntime, calls: &mut Calls) {
 
 /// Appends the answer to the text, as line 3's.
 fn print_one(rt: &HostRuntime, calls: &mut Calls, answer: &Answer, text: &mut Vec<u8>) {
-    let printed = match calls.allow() {
-        Ok(()) => print(3, answer, text),
-        Err(refusal) => Err(refusal),
-    };
-    calls.tell(rt, "print", &printed);
+    if calls.allows(rt, "print") {
+        let printed = print(3, answer, text);
+        calls.tell(rt, "print", &printed);
+    }
 }

@@ -12,6 +12,7 @@ const LOST: u32 = 10;
 pub(crate) fn make_calls(rt: &HostRuntime, calls: &mut Calls) {
     if let Ok((words, seat)) = words_of(rt, calls, 1, 0, 0) {
         lose(rt, calls, &words, seat);
+        drop(words);
     }
 }
 

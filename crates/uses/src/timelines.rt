@@ -1,21 +1,18 @@
 //! Calls of `timeline_core`, on two timelines.
 use crate::calls::{Calls, name};
 use point_core::{Context, Name, Refusal};
-use timeline_core::{TimelineRow, Timelines};
+use timeline_core::Timelines;
 
 pub(crate) fn make_calls(rt: &HostRuntime, calls: &mut Calls) {
     if let Ok(mut timelines) = Timelines::new(rt.alloc()) {
-        drop(name_and_advance(rt, calls, &mut timelines));
+        name_and_advance(rt, calls, &mut timelines);
+        drop(timelines);
     }
 }
 
 /// Makes two timelines and refuses a third of a known name, raises the second, looks at both, and closes the second.
-fn name_and_advance(
-    rt: &HostRuntime,
-    calls: &mut Calls,
-    timelines: &mut Timelines,
-) -> Result<(), Refusal> {
-    let (a, b, z) = (name(b'a')?, name(b'b')?, name(b'z')?);
+fn name_and_advance(rt: &HostRuntime, calls: &mut Calls, timelines: &mut Timelines) {
+    let (a, b, z) = (name(b'a'), name(b'b'), name(b'z'));
     create(rt, calls, timelines, a);
     create(rt, calls, timelines, b);
     create(rt, calls, timelines, a);
@@ -23,17 +20,17 @@ fn name_and_advance(
     calls.tell(rt, "inc", &timelines.inc(&z, 1));
     calls.tell(rt, "value", &timelines.value(&b));
     show(rt, calls, timelines, &b);
-    rows(rt, calls, timelines);
+    if calls.allows(rt, "rows") {
+        calls.tell(rt, "rows", &timelines.rows());
+    }
     shut(rt, calls, timelines, &b);
-    Ok(())
 }
 
 fn create(rt: &HostRuntime, calls: &mut Calls, timelines: &mut Timelines, timeline: Name) {
-    let context = match calls.allow() {
-        Ok(()) => timelines.create(timeline),
-        Err(refusal) => Err(refusal),
-    };
-    calls.tell(rt, "create", &context);
+    if calls.allows(rt, "create") {
+        let context = timelines.create(timeline);
+        calls.tell(rt, "create", &context);
+    }
 }
 
 /// The reach of both timelines, the context of one by its name, and the names of three contexts.
@@ -47,16 +44,6 @@ fn show(rt: &HostRuntime, calls: &mut Calls, timelines: &Timelines, timeline: &N
             None => calls.tell(rt, "name", &Refusal::NoEntry),
         }
     }
-}
-
-fn rows(rt: &HostRuntime, calls: &mut Calls, timelines: &Timelines) {
-    let rows = listed(calls, timelines);
-    calls.tell(rt, "rows", &rows);
-}
-
-fn listed(calls: &Calls, timelines: &Timelines) -> Result<Vec<TimelineRow>, Refusal> {
-    calls.allow()?;
-    timelines.rows()
 }
 
 /// The reach after one more increment, before and after the timeline is closed. A closed one keeps its value, and is never

@@ -28,7 +28,9 @@ pub fn draw(alloc: Global) -> Result<(Frame, Frame), Refusal>
     ensures { IfOk result (λ frames. (frames.0 ≡ Frame.Late) × (frames.1 ≡ Frame.Shown)) }
 {
     let mut desk = Desk::new(alloc)?;
-    draw_on(&mut desk)
+    let frames = draw_on(&mut desk);
+    drop(desk);
+    frames
 }
 
 /// Takes the desk by reference, so that nothing is dropped when it ends early, which keeps its proof short.

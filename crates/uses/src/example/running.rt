@@ -33,15 +33,20 @@ const TRIES: u32 = 100_000_000;
 ///
 /// Fails with `TimedOut` if the frame was late, and with `Memory` if an allocation failed.
 pub fn merge_beside_a_driver(rt: &impl Threads, alloc: Global) -> Result<usize, Refusal> {
+    let (drawn, shown) = files(alloc)?;
     let (words, mut seat) = Words::new(alloc, TIMELINES, 0, 0)?;
+    // Each thread steps with a seat of its own.
+    let driving = words.part(&mut seat, 1);
+    beside(rt, alloc, &words, (driving, seat), (&drawn, &shown))
+}
+
+/// The files of the two frames. They are made before the words, since each `?` also drops all that its function owns by then,
+/// and its proof follows each drop.
+fn files(alloc: Global) -> Result<(SyncFile, SyncFile), Refusal> {
     let name = Name::read(b"frame").ok_or(Refusal::Syntax)?;
     let drawn = SyncFile::plain(alloc, name, point(RENDERER, DRAWN))?;
     let shown = SyncFile::plain(alloc, name, point(DISPLAY, 1))?;
-    // Each thread steps with a seat of its own.
-    let driving = words.part(&mut seat, 1);
-    let (driven, merged) = beside(rt, alloc, &words, (driving, seat), (&drawn, &shown));
-    driven?;
-    Ok(merged?.points.as_slice().len())
+    Ok((drawn, shown))
 }
 
 fn point(index: usize, value: u64) -> Point
@@ -53,28 +58,34 @@ fn point(index: usize, value: u64) -> Point
     }
 }
 
-/// Drives on one thread, and merges on another. Each closure states the requirements of its call.
+/// Drives on one thread, and merges on another. Returns the number of pending points in the merged file. Each closure states
+/// the requirements of its call.
 fn beside(
     rt: &impl Threads,
     alloc: Global,
     words: &Words,
     seats: (Seat, Seat),
     files: (&SyncFile, &SyncFile),
-) -> (Result<u64, Refusal>, Result<SyncFile, Refusal>)
+) -> Result<usize, Refusal>
     requires own { (seats.0.words ≡ words.now) × (seats.1.words ≡ words.now) }
     requires renderer { RENDERER < words.now.contexts }
 {
     let (driving, mut merging) = seats;
     let (drawn, shown) = files;
-    join(
+    let (driven, merged) = join(
         rt,
         move || -> Result<u64, Refusal>
             requires { (driving.words ≡ words.now) × (RENDERER < words.now.contexts) }
         { drive(words, driving, Context::at(RENDERER)) },
-        move || -> Result<SyncFile, Refusal>
+        move || -> Result<usize, Refusal>
             requires { merging.words ≡ words.now }
-        { merge_once_drawn(alloc, drawn, shown, words, &mut merging) },
-    )
+        {
+            let merged = merge_once_drawn(alloc, drawn, shown, words, &mut merging)?;
+            Ok(merged.points.as_slice().len())
+        },
+    );
+    driven?;
+    merged
 }
 
 /// Advances a timeline that had no driver by `STEPS`, one at a time, and returns its value.
