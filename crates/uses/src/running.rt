@@ -5,7 +5,7 @@ use crate::calls::{Calls, plain, point};
 use crate::seats::{drive, inc, words_of};
 use point_core::Refusal;
 use syncfile_core::SyncFile;
-use words_core::{Driver, Seat, Words};
+use words_core::{Seat, Words};
 
 pub(crate) fn make_calls(rt: &HostRuntime, calls: &mut Calls) {
     if let Ok((words, mut seat)) = words_of(rt, calls, 2, 0, 0) {
