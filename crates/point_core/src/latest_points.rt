@@ -121,7 +121,22 @@ impl LatestPoints {
         ensures points { OnOk result (points.new.items ≡ points_above self.now reach.now) }
         ensures memory { IfErr result (λ e. e ≡ Refusal.Memory) }
     {
-        self.list_most(reach, points, self.used())
+        let most = self.most_above(reach, points.capacity());
+        self.list_most(reach, points, most)
+    }
+
+    /// A bound on the number of points above the reach, to list them in so much room. Where there is no room for all contexts in
+    /// use, the points are counted, so that a list grows to at most twice its points: with room for all contexts, each exported
+    /// file would keep 4 KiB.
+    fn most_above(&self, reach: &Reach, room: usize) -> usize
+        ensures most { length (points_above self.now reach.now) ≤ result }
+    {
+        let used = self.used();
+        if used <= room {
+            return used;
+        }
+        let number = self.number_above(reach);
+        if number <= used / 2 { number } else { used }
     }
 
     /// As `list`, of at most that many points. They are written to places of a slice: while each was pushed, the list's length
