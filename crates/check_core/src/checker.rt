@@ -43,7 +43,8 @@ pub(crate) struct Checker<'a> {
 }
 
 impl<'a> Checker<'a> {
-    ghost use Rattle.check_core.specs.Check.{AnswersAsExpected, IsFresh, differences_of, IsQuiet, Expects, IsAnswered, IsTaken, IsOpened, IsJudgedAt, IsEnded};
+    ghost use Rattle.check_core.specs.Check.{AnswersAsExpected, IsFresh, differences_of, IsQuiet};
+    ghost use Rattle.check_core.specs.Check.{Expects, IsAnswered, IsTaken, IsOpened, IsJudgedAt, IsEnded};
 
     pub(crate) fn new(alloc: Global, place: &CheckPlace<'a>) -> Checker<'a>
         ensures fresh { IsFresh result }
