@@ -314,9 +314,8 @@ fn next_number(
         return Ok(next);
     }
     let count = names.len();
-    let ordered = names_in_order(alloc, &made[..count])?;
+    put_names_in_order(alloc, names, &made[..count])?;
     number_anew(&mut made[..count]);
-    *names = ordered;
     Ok(count as u64)
 }
 
@@ -345,14 +344,22 @@ fn number_from_0(made: &mut [NumberedFile])
     }
 }
 
-/// The names of the files, in order of making.
-fn names_in_order(alloc: Global, made: &[NumberedFile]) -> Result<IndexSet<Name>, AllocError>
+/// Puts the names of the files into the set, in order of making. It is not inlined: the memory of its sets would be cleared for each
+/// file that is made.
+#[inline(never)]
+fn put_names_in_order(
+    alloc: Global,
+    names: &mut IndexSet<Name>,
+    made: &[NumberedFile],
+) -> Result<(), AllocError>
     requires kept { (next : ℕ) × AreKept (entries_of made.now) next }
-    ensures names { IfOk result (λ names. names.keys ≡ names_of (files_made (entries_of made.now))) }
+    ensures names { OnOk result (names.new.keys ≡ names_of (files_made (entries_of made.now))) }
+    ensures unchanged { OnErr result (names.new.keys ≡ names.old.keys) }
 {
     let places = in_order(alloc, made)?;
-    let names = names_of(alloc, places.as_slice())?;
-    set_of(alloc, names.as_slice())
+    let ordered = names_of(alloc, places.as_slice())?;
+    *names = set_of(alloc, ordered.as_slice())?;
+    Ok(())
 }
 
 /// The set of the names, in this order.
