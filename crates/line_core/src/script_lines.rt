@@ -106,7 +106,9 @@ impl ScriptLines {
         }
     }
 
-    /// Advances to the next line, if its line feed was read; else returns false.
+    /// Advances to the next line, if its line feed was read; else returns false. It is inlined: a loop over lines then has the
+    /// line's place and marks in registers.
+    #[inline(always)]
     pub fn advance(&mut self) -> bool
         ensures next { (before now : Option (List ℕ)) → (given : List (List ℕ)) →
             HasGiven before now self.old given → GoesOn before now given result self.new }
