@@ -1,5 +1,6 @@
 pub mod Blocks
 pub mod Cutting
+pub mod DigitLanes
 pub mod EndedLines
 pub mod FirstByte
 pub mod Fitting

@@ -24,10 +24,12 @@ has_digits word = has_length word && all_ascii_digits word
 abbrev has_value : List ℕ → Bool
 has_value word = nat_lt (digits_value 10 word) (2 ^ 64)
 
+pub number_of-not_all : (word : List ℕ) → all_ascii_digits word ≡ false → None ≡ number_of word
+number_of-not_all word e =
+    number_of-no word (and_left (has_digits word) (has_value word) (and_right (has_length word) (all_ascii_digits word) e))
+
 pub number_of-no_digit : (word : List ℕ) (i : ℕ) → i < length word → is_ascii_digit (get_or word i 0) ≡ false → None ≡ number_of word
-number_of-no_digit word i h e =
-    let no : all_ascii_digits word ≡ false = and_fails_at all_ascii_digits is_ascii_digit refl (λ _ _. refl) word i 0 h e in
-    number_of-no word (and_left (has_digits word) (has_value word) (and_right (has_length word) (all_ascii_digits word) no))
+number_of-no_digit word i h e = number_of-not_all word (and_fails_at all_ascii_digits is_ascii_digit refl (λ _ _. refl) word i 0 h e)
 
 pub number_of-large : (word : List ℕ) (i : ℕ) → 2 ^ 64 ≤ digits_value 10 (take i word) → None ≡ number_of word
 number_of-large word i h =
@@ -41,6 +43,10 @@ number_of-some word n one few digits e h =
     let small : has_value word ≡ true = lt-ltb (digits_value 10 word) (2 ^ 64) (omega arith) in
     let is : is_number word ≡ true = and_from (has_digits word) (has_value word) (and_from (has_length word) (all_ascii_digits word) lengths all) small in
     ap Some e ∙ ap (λ b. cond b (Some (digits_value 10 word)) None) (sym is)
+
+pub number_of-all : (word : List ℕ) (n : ℕ) → 1 ≤ length word → length word ≤ DIGITS → all_ascii_digits word ≡ true → n ≡ digits_value 10 word → n < 2 ^ 64 → Some n ≡ number_of word
+number_of-all word n one few all e h =
+    number_of-some word n one few ((numerals_by_value (λ ds. all_ascii_digits ds ≡ true) tells_all_ascii_digits).to word all) e h
 
 value-digit : (c : ℕ) → IsInRange 48 57 c → digit_value c ≡ c - 48
 value-digit c digit = grind (arith, nat_tests)

@@ -1,23 +1,20 @@
-use Rattle.std.proofs.Common.{◌≡◌, ◌<◌, ◌≤◌, length, take, sym, ◌∙◌, ap, subst, arith}
+use Rattle.std.proofs.Common.{◌≡◌, ◌≤◌, length, take, sym, ◌∙◌, ap, subst, arith}
 use Rattle.std.specs.Str.Parse.{AllDigits, digits_value}
 use Rattle.std.proofs.lemmas.Bool.Decides.{nat_tests}
 use Rattle.std.proofs.Math.Seq.{take-length}
-use Rattle.line_core.specs.declared.number.TheConstants.{DIGITS}
 use Rattle.line_core.proofs.Numbers.{number_of-no_digit, number_of-some, digits_value-more, AllDigits-more, digit-fits}
-use Rattle.line_core.proofs.number.number.Goals as goal
+use Rattle.line_core.proofs.number.number_by_digit.Goals as goal
 
 pub returns-then-not-is_ascii_digit : goal.returns-then-not-is_ascii_digit
 returns-then-not-is_ascii_digit c = record { value = number_of-no_digit c.args.word.now c.loop-byte.byte-index c.loop-byte-test.true (sym c.is_ascii_digit.ensures.value ∙ c.if-not-is_ascii_digit.true) }
 
 pub overflow_mul-value : goal.overflow_mul-value
 overflow_mul-value c =
-    let few : length c.args.word.now < DIGITS = grind (arith, nat_tests) in
-    omega (arith, digit-fits c.args.word.now c.loop-byte.byte-index c.loop-byte.value c.loop-byte-test.true few c.loop-byte.invariant.0 c.loop-byte.invariant.1 c.if-not-is_ascii_digit.ensures.cases)
+    omega (arith, digit-fits c.args.word.now c.loop-byte.byte-index c.loop-byte.value c.loop-byte-test.true c.requires.length c.loop-byte.invariant.0 c.loop-byte.invariant.1 c.if-not-is_ascii_digit.ensures.cases)
 
 pub overflow_add-value : goal.overflow_add-value
 overflow_add-value c =
-    let few : length c.args.word.now < DIGITS = grind (arith, nat_tests) in
-    omega (arith, digit-fits c.args.word.now c.loop-byte.byte-index c.loop-byte.value c.loop-byte-test.true few c.loop-byte.invariant.0 c.loop-byte.invariant.1 c.if-not-is_ascii_digit.ensures.cases)
+    omega (arith, digit-fits c.args.word.now c.loop-byte.byte-index c.loop-byte.value c.loop-byte-test.true c.requires.length c.loop-byte.invariant.0 c.loop-byte.invariant.1 c.if-not-is_ascii_digit.ensures.cases)
 
 pub loop-byte-preserved : goal.loop-byte-preserved
 loop-byte-preserved c =
