@@ -12,21 +12,18 @@ const SYNC_WRITE: u32 = 2;
 /// Linux's `DMA_BUF_SYNC_RW`.
 const SYNC_READ_WRITE: u32 = SYNC_READ | SYNC_WRITE;
 
-/// The usage that the word names.
+/// The usage that the word names. Those that are most frequent in scripts are compared first.
+#[inline(always)]
 pub(crate) fn usage(word: &[u8]) -> Option<Usage>
     ensures usage { result ≡ usage_of word.now }
 {
     let spelling = Spelling::of(word)?;
-    if spelling.is("kernel") {
-        Some(Usage::Kernel)
-    } else if spelling.is("write") {
-        Some(Usage::Write)
-    } else if spelling.is("read") {
-        Some(Usage::Read)
-    } else if spelling.is("bookkeep") {
-        Some(Usage::Bookkeep)
-    } else {
-        None
+    match word {
+        _ if spelling.is("write") => Some(Usage::Write),
+        _ if spelling.is("read") => Some(Usage::Read),
+        _ if spelling.is("bookkeep") => Some(Usage::Bookkeep),
+        _ if spelling.is("kernel") => Some(Usage::Kernel),
+        _ => None,
     }
 }
 
@@ -35,14 +32,11 @@ pub(crate) fn flags(word: &[u8]) -> Option<u32>
     ensures flags { result ≡ flags_of word.now }
 {
     let spelling = Spelling::of(word)?;
-    if spelling.is("read") {
-        Some(SYNC_READ)
-    } else if spelling.is("write") {
-        Some(SYNC_WRITE)
-    } else if spelling.is("rw") {
-        Some(SYNC_READ_WRITE)
-    } else {
-        None
+    match word {
+        _ if spelling.is("read") => Some(SYNC_READ),
+        _ if spelling.is("write") => Some(SYNC_WRITE),
+        _ if spelling.is("rw") => Some(SYNC_READ_WRITE),
+        _ => None,
     }
 }
 
