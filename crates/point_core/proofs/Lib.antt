@@ -9,6 +9,7 @@ pub mod Merges
 pub mod Named
 pub mod Names
 pub mod Padded
+pub mod Placed
 pub mod Reached
 pub mod Results
 mod Rows

@@ -10,8 +10,8 @@ use Rattle.std.proofs.lemmas.List.Folds.{list_all-append}
 use Rattle.std.proofs.lemmas.List.FromFn.{get_or-map-range_with_len}
 use Rattle.std.proofs.lemmas.Nat.Bits.{bit_at-trailing_ones}
 use Rattle.std.proofs.lemmas.Simd.{bit_mask_l, bitmask_splat, mask_l-lt, zip2_of_maps, zip2_splat, map-map, Each1-get_or, SwzOk, SwzOk-from_below, swz_l, length-swz_l, get_or-swz_l_below}
-use Rattle.point_core.specs.Name.{is_name_byte}
-use Rattle.point_core.proofs.Padded.{half_padded, length-half_padded}
+use Rattle.point_core.specs.Name.{half_padded, is_name_byte}
+use Rattle.point_core.proofs.Padded.{length-half_padded}
 
 -- the bits of each low half of a byte, and of each high half
 abbrev bits_of_low : List ℕ
@@ -103,9 +103,9 @@ module _ (v : List ℕ) (long : length v ≡ 16) where
   common_lanes : Each1 (Fits w8) v → common ≡ map common_bits v
   common_lanes fit = zip2_of_maps bit_and (λ b. get_or bits_of_low (low_half b) 0) (λ b. get_or bits_of_high (high_half b) 0) v low_looked_up (high_looked_up fit)
 
-  pub name_marks-is : Each1 (Fits w8) v → mask_l (map (top 7) (zip2 (λ a b. cond (not (eqb a b)) 255 0) common (replicate 16 0))) % 2 ^ 64 ≡ mask_l (map is_name_byte v)
+  pub marks-is : Each1 (Fits w8) v → mask_l (map (top 7) (zip2 (λ a b. cond (not (eqb a b)) 255 0) common (replicate 16 0))) % 2 ^ 64 ≡ mask_l (map is_name_byte v)
   unfolding differs
-  name_marks-is fit =
+  marks-is fit =
       bitmask_splat w8 differs common 16 0 (ap length (common_lanes fit) ∙ length-map v common_bits ∙ long) (omega arith)
       ∙ ap (λ xs. mask_l (map (λ x. differs x 0) xs)) (common_lanes fit)
       ∙ ap mask_l (map-map (λ x. differs x 0) common_bits v ∙ tests v fit)

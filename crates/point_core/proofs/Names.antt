@@ -1,13 +1,15 @@
 -- A name as it is stored.
-use Rattle.std.proofs.Common.{◌≡◌, ℕ, zero, suc, ◌++◌, ◌+◌, ◌-◌, ◌*◌, ◌%◌, ◌^◌, ◌≤◌, Bool, true, false, ◌&&◌, cond, eqb, nat_eq, List, [], ◌∷◌, length, map, take, replicate, inl, inr, refl, sym, ap, subst, ◌∙◌, arith, w8}
+use Rattle.std.proofs.Common.{◌≡◌, ℕ, zero, suc, ◌++◌, ◌+◌, ◌-◌, ◌*◌, ◌%◌, ◌^◌, ◌≤◌, Bool, true, false, ◌&&◌, cond, eqb, nat_eq, List, [], ◌∷◌, length, map, take, drop, take-append-drop, replicate, inl, inr, refl, sym, ap, subst, ◌∙◌, arith, w8}
 use Rattle.std.proofs.Math.Seq.{take-append_seam, take-append-add}
 use Rattle.std.proofs.lemmas.Bool.{and_parts, cases_Bool, eqb-true, eq-eqb}
-use Rattle.std.proofs.lemmas.List.{length-set, get_or-set_same, take-set-le, take-map, take-replicate, map-append, length-map}
-use Rattle.std.proofs.lemmas.Simd.{length-zip2, tops_compared, mask_l-mod}
+use Rattle.std.proofs.lemmas.List.{length-set, get_or-set_same, take-set-le, take-map, take-replicate, map-append, length-map, append-nil, length-take-le, length-drop, drop_all}
+use Rattle.std.proofs.lemmas.Slice.{take-put_mid, drop-put_mid}
+use Rattle.std.proofs.lemmas.Simd.{length-zip2, tops_compared, mask_l-mod, length-put_chunk, put_chunk_whole, take_more_put_chunk}
 use Rattle.std.specs.Bool.{one_answer}
 use Rattle.std.specs.Cmp.Lexicographic.{bytes_decides}
 use Rattle.std.specs.List.{list_all}
-use Rattle.std.specs.Simd.Lanes.{zip2, sel_l, mask_l, top}
+use Rattle.std.specs.Simd.Lanes.{zip2, sel_l, mask_l, put_chunk, top}
+use borrow.Rule.Slice.PartMut.{put_mid}
 use lib.Pointwise.{pointwise}
 use native.Mathlib.Nat.{two-pow-succ}
 use Rattle.point_core.proofs.Padded.{length-padded}
@@ -23,6 +25,22 @@ pub IsStored-lanes : (bytes : List ℕ) → IsName bytes → IsStored (lanes_of 
 IsStored-lanes bytes is =
     let back = bytes-of_lanes bytes is.1 in
     (subst IsName (sym back) is, ap lanes_of back)
+
+-- 32 lanes into which two halves are copied
+pub joined : (zeros front back : List ℕ) → length zeros ≡ 32 → length front ≡ 16 → length back ≡ 16
+    → put_mid 16 16 (put_chunk 0 zeros front) (put_chunk 0 (take 16 (drop 16 (put_chunk 0 zeros front))) back) ≡ front ++ back
+joined zeros front back long p q =
+    let first = put_chunk 0 zeros front in
+    let both = put_mid 16 16 first back in
+    let whole : length first ≡ 32 = length-put_chunk 0 zeros front ∙ long in
+    let second : put_chunk 0 (take 16 (drop 16 first)) back ≡ back =
+    put_chunk_whole (take 16 (drop 16 first)) back (length-take-le 16 (drop 16 first) (omega (arith, length-drop 16 first, whole)) ∙ sym q) in
+    let rest : drop 32 both ≡ [] = drop-put_mid 16 16 first back 32 (omega arith) (omega (arith, whole)) q ∙ drop_all 32 first (omega (arith, whole)) in
+    ap (put_mid 16 16 first) second
+    ∙ sym (take-append-drop 32 both)
+    ∙ (λ i. take-put_mid 16 16 first back 32 (omega (arith, q)) (omega (arith, whole)) i ++ rest i)
+    ∙ append-nil (take 16 first ++ back)
+    ∙ ap (λ xs. xs ++ back) (take_more_put_chunk 0 zeros front 16 (omega (arith, p)) (omega (arith, long)))
 
 stored_long : (lanes : List ℕ) → IsStored lanes → length lanes ≡ 32
 stored_long lanes is =

@@ -1,12 +1,12 @@
 -- Bytes with zeros after them, as the digits of a number.
-use Rattle.std.proofs.Common.{◌≡◌, ℕ, zero, suc, ◌+◌, ◌-◌, ◌*◌, ◌/◌, ◌%◌, ◌^◌, ◌<◌, ◌≤◌, List, [], ◌∷◌, ◌++◌, length, get_or, take, drop, replicate, refl, sym, ap, subst, ◌∙◌, arith, w8, Fits, mul_assoc, length-take, length-drop, take_all, drop-drop}
-use Rattle.std.proofs.lemmas.List.{length-append, length-replicate, get_or-drop, take_rest}
+use Rattle.std.proofs.Common.{◌≡◌, ℕ, zero, suc, ◌+◌, ◌-◌, ◌*◌, ◌/◌, ◌%◌, ◌^◌, ◌<◌, ◌≤◌, List, [], ◌∷◌, ◌++◌, length, get_or, take, drop, replicate, refl, sym, ap, subst, ◌∙◌, arith, w8, Fits, mul_assoc, length-drop, take_all, drop-drop, take-append-drop}
+use Rattle.std.proofs.lemmas.List.{length-append, length-replicate, length-take-le, append_assoc, append-nil, replicate-append-replicate, get_or-drop, take_rest}
 use Rattle.std.proofs.lemmas.Nat.{shr-shr, shr_le, or_shifted}
 use Rattle.std.specs.Simd.Lanes.{Each1, chunk, number_l, digits_l}
 use lib.Bits.{bit_or}
 use lib.Pow.{pow-add}
 use native.Mathlib.Nat.{mod-eq_of_lt}
-use Rattle.point_core.specs.Name.{padded}
+use Rattle.point_core.specs.Name.{padded, half_padded}
 
 abbrev pub AreBytes : List ℕ → Type 0
 AreBytes xs = (k : ℕ) → get_or xs k 0 < 256
@@ -60,6 +60,15 @@ number-split (suc n) (x ∷ xs) =
     ap (λ p. x + 256 * first + p * rest) (power-more n) ∙ ap (λ m. x + 256 * first + m) (mul_assoc 256 (2 ^ (8 * n)) rest)
     ∙ omega (arith, number-split n xs)
 
+number-append : (xs ys : List ℕ) → number_l 256 (xs ++ ys) ≡ number_l 256 xs + 2 ^ (8 * length xs) * number_l 256 ys
+number-append [] ys = omega arith
+number-append (x ∷ xs) ys =
+    let first = number_l 256 xs in
+    let rest = number_l 256 ys in
+    let parts : x + 256 * first + 2 ^ (8 * suc (length xs)) * rest ≡ x + 256 * first + 256 * (2 ^ (8 * length xs) * rest) =
+    ap (λ p. x + 256 * first + p * rest) (power-more (length xs)) ∙ ap (λ m. x + 256 * first + m) (mul_assoc 256 (2 ^ (8 * length xs)) rest) in
+    omega (arith, parts, number-append xs ys)
+
 -- the number of the first n bytes joined with the number of the last n, from which the bytes that are among the first
 -- are removed
 pub number-joined : (n : ℕ) (xs : List ℕ) → AreBytes xs → n ≤ length xs → length xs ≤ n + n
@@ -92,35 +101,42 @@ length-padded xs few =
     let zeros : List ℕ = replicate (32 - length xs) 0 in
     omega (arith, length-append xs zeros, length-replicate {A = ℕ} (32 - length xs) 0)
 
--- the bytes, and zeros after them, in half of the lanes
-abbrev pub half_padded : List ℕ → List ℕ
-half_padded xs = xs ++ replicate (16 - length xs) 0
-
 pub length-half_padded : (xs : List ℕ) → length xs ≤ 16 → length (half_padded xs) ≡ 16
 length-half_padded xs few =
     let zeros : List ℕ = replicate (16 - length xs) 0 in
     omega (arith, length-append xs zeros, length-replicate {A = ℕ} (16 - length xs) 0)
 
-pub digits-half_padded : (xs : List ℕ) (n : ℕ) → n ≡ number_l 256 xs → AreBytes xs → length xs ≤ 16 → digits_l 256 16 n ≡ half_padded xs
-digits-half_padded xs n is bytes few = ap (digits_l 256 16) is ∙ digits-number 16 xs few bytes
+each-bytes : (xs : List ℕ) → Each1 (Fits w8) xs → AreBytes xs
+each-bytes [] fit k = omega arith
+each-bytes (x ∷ xs) fit zero = fit.0.fits
+each-bytes (x ∷ xs) fit (suc k) = each-bytes xs fit.1 k
 
-pub digits-padded : (xs : List ℕ) (n : ℕ) → n ≡ number_l 256 xs → AreBytes xs → length xs ≤ 32 → digits_l 256 32 n ≡ padded xs
-digits-padded xs n is bytes few = ap (digits_l 256 32) is ∙ digits-number 32 xs few bytes
+append-bytes : (xs ys : List ℕ) → AreBytes xs → AreBytes ys → AreBytes (xs ++ ys)
+append-bytes [] ys p q k = q k
+append-bytes (x ∷ xs) ys p q zero = p 0
+append-bytes (x ∷ xs) ys p q (suc k) = append-bytes xs ys (λ j. p (suc j)) q k
 
--- the slices of at most 31 bytes before and from the 16th
-pub front-few : (xs : List ℕ) → length (take 16 xs) ≤ 16
-front-few xs = omega (arith, length-take 16 xs)
+-- the lanes of two numbers, each of n bytes
+pub digits-joined : (n : ℕ) (xs ys : List ℕ) (m : ℕ) → m ≡ number_l 256 xs + 2 ^ (8 * n) * number_l 256 ys → length xs ≡ n → length ys ≡ n → n ≤ 8
+    → Each1 (Fits w8) xs → Each1 (Fits w8) ys → digits_l 256 16 m ≡ half_padded (xs ++ ys)
+digits-joined n xs ys m is long as_long few fit as_fit =
+    let whole : m ≡ number_l 256 (xs ++ ys) = is ∙ ap (λ k. number_l 256 xs + 2 ^ (8 * k) * number_l 256 ys) (sym long) ∙ sym (number-append xs ys) in
+    ap (digits_l 256 16) whole ∙ digits-number 16 (xs ++ ys) (omega (arith, length-append xs ys, long, as_long)) (append-bytes xs ys (each-bytes xs fit) (each-bytes ys as_fit))
 
-pub back-few : (xs : List ℕ) → length xs ≤ 31 → length (take (length xs - 16) (drop 16 xs)) ≤ 16
-back-few xs most = omega (arith, ap length (take_rest xs 16), length-drop 16 xs, most)
+-- half of the lanes, and zeros; and two halves of the lanes
+pub padded-front : (xs : List ℕ) → length xs ≤ 16 → half_padded xs ++ replicate 16 0 ≡ padded xs
+padded-front xs few =
+    let zeros : 16 - length xs + 16 ≡ 32 - length xs = omega arith in
+    append_assoc xs (replicate (16 - length xs) 0) (replicate 16 0)
+    ∙ ap (λ rest. xs ++ rest) (replicate-append-replicate (16 - length xs) 16 0) ∙ ap (λ n. xs ++ replicate n 0) zeros
 
--- the bytes as four numbers, of which two are the first 16 bytes
-pub number-halves : (xs : List ℕ) (a b c d : ℕ) → a + 2 ^ 64 * b ≡ number_l 256 (take 16 xs) → c + 2 ^ 64 * d ≡ number_l 256 (take (length xs - 16) (drop 16 xs))
-    → a + 2 ^ 64 * (b + 2 ^ 64 * (c + 2 ^ 64 * d)) ≡ number_l 256 xs
-number-halves xs a b c d front back =
-    let rest : c + 2 ^ 64 * d ≡ number_l 256 (drop 16 xs) = back ∙ ap (number_l 256) (take_rest xs 16) in
-    let whole : number_l 256 (take 16 xs) + 2 ^ 128 * number_l 256 (drop 16 xs) ≡ number_l 256 xs = number-split 16 xs in
-    omega (arith, front, rest, whole)
+pub padded-halves : (xs : List ℕ) → 16 ≤ length xs → length xs ≤ 32 → half_padded (take 16 xs) ++ half_padded (take (length xs - 16) (drop 16 xs)) ≡ padded xs
+padded-halves xs least most =
+    let front : half_padded (take 16 xs) ≡ take 16 xs = ap (λ n. take 16 xs ++ replicate (16 - n) 0) (length-take-le 16 xs least) ∙ append-nil (take 16 xs) in
+    let zeros : 16 - length (drop 16 xs) ≡ 32 - length xs = omega (arith, length-drop 16 xs) in
+    (λ i. front i ++ half_padded (take_rest xs 16 i))
+    ∙ sym (append_assoc (take 16 xs) (drop 16 xs) (replicate (16 - length (drop 16 xs)) 0))
+    ∙ (λ i. take-append-drop 16 xs i ++ replicate (zeros i) 0)
 
 -- the digits of a number, as many as it has bytes, are the bytes
 pub digits-same : (xs : List ℕ) → AreBytes xs → digits_l 256 (length xs) (number_l 256 xs) ≡ xs

@@ -1,6 +1,6 @@
 use Rattle.std.specs.Prelude.{◌≡◌, ℕ, ◌-◌, ◌≤◌, Bool, true, nat_le, ◌&&◌, ◌||◌, ◌==◌, List, ◌++◌, length, take, replicate, get_or, slice_set}
 use Rattle.std.specs.List.{list_all}
-use Rattle.point_core.specs.declared.lanes.TheConstants.{LANES}
+use Rattle.point_core.specs.declared.lanes.TheConstants.{FEW_BYTES, LANES}
 use Rattle.point_core.specs.declared.name.TheConstants.{NAME_BYTES}
 
 -- both ends belong to the range
@@ -18,6 +18,10 @@ IsName bytes = (1 ≤ length bytes) × (length bytes ≤ NAME_BYTES) × (list_al
 -- the bytes of a name, and zeros after them
 abbrev pub padded : List ℕ → List ℕ
 padded bytes = bytes ++ replicate (LANES - length bytes) 0
+
+-- few bytes, and zeros after them, in half of the lanes
+abbrev pub half_padded : List ℕ → List ℕ
+half_padded bytes = bytes ++ replicate (FEW_BYTES - length bytes) 0
 
 -- the lanes that hold a name: its bytes, zeros after them, and its length last
 abbrev pub lanes_of : List ℕ → List ℕ

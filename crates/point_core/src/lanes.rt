@@ -1,7 +1,8 @@
-//! Loads bytes as numbers, and shows numbers as the lanes of a vector. `Name` keeps its bytes in lanes, and `line_core`
-//! compares words as numbers.
-ghost use Rattle.std.specs.Prelude.{◌≡◌, ◌+◌, ◌*◌, ◌^◌, ◌<◌, ◌≤◌, length, get_or};
-ghost use Rattle.std.specs.Simd.Lanes.{chunk, digits_l, number_l};
+//! Loads few bytes into the lanes of a vector, or as a number. `Name` keeps its bytes in lanes, and `line_core` compares
+//! words as numbers.
+ghost use Rattle.std.specs.Prelude.{◌≡◌, ◌+◌, ◌^◌, ◌<◌, ◌≤◌, length, get_or};
+ghost use Rattle.std.specs.Simd.Lanes.{chunk, number_l};
+ghost use Rattle.point_core.specs.Name.{half_padded};
 
 use crate::name::NAME_BYTES;
 use std::simd::prelude::*;
@@ -16,38 +17,53 @@ const _: () = prove!(NUMBER_BYTES == 8);
 
 const HALF_BYTES: usize = 4;
 
-/// The most bytes that fit two numbers.
+/// The most bytes that fit half of the lanes.
 pub(crate) const FEW_BYTES: usize = 2 * NUMBER_BYTES;
 
-/// The bytes as two numbers, least significant byte first.
+// The place of no lane, which gives a zero.
+const X: u8 = 128;
+
+/// For each number of bytes from 1 on, the places of the bytes among the lanes into which `few_lanes` loads them.
+static PLACES: [[u8; FEW_BYTES]; FEW_BYTES] = [
+    [0, X, X, X, X, X, X, X, X, X, X, X, X, X, X, X],
+    [0, 1, X, X, X, X, X, X, X, X, X, X, X, X, X, X],
+    [0, 1, 2, X, X, X, X, X, X, X, X, X, X, X, X, X],
+    [0, 1, 2, 3, X, X, X, X, X, X, X, X, X, X, X, X],
+    [0, 1, 2, 3, 7, X, X, X, X, X, X, X, X, X, X, X],
+    [0, 1, 2, 3, 6, 7, X, X, X, X, X, X, X, X, X, X],
+    [0, 1, 2, 3, 5, 6, 7, X, X, X, X, X, X, X, X, X],
+    [0, 1, 2, 3, 4, 5, 6, 7, X, X, X, X, X, X, X, X],
+    [0, 1, 2, 3, 4, 5, 6, 7, 15, X, X, X, X, X, X, X],
+    [0, 1, 2, 3, 4, 5, 6, 7, 14, 15, X, X, X, X, X, X],
+    [0, 1, 2, 3, 4, 5, 6, 7, 13, 14, 15, X, X, X, X, X],
+    [0, 1, 2, 3, 4, 5, 6, 7, 12, 13, 14, 15, X, X, X, X],
+    [0, 1, 2, 3, 4, 5, 6, 7, 11, 12, 13, 14, 15, X, X, X],
+    [0, 1, 2, 3, 4, 5, 6, 7, 10, 11, 12, 13, 14, 15, X, X],
+    [0, 1, 2, 3, 4, 5, 6, 7, 9, 10, 11, 12, 13, 14, 15, X],
+    [0, 1, 2, 3, 4, 5, 6, 7, 8, 9, 10, 11, 12, 13, 14, 15],
+];
+
+/// The bytes in lanes, and zeros after them. The first and the last bytes are loaded as words, which may overlap, and are
+/// then moved to their places.
 #[inline(always)]
-pub(crate) fn two_numbers(bytes: &[u8]) -> (u64, u64)
-    requires { length bytes.now ≤ FEW_BYTES }
-    ensures { result.0 + 2 ^ 64 * result.1 ≡ number_l 256 bytes.now }
+pub(crate) fn few_lanes(bytes: &[u8]) -> u8x16
+    requires some { 1 ≤ length bytes.now }
+    requires most { length bytes.now ≤ FEW_BYTES }
+    ensures { result ≡ half_padded bytes.now }
 {
     let length = bytes.len();
-    if length <= NUMBER_BYTES {
-        (number_of_few(bytes), 0)
+    let loaded = if length < HALF_BYTES {
+        let mut lanes = [0; FEW_BYTES];
+        lanes[0] = bytes[0];
+        lanes[1] = bytes[length / 2];
+        lanes[2] = bytes[length - 1];
+        u8x16::from_array(lanes)
+    } else if length < NUMBER_BYTES {
+        u32x4::from_array([half(bytes, 0), half(bytes, length - HALF_BYTES), 0, 0]).to_le_bytes()
     } else {
-        let rest = word(bytes, length - NUMBER_BYTES) >> (8 * (FEW_BYTES - length));
-        (word(bytes, 0), rest)
-    }
-}
-
-/// The bytes of two numbers.
-#[inline(always)]
-pub(crate) fn two_words(first: u64, second: u64) -> u8x16
-    ensures { result ≡ digits_l 256 FEW_BYTES (first + 2 ^ 64 * second) }
-{
-    u64x2::from_array([first, second]).to_le_bytes()
-}
-
-/// The bytes of four numbers.
-#[inline(always)]
-pub(crate) fn four_words(first: u64, second: u64, third: u64, fourth: u64) -> u8x32
-    ensures { result ≡ digits_l 256 LANES (first + 2 ^ 64 * (second + 2 ^ 64 * (third + 2 ^ 64 * fourth))) }
-{
-    u64x4::from_array([first, second, third, fourth]).to_le_bytes()
+        u64x2::from_array([word(bytes, 0), word(bytes, length - NUMBER_BYTES)]).to_le_bytes()
+    };
+    loaded.swizzle_dyn(u8x16::from_array(PLACES[length - 1]))
 }
 
 /// The bytes as one number, least significant byte first.
@@ -58,29 +74,33 @@ pub fn number_of_few(bytes: &[u8]) -> u64
 {
     let length = bytes.len();
     if length < HALF_BYTES {
-        half(u8x4::from_array([byte_at(bytes, 0), byte_at(bytes, 1), byte_at(bytes, 2), 0]))
+        byte_at(bytes, 0) + (byte_at(bytes, 1) << 8) + (byte_at(bytes, 2) << 16)
     } else {
-        let last = half(u8x4::from_slice(&bytes[length - HALF_BYTES..]));
-        let rest = last >> (8 * (2 * HALF_BYTES - length));
-        (rest << 32) | half(u8x4::from_slice(bytes))
+        let rest = u64::from(half(bytes, length - HALF_BYTES)) >> (8 * (NUMBER_BYTES - length));
+        (rest << 32) | u64::from(half(bytes, 0))
     }
 }
 
 /// The byte at an index, or 0 past the end.
 #[inline(always)]
-fn byte_at(bytes: &[u8], place: usize) -> u8
-    ensures { result ≡ get_or bytes.now place 0 }
+fn byte_at(bytes: &[u8], place: usize) -> u64
+    ensures byte { result ≡ get_or bytes.now place 0 }
+    ensures small { result < 256 }
 {
-    if place < bytes.len() { bytes[place] } else { 0 }
+    if place < bytes.len() {
+        u64::from(bytes[place])
+    } else {
+        0
+    }
 }
 
 #[inline(always)]
-fn half(lanes: u8x4) -> u64
-    ensures number { result ≡ number_l 256 lanes }
-    ensures small { result < 2 ^ 32 }
+fn half(bytes: &[u8], place: usize) -> u32
+    requires { place + HALF_BYTES ≤ length bytes.now }
+    ensures { result ≡ number_l 256 (chunk place HALF_BYTES bytes.now) }
 {
-    let [number] = u32x1::from_le_bytes(lanes).to_array();
-    u64::from(number)
+    let [number] = u32x1::from_le_bytes(u8x4::from_slice(&bytes[place..])).to_array();
+    number
 }
 
 #[inline(always)]

@@ -1,11 +1,10 @@
 //! `Name`: a valid name of a timeline, a file or a buffer, in one vector of 32 bytes, so that it is compared and hashed
 //! as a whole.
-ghost use Rattle.std.specs.Prelude.{◌≡◌, ◌≤◌, ◌+◌, ◌-◌, ◌*◌, ◌^◌, ◌++◌, ◌↔◌, true, IsSome, IfSome, length, map, replicate, slice_set};
+ghost use Rattle.std.specs.Prelude.{◌≡◌, ◌≤◌, ◌<◌, ◌-◌, ◌++◌, ◌↔◌, true, IsSome, IfSome, length, replicate};
 ghost use Rattle.std.specs.List.{list_all};
-ghost use Rattle.std.specs.Simd.Lanes.{mask_l, number_l};
-ghost use Rattle.point_core.specs.Name.{IsName, is_name_byte, padded};
+ghost use Rattle.point_core.specs.Name.{IsName, half_padded, is_name_byte, padded};
 
-use crate::lanes::{FEW_BYTES, four_words, two_numbers, two_words};
+use crate::lanes::{FEW_BYTES, LANES, few_lanes};
 use std::hash::{Hash, Hasher};
 use std::marker::Model;
 use std::simd::prelude::*;
@@ -57,11 +56,10 @@ impl Name {
         ensures valid { IsSome result ↔ IsName bytes.now }
         ensures value { IfSome result (λ name. name ≡ bytes.now) }
     {
-        if bytes.is_empty() || bytes.len() > NAME_BYTES {
-            return None;
-        }
-        if bytes.len() <= FEW_BYTES {
+        if (1..=FEW_BYTES).contains(&bytes.len()) {
             Name::read_few(bytes)
+        } else if bytes.is_empty() || bytes.len() > NAME_BYTES {
+            None
         } else {
             Name::read_many(bytes)
         }
@@ -75,31 +73,43 @@ impl Name {
         ensures valid { IsSome result ↔ IsName bytes.now }
         ensures value { IfSome result (λ name. name ≡ bytes.now) }
     {
-        let (first, second) = allowed_numbers(bytes)?;
-        Some(Name::in_lanes(bytes, four_words(first, second, 0, 0)))
+        let front = few_lanes(bytes);
+        if !are_name_bytes(bytes, front) {
+            return None;
+        }
+        Some(Name::in_lanes(bytes, front, u8x16::splat(0)))
     }
 
     /// As `read`: one half of the lanes is full, and the other holds the rest of the bytes.
     fn read_many(bytes: &[u8]) -> Option<Name>
-        requires least { FEW_BYTES ≤ length bytes.now }
+        requires least { FEW_BYTES < length bytes.now }
         requires most { length bytes.now ≤ NAME_BYTES }
         ensures valid { IsSome result ↔ IsName bytes.now }
         ensures value { IfSome result (λ name. name ≡ bytes.now) }
     {
-        let (first, second) = allowed_numbers(&bytes[..FEW_BYTES])?;
-        let (third, fourth) = allowed_numbers(&bytes[FEW_BYTES..])?;
-        Some(Name::in_lanes(bytes, four_words(first, second, third, fourth)))
+        let front = few_lanes(&bytes[..FEW_BYTES]);
+        let back = few_lanes(&bytes[FEW_BYTES..]);
+        if !are_name_bytes(&bytes[..FEW_BYTES], front)
+            || !are_name_bytes(&bytes[FEW_BYTES..], back)
+        {
+            return None;
+        }
+        Some(Name::in_lanes(bytes, front, back))
     }
 
-    /// The name with these bytes, which the lanes hold.
+    /// The name with these bytes, which the lanes of both halves hold.
     #[inline(always)]
-    fn in_lanes(bytes: &[u8], lanes: u8x32) -> Name
+    fn in_lanes(bytes: &[u8], front: u8x16, back: u8x16) -> Name
         requires name { IsName bytes.now }
-        requires lanes { lanes ≡ padded bytes.now }
+        requires lanes { front ++ back ≡ padded bytes.now }
         ensures value { result ≡ bytes.now }
     {
+        let mut lanes = [0; LANES];
+        front.copy_to_slice(&mut lanes);
+        back.copy_to_slice(&mut lanes[FEW_BYTES..]);
+        lanes[NAME_BYTES] = bytes.len() as u8;
         Name {
-            lanes: with_length(lanes, bytes.len()),
+            lanes: u8x32::from_array(lanes),
         }
     }
 
@@ -133,50 +143,18 @@ impl Name {
     }
 }
 
-/// The lanes of the bytes of a name, with its length in the last.
+/// Whether each of the bytes, which the lanes hold, is allowed: if both of its halves have a bit in common. A test of 32
+/// lanes takes twice the instructions where a vector has 16 bytes, also if the upper lanes are known to be zero.
 #[inline(always)]
-fn with_length(lanes: u8x32, length: usize) -> u8x32
-    requires length { length ≤ NAME_BYTES }
-    ensures lanes { result ≡ slice_set lanes NAME_BYTES length }
-{
-    let mut lanes = lanes.to_array();
-    lanes[NAME_BYTES] = length as u8;
-    u8x32::from_array(lanes)
-}
-
-/// The bytes as two numbers, if each of the bytes is allowed. They are tested in 16 lanes: a test of 32 takes twice the
-/// instructions where a vector has 16 bytes, also if the upper lanes are known to be zero.
-#[inline(always)]
-fn allowed_numbers(bytes: &[u8]) -> Option<(u64, u64)>
-    requires { length bytes.now ≤ FEW_BYTES }
-    ensures allowed { IsSome result ↔ (list_all is_name_byte bytes.now ≡ true) }
-    ensures numbers { IfSome result (λ numbers. numbers.0 + 2 ^ 64 * numbers.1 ≡ number_l 256 bytes.now) }
-{
-    let (first, second) = two_numbers(bytes);
-    if !are_name_bytes(bytes, first, second) {
-        return None;
-    }
-    Some((first, second))
-}
-
-/// Whether each of the bytes, which are the two numbers, is allowed.
-#[inline(always)]
-fn are_name_bytes(bytes: &[u8], first: u64, second: u64) -> bool
+fn are_name_bytes(bytes: &[u8], lanes: u8x16) -> bool
     requires most { length bytes.now ≤ FEW_BYTES }
-    requires numbers { first + 2 ^ 64 * second ≡ number_l 256 bytes.now }
+    requires lanes { lanes ≡ half_padded bytes.now }
     ensures { result ≡ list_all is_name_byte bytes.now }
-{
-    name_marks(two_words(first, second)).trailing_ones() as usize >= bytes.len()
-}
-
-/// One bit for each lane, set if the lane is an allowed byte: if both of its halves have a bit in common.
-#[inline(always)]
-fn name_marks(lanes: u8x16) -> u64
-    ensures { result ≡ mask_l (map is_name_byte lanes) }
 {
     let low = u8x16::from_array(BITS_OF_LOW_HALVES).swizzle_dyn(lanes & u8x16::splat(15));
     let high = u8x16::from_array(BITS_OF_HIGH_HALVES).swizzle_dyn(lanes >> u8x16::splat(4));
-    (low & high).simd_ne(u8x16::splat(0)).to_bitmask()
+    let marks = (low & high).simd_ne(u8x16::splat(0)).to_bitmask();
+    marks.trailing_ones() as usize >= bytes.len()
 }
 
 impl PartialEq for Name {

@@ -1,6 +1,10 @@
-use Rattle.std.proofs.Common.{◌∙◌}
+use Rattle.std.proofs.lemmas.Simd.{length-chunk, chunk-fits}
+use Rattle.std.proofs.Common.{w8}
+use Rattle.std.specs.Simd.Lanes.{chunk}
 use Rattle.point_core.proofs.Padded.{number-of_lanes}
 use Rattle.point_core.proofs.lanes.half.Goals as goal
 
-pub returns-clause-number : goal.returns-clause-number
-returns-clause-number c = c.from.ensures ∙ number-of_lanes 4 c.args.lanes c.fits-lanes.0 c.fits-lanes.1
+pub returns : goal.returns
+returns c =
+    let bytes = c.args.bytes.now in
+    number-of_lanes 4 (chunk c.args.place 4 bytes) (length-chunk c.args.place 4 bytes c.requires) (chunk-fits w8 c.args.place 4 bytes c.type_inv.bytes)
