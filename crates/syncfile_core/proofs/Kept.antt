@@ -35,19 +35,19 @@ abbrev Entries : Type 0
 Entries = List (List ℕ × NumberedFile)
 
 abbrev file_in : NumberedFile → File
-file_in m = m.file
+file_in m = m.file.value
 
 -- the name of an entry, and its serial number
 abbrev pub numbered_name_in : List ℕ × NumberedFile → NumberedName
 numbered_name_in e = record { name = e.0; number = e.1.number }
 
 abbrev IsUnderItsName : List ℕ × NumberedFile → Type 0
-IsUnderItsName e = e.0 ≡ e.1.file.name
+IsUnderItsName e = e.0 ≡ e.1.file.value.name
 
 keyed-from : (es : Entries) → AllByRecursion IsUnderItsName es → IsKeyed file_name file_in es
 keyed-from [] all = refl
 keyed-from (e ∷ es) all =
-    let own : e.0 ≡ e.1.file.name = all.0 in
+    let own : e.0 ≡ e.1.file.value.name = all.0 in
     let rest : IsKeyed file_name file_in es = keyed-from es all.1 in
     cc
 
@@ -122,45 +122,6 @@ module _ (es : Entries) (next : ℕ) (kept : AreKept es next) where
       (IsPermutation-trans ps (map numbered_name_in es) (map numbered_name_in (by_number number_of es)) (IsPermutation-sym (map numbered_name_in es) ps moved) turned) in
       ap (map (λ (p : NumberedName). p.name)) is ∙ map-keys (by_number number_of es) ∙ keyed
 
-  -- a new file goes last
-  module _ (x : File) (new : has_file (files_made es) x.name ≡ false) where
-    abbrev pub made : NumberedFile
-    made = record { file = x; number = next }
-
-    pub absent : lookup (same_name x.name) es ≡ None
-    absent = is_none (lookup (same_name x.name) es) (sym (has_file-made x.name) ∙ new)
-
-    no_key : (ds : Entries) → lookup (same_name x.name) ds ≡ None → list_any (same_name x.name) (keys_of ds) ≡ false
-    no_key [] is = refl
-    no_key (d ∷ ds) is = by (same_name x.name d.0) is (no_key ds)
-      where
-        by : (b : Bool) → cond b (Some d.1) (lookup (same_name x.name) ds) ≡ None → (lookup (same_name x.name) ds ≡ None → list_any (same_name x.name) (keys_of ds) ≡ false) → (b || list_any (same_name x.name) (keys_of ds)) ≡ false
-        by true bad rest = absurd (cc)
-        by false is rest = rest is
-
-    unequal : (m n : ℕ) → n < m → nat_eq m n ≡ false
-    unequal m n low = elim (cases_Bool (nat_eq m n)) [
-      | inl is ↦ let same = exact_unsigned_eq m n is in absurd (omega (arith, low, same))
-      | inr apart ↦ apart
-    ]
-
-    no_number : (ds : Entries) → AllByRecursion (λ d. number_of d < next) ds → list_any (nat_eq next) (map number_of ds) ≡ false
-    no_number [] low = refl
-    no_number (d ∷ ds) low = rw (unequal next (number_of d) low.0) (no_number ds low.1)
-
-    pub files_made-append : files_made (es ++ (x.name, made) ∷ []) ≡ files_made es ++ x ∷ []
-    files_made-append =
-        ap (things_in file_in) (by_number-last number_of es (x.name, made) (recursion_from_All (λ e. number_of e < next) es kept.below))
-        ∙ things_in-append file_name file_in (by_number number_of es) ((x.name, made) ∷ [])
-
-    pub AreKept-append : AreKept (es ++ (x.name, made) ∷ []) (next + 1)
-    AreKept-append = record {
-      keyed = All-push IsUnderItsName es (x.name, made) kept.keyed refl;
-      distinct = subst (IsDistinct same_name) (sym (map-append (λ (e : List ℕ × NumberedFile). e.0) es ((x.name, made) ∷ []))) (IsDistinct-push nat_list_eq_equiv (keys_of es) x.name kept.distinct (no_key es absent));
-      numbered = subst (IsDistinct nat_eq) (sym (map-append number_of es ((x.name, made) ∷ []))) (IsDistinct-push nat_eq_equiv (map number_of es) next kept.numbered (no_number es (recursion_from_All (λ e. number_of e < next) es kept.below)));
-      below = All-push (λ e. number_of e < next + 1) es (x.name, made) (All-weaker (λ e. number_of e < next) (λ e. number_of e < next + 1) (λ e low. omega (arith, low)) es kept.below) (omega arith);
-    }
-
   -- the file with that name is removed, and no other one moves
   module _ (name : List ℕ) where
     taken_out : (ds : Entries) (i : ℕ) → position (same_name name) (keys_of ds) ≡ Some i → (entry : List ℕ × NumberedFile) × (same_name name entry.0 ≡ true) × IsPermutation ds (entry ∷ swap_remove_entry (same_name name) ds)
@@ -218,6 +179,45 @@ module _ (es : Entries) (next : ℕ) (kept : AreKept es next) where
             ap files_made (swap_remove_entry-missing (same_name name) es is)
             ∙ sym (without_named-absent file_name (files_made es) name (has_file-made name ∙ ap is_some absent))
         by (Some i) is = let out = taken_out es i is in files_made-left out.0 (swap_remove_entry (same_name name) es) out.1 out.2
+
+-- a new file goes last
+module _ (es : Entries) (made : NumberedFile) (kept : AreKept es made.number) (new : has_file (files_made es) made.file.value.name ≡ false) where
+  abbrev x : File
+  x = made.file.value
+
+  pub absent : lookup (same_name x.name) es ≡ None
+  absent = is_none (lookup (same_name x.name) es) (sym (has_file-made es made.number kept x.name) ∙ new)
+
+  no_key : (ds : Entries) → lookup (same_name x.name) ds ≡ None → list_any (same_name x.name) (keys_of ds) ≡ false
+  no_key [] is = refl
+  no_key (d ∷ ds) is = by (same_name x.name d.0) is (no_key ds)
+    where
+      by : (b : Bool) → cond b (Some d.1) (lookup (same_name x.name) ds) ≡ None → (lookup (same_name x.name) ds ≡ None → list_any (same_name x.name) (keys_of ds) ≡ false) → (b || list_any (same_name x.name) (keys_of ds)) ≡ false
+      by true bad rest = absurd (cc)
+      by false is rest = rest is
+
+  unequal : (m n : ℕ) → n < m → nat_eq m n ≡ false
+  unequal m n low = elim (cases_Bool (nat_eq m n)) [
+    | inl is ↦ let same = exact_unsigned_eq m n is in absurd (omega (arith, low, same))
+    | inr apart ↦ apart
+  ]
+
+  no_number : (ds : Entries) → AllByRecursion (λ d. number_of d < made.number) ds → list_any (nat_eq made.number) (map number_of ds) ≡ false
+  no_number [] low = refl
+  no_number (d ∷ ds) low = rw (unequal made.number (number_of d) low.0) (no_number ds low.1)
+
+  pub files_made-append : files_made (es ++ (x.name, made) ∷ []) ≡ files_made es ++ x ∷ []
+  files_made-append =
+      ap (things_in file_in) (by_number-last number_of es (x.name, made) (recursion_from_All (λ e. number_of e < made.number) es kept.below))
+      ∙ things_in-append file_name file_in (by_number number_of es) ((x.name, made) ∷ [])
+
+  pub AreKept-append : AreKept (es ++ (x.name, made) ∷ []) (made.number + 1)
+  AreKept-append = record {
+    keyed = All-push IsUnderItsName es (x.name, made) kept.keyed refl;
+    distinct = subst (IsDistinct same_name) (sym (map-append (λ (e : List ℕ × NumberedFile). e.0) es ((x.name, made) ∷ []))) (IsDistinct-push nat_list_eq_equiv (keys_of es) x.name kept.distinct (no_key es absent));
+    numbered = subst (IsDistinct nat_eq) (sym (map-append number_of es ((x.name, made) ∷ []))) (IsDistinct-push nat_eq_equiv (map number_of es) made.number kept.numbered (no_number es (recursion_from_All (λ e. number_of e < made.number) es kept.below)));
+    below = All-push (λ e. number_of e < made.number + 1) es (x.name, made) (All-weaker (λ e. number_of e < made.number) (λ e. number_of e < made.number + 1) (λ e low. omega (arith, low)) es kept.below) (omega arith);
+  }
 
 pub length-made : (es : Entries) → length (files_made es) ≡ length es
 length-made es = length-things_in file_name file_in (by_number number_of es) ∙ length_permutation es (by_number number_of es) (IsPermutation-by_number number_of es)

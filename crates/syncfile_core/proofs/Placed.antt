@@ -21,7 +21,7 @@ use Rattle.syncfile_core.specs.Files.{has_file, without_file, files_made, files_
 use Rattle.syncfile_core.proofs.Kept.{AreKept-none, AreKept-append, AreKept-swap_remove_entry, files_made-append, files_made-swap_remove_entry, file_at-made, has_file-made, numbered_name_in, names_of-places}
 
 abbrev file_in : NumberedFile → File
-file_in m = m.file
+file_in m = m.file.value
 
 values-entries_of : (ms : List NumberedFile) → values_of (entries_of ms) ≡ ms
 values-entries_of [] = refl
@@ -73,7 +73,7 @@ module _ (names : List (List ℕ)) (made : List NumberedFile) (next : ℕ) (plac
       pub index-within : i < length names
       index-within = let found = Found-position (same_name name) entries i (there (Some i) is) in omega (arith, found.within, length-entries_in)
 
-      pub file_at-found : (m : NumberedFile) → m ≡ get_or made i m → file_at (files_in names made) name ≡ Some m.file
+      pub file_at-found : (m : NumberedFile) → m ≡ get_or made i m → file_at (files_in names made) name ≡ Some m.file.value
       file_at-found m at =
           let found = Found-position (same_name name) entries i (there (Some i) is) in
           let first = take (length names) made in
@@ -92,55 +92,62 @@ module _ (names : List (List ℕ)) (made : List NumberedFile) (next : ℕ) (plac
   has_file-named : (name : List ℕ) → has_file (files_in names made) name ≡ list_any (same_name name) names
   has_file-named name = has_file-made entries next placed.kept name ∙ sym (any-lookup (same_name name) entries) ∙ ap (list_any (same_name name)) (sym placed.named)
 
-  -- a new file goes last
-  module _ (f : File) (new : has_file (files_in names made) f.name ≡ false) (room : length names < length made) where
-    abbrev last : NumberedFile
-    last = record { file = f; number = next }
+-- a new file goes last
+module _ (names : List (List ℕ)) (made : List NumberedFile) (last : NumberedFile) (placed : AreInPlace names made last.number) (new : has_file (files_in names made) last.file.value.name ≡ false)
+    (room : length names < length made) where
+  abbrev f : File
+  f = last.file.value
 
-    entries_in-put : entries_in (names ++ f.name ∷ []) (set made (length names) last) ≡ entries ++ (f.name, last) ∷ []
-    entries_in-put =
-        ap (λ n. entries_of (take n (set made (length names) last))) (length-append names (f.name ∷ []))
-        ∙ ap entries_of (take_more_set made (length names) last room)
-        ∙ map-append entry_of (take (length names) made) (last ∷ [])
+  abbrev es : List (List ℕ × NumberedFile)
+  es = entries_in names made
 
-    pub AreInPlace-put : AreInPlace (names ++ f.name ∷ []) (set made (length names) last) (next + 1)
-    AreInPlace-put = record {
-      within = omega (arith, room, length-append names (f.name ∷ []), length-set made (length names) last);
-      named =
-          ap (λ ns. ns ++ f.name ∷ []) placed.named
-          ∙ sym (map-append (λ (e : List ℕ × NumberedFile). e.0) entries ((f.name, last) ∷ []))
-          ∙ ap keys_of (sym entries_in-put);
-      kept = subst (λ es. AreKept es (next + 1)) (sym entries_in-put) (AreKept-append entries next placed.kept f new);
-    }
+  entries_in-put : entries_in (names ++ f.name ∷ []) (set made (length names) last) ≡ es ++ (f.name, last) ∷ []
+  entries_in-put =
+      ap (λ n. entries_of (take n (set made (length names) last))) (length-append names (f.name ∷ []))
+      ∙ ap entries_of (take_more_set made (length names) last room)
+      ∙ map-append entry_of (take (length names) made) (last ∷ [])
 
-    pub files_in-put : files_in (names ++ f.name ∷ []) (set made (length names) last) ≡ files_in names made ++ f ∷ []
-    files_in-put = ap files_made entries_in-put ∙ files_made-append entries next placed.kept f new
+  AreInPlace-put : AreInPlace (names ++ f.name ∷ []) (set made (length names) last) (last.number + 1)
+  AreInPlace-put = record {
+    within = omega (arith, room, length-append names (f.name ∷ []), length-set made (length names) last);
+    named =
+        ap (λ ns. ns ++ f.name ∷ []) placed.named
+        ∙ sym (map-append (λ (e : List ℕ × NumberedFile). e.0) es ((f.name, last) ∷ []))
+        ∙ ap keys_of (sym entries_in-put);
+    kept = subst (λ ds. AreKept ds (last.number + 1)) (sym entries_in-put) (AreKept-append es last placed.kept new);
+  }
+
+  files_in-put : files_in (names ++ f.name ∷ []) (set made (length names) last) ≡ files_in names made ++ f ∷ []
+  files_in-put = ap files_made entries_in-put ∙ files_made-append es last placed.kept new
 
 -- a new file, by the result of inserting its name into the set
-module _ (names keys : List (List ℕ)) (made : List NumberedFile) (next count : ℕ) (placed : AreInPlace names made next) (f : File) (m : NumberedFile) (len : count ≡ length names) (room : count < length made)
-    (added : true ≡ not (list_any (same_name f.name) names)) (put : keys ≡ insert_key same_name names f.name) (is : m ≡ record { file = f; number = next }) where
-  none : list_any (same_name f.name) names ≡ false
-  none = absent-from (list_any (same_name f.name) names) added
+module _ (names keys : List (List ℕ)) (made : List NumberedFile) (m : NumberedFile) (count : ℕ) (placed : AreInPlace names made m.number) (name : List ℕ) (len : count ≡ length names) (room : count < length made)
+    (added : true ≡ not (list_any (same_name name) names)) (put : keys ≡ insert_key same_name names name) (is : name ≡ m.file.value.name) where
+  none : list_any (same_name name) names ≡ false
+  none = absent-from (list_any (same_name name) names) added
 
-  pub new-inserted : has_file (files_in names made) f.name ≡ false
-  new-inserted = has_file-named names made next placed f.name ∙ none
+  pub new-inserted : has_file (files_in names made) name ≡ false
+  new-inserted = has_file-named names made m.number placed name ∙ none
 
-  more : keys ≡ names ++ f.name ∷ []
-  more = put ∙ ap (λ b. if b then names else names ++ f.name ∷ []) none
+  new : has_file (files_in names made) m.file.value.name ≡ false
+  new = ap (has_file (files_in names made)) (sym is) ∙ new-inserted
 
-  after : set made count m ≡ set made (length names) (record { file = f; number = next })
-  after = ap (λ n. set made n m) len ∙ ap (set made (length names)) is
+  more : keys ≡ names ++ m.file.value.name ∷ []
+  more = put ∙ ap (λ b. if b then names else names ++ name ∷ []) none ∙ ap (λ k. names ++ k ∷ []) is
+
+  after : set made count m ≡ set made (length names) m
+  after = ap (λ n. set made n m) len
 
   low : length names < length made
   low = omega (arith, len, room)
 
-  pub AreInPlace-inserted : AreInPlace keys (set made count m) (next + 1)
+  pub AreInPlace-inserted : AreInPlace keys (set made count m) (m.number + 1)
   AreInPlace-inserted =
-      subst (λ ks. AreInPlace ks (set made count m) (next + 1)) (sym more)
-      (subst (λ ms. AreInPlace (names ++ f.name ∷ []) ms (next + 1)) (sym after) (AreInPlace-put names made next placed f new-inserted low))
+      subst (λ ks. AreInPlace ks (set made count m) (m.number + 1)) (sym more)
+      (subst (λ ms. AreInPlace (names ++ m.file.value.name ∷ []) ms (m.number + 1)) (sym after) (AreInPlace-put names made m placed new low))
 
-  pub files_in-inserted : files_in keys (set made count m) ≡ files_in names made ++ f ∷ []
-  files_in-inserted = ap (λ ks. files_in ks (set made count m)) more ∙ ap (files_in (names ++ f.name ∷ [])) after ∙ files_in-put names made next placed f new-inserted low
+  pub files_in-inserted : files_in keys (set made count m) ≡ files_in names made ++ m.file.value ∷ []
+  files_in-inserted = ap (λ ks. files_in ks (set made count m)) more ∙ ap (files_in (names ++ m.file.value.name ∷ [])) after ∙ files_in-put names made m placed new low
 
 length-swap : {X : Type 0} (xs : List X) (i j : ℕ) → length (swap xs i j) ≡ length xs
 length-swap [] i j = refl

@@ -24,10 +24,10 @@ abbrev Entries : Type 0
 Entries = List (List ℕ × NumberedFile)
 
 abbrev file_in : NumberedFile → File
-file_in m = m.file
+file_in m = m.file.value
 
 abbrev IsUnderItsName : List ℕ × NumberedFile → Type 0
-IsUnderItsName e = e.0 ≡ e.1.file.name
+IsUnderItsName e = e.0 ≡ e.1.file.value.name
 
 -- one file after another
 
@@ -70,11 +70,11 @@ length-numbered_from n (m ∷ ms) = ap suc (length-numbered_from (suc n) ms)
 
 keys-numbered_from : (n : ℕ) (ms : List NumberedFile) → keys_of (entries_of (numbered_from n ms)) ≡ keys_of (entries_of ms)
 keys-numbered_from n [] = refl
-keys-numbered_from n (m ∷ ms) = ap (λ ks. m.file.name ∷ ks) (keys-numbered_from (suc n) ms)
+keys-numbered_from n (m ∷ ms) = ap (λ ks. m.file.value.name ∷ ks) (keys-numbered_from (suc n) ms)
 
 files-numbered_from : (n : ℕ) (ms : List NumberedFile) → things_in file_in (entries_of (numbered_from n ms)) ≡ things_in file_in (entries_of ms)
 files-numbered_from n [] = refl
-files-numbered_from n (m ∷ ms) = ap (λ fs. m.file ∷ fs) (files-numbered_from (suc n) ms)
+files-numbered_from n (m ∷ ms) = ap (λ fs. m.file.value ∷ fs) (files-numbered_from (suc n) ms)
 
 keyed-entries_of : (ms : List NumberedFile) → AllByRecursion IsUnderItsName (entries_of ms)
 keyed-entries_of [] = tt

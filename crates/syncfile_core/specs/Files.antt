@@ -43,19 +43,19 @@ number_of e = e.1.number
 
 -- the files of such entries, in order of making
 abbrev pub files_made : List (List ℕ × NumberedFile) → List File
-files_made es = things_in (λ m. m.file) (by_number number_of es)
+files_made es = things_in (λ m. m.file.value) (by_number number_of es)
 
 -- each file is stored under its own name, names and numbers are distinct, and the next number is greater than all of
 -- them
 pub record AreKept (es : List (List ℕ × NumberedFile)) (next : ℕ) : Type 0 where
-  pub keyed : All (λ e. e.0 ≡ e.1.file.name) es
+  pub keyed : All (λ e. e.0 ≡ e.1.file.value.name) es
   pub distinct : IsDistinct same_name (keys_of es)
   pub numbered : IsDistinct nat_eq (map number_of es)
   pub below : All (λ e. number_of e < next) es
 
 -- a file with its serial number, under its name
 abbrev pub entry_of : NumberedFile → List ℕ × NumberedFile
-entry_of m = (m.file.name, m)
+entry_of m = (m.file.value.name, m)
 
 abbrev pub entries_of : List NumberedFile → List (List ℕ × NumberedFile)
 entries_of made = map entry_of made
@@ -75,4 +75,4 @@ pub record AreInPlace (names : List (List ℕ)) (made : List NumberedFile) (next
 
 -- the name of a file, and its serial number
 abbrev pub numbered_name_of : NumberedFile → NumberedName
-numbered_name_of m = record { name = m.file.name; number = m.number }
+numbered_name_of m = record { name = m.file.value.name; number = m.number }

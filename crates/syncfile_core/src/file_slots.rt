@@ -20,10 +20,10 @@ use point_core::{Hints, LimitKind, Name, Refusal};
 use std::alloc::{AllocError, Global};
 use std::marker::Model;
 
-/// A file, and its serial number.
+/// A file, and its serial number. The file is in a box, so that little is moved when a file is closed.
 #[derive(Drop)]
 pub(crate) struct NumberedFile {
-    file: SyncFile,
+    file: Box<SyncFile>,
     number: u64,
 }
 
@@ -251,18 +251,19 @@ fn note_at(hints: &mut Hints, names: &IndexSet<Name>, index: usize) {
 }
 
 impl NumberedFile {
-    // A new slot, for when none is left to reuse: empty, at number 0, until `take_up` fills it. Does not allocate.
-    fn blank(alloc: Global, name: Name) -> NumberedFile {
-        NumberedFile {
-            file: SyncFile::blank(alloc, name),
-            number: 0,
-        }
+    // A new slot, for when none is left to reuse: empty, at number 0, until `take_up` fills it. It is a function of its own,
+    // so that a slot that is reused does not pay for it.
+    #[inline(never)]
+    fn blank(alloc: Global, name: Name) -> Result<NumberedFile, AllocError> {
+        let file = Box::new(alloc, SyncFile::blank(alloc, name))?;
+        Ok(NumberedFile { file, number: 0 })
     }
 
     // Turns the slot into the draft's file.
     fn take_up(&mut self, name: Name, draft: &mut Draft, number: u64)
         requires rising { HasRisingContexts draft.old.points.items }
-        ensures made { self.new ≡ record { file = drafted name draft.old; number = number } }
+        ensures file { self.new.file.value ≡ drafted name draft.old }
+        ensures number { self.new.number ≡ number }
     {
         self.file.take_up(name, draft);
         self.number = number;
@@ -286,10 +287,8 @@ fn add_place(
     if count < made.len() {
         return Ok(());
     }
-    match made.push(NumberedFile::blank(alloc, name)) {
-        Ok(()) => Ok(()),
-        Err(_) => Err(AllocError),
-    }
+    made.push(NumberedFile::blank(alloc, name)?)?;
+    Ok(())
 }
 
 /// The serial number of the next file. If `next` is the greatest number, the files are first renumbered, in order of
