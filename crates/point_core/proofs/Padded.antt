@@ -123,18 +123,20 @@ digits-joined n xs ys m is long as_long few fit as_fit =
     let whole : m ≡ number_l 256 (xs ++ ys) = is ∙ ap (λ k. number_l 256 xs + 2 ^ (8 * k) * number_l 256 ys) (sym long) ∙ sym (number-append xs ys) in
     ap (digits_l 256 16) whole ∙ digits-number 16 (xs ++ ys) (omega (arith, length-append xs ys, long, as_long)) (append-bytes xs ys (each-bytes xs fit) (each-bytes ys as_fit))
 
--- half of the lanes, and zeros; and two halves of the lanes
+-- half of the lanes, and zeros; and two halves of the lanes, of which the first is full
 pub padded-front : (xs : List ℕ) → length xs ≤ 16 → half_padded xs ++ replicate 16 0 ≡ padded xs
 padded-front xs few =
     let zeros : 16 - length xs + 16 ≡ 32 - length xs = omega arith in
     append_assoc xs (replicate (16 - length xs) 0) (replicate 16 0)
     ∙ ap (λ rest. xs ++ rest) (replicate-append-replicate (16 - length xs) 16 0) ∙ ap (λ n. xs ++ replicate n 0) zeros
 
-pub padded-halves : (xs : List ℕ) → 16 ≤ length xs → length xs ≤ 32 → half_padded (take 16 xs) ++ half_padded (take (length xs - 16) (drop 16 xs)) ≡ padded xs
+pub full-front : (xs : List ℕ) → 16 ≤ length xs → take 16 xs ≡ half_padded (take 16 xs)
+full-front xs least = sym (ap (λ n. take 16 xs ++ replicate (16 - n) 0) (length-take-le 16 xs least) ∙ append-nil (take 16 xs))
+
+pub padded-halves : (xs : List ℕ) → 16 ≤ length xs → length xs ≤ 32 → take 16 xs ++ half_padded (take (length xs - 16) (drop 16 xs)) ≡ padded xs
 padded-halves xs least most =
-    let front : half_padded (take 16 xs) ≡ take 16 xs = ap (λ n. take 16 xs ++ replicate (16 - n) 0) (length-take-le 16 xs least) ∙ append-nil (take 16 xs) in
     let zeros : 16 - length (drop 16 xs) ≡ 32 - length xs = omega (arith, length-drop 16 xs) in
-    (λ i. front i ++ half_padded (take_rest xs 16 i))
+    ap (λ rest. take 16 xs ++ half_padded rest) (take_rest xs 16)
     ∙ sym (append_assoc (take 16 xs) (drop 16 xs) (replicate (16 - length (drop 16 xs)) 0))
     ∙ (λ i. take-append-drop 16 xs i ++ replicate (zeros i) 0)
 

@@ -87,7 +87,7 @@ impl Name {
         ensures valid { IsSome result ↔ IsName bytes.now }
         ensures value { IfSome result (λ name. name ≡ bytes.now) }
     {
-        let front = few_lanes(&bytes[..FEW_BYTES]);
+        let front = u8x16::from_slice(bytes);
         let back = few_lanes(&bytes[FEW_BYTES..]);
         if !are_name_bytes(&bytes[..FEW_BYTES], front)
             || !are_name_bytes(&bytes[FEW_BYTES..], back)

@@ -1,6 +1,6 @@
-use Rattle.std.proofs.Common.{◌++◌, sym, ◌∙◌, true≢false, arith}
+use Rattle.std.proofs.Common.{◌++◌, take, ap, sym, ◌∙◌, true≢false, arith}
 use Rattle.point_core.proofs.Marked.{front-allowed, back-allowed, both-allowed}
-use Rattle.point_core.proofs.Padded.{padded-halves}
+use Rattle.point_core.proofs.Padded.{full-front, padded-halves}
 use Rattle.point_core.proofs.name.Name.read_many.Goals.{then-not-are_name_bytes-via-then-not-are_name_bytes, then-not-are_name_bytes-via-else-not-are_name_bytes+then-not-are_name_bytes-2}
 use Rattle.point_core.proofs.name.Name.read_many.Goals as goal
 
@@ -27,6 +27,10 @@ in_lanes-requires-clause-name c = (
       (sym c.are_name_bytes-else-not-are_name_bytes.ensures ∙ c.if-not-are_name_bytes-2.false),
 )
 
+pub are_name_bytes-requires-clause-lanes : goal.are_name_bytes-requires-clause-lanes
+are_name_bytes-requires-clause-lanes c = full-front c.args.bytes.now (omega (arith, c.requires.least))
+
 pub in_lanes-requires-clause-lanes : goal.in_lanes-requires-clause-lanes
 in_lanes-requires-clause-lanes c =
-    (λ i. c.few_lanes-front.ensures i ++ c.few_lanes-back.ensures i) ∙ padded-halves c.args.bytes.now (omega (arith, c.requires.least)) (omega (arith, c.requires.most))
+    ap (λ back. take 16 c.args.bytes.now ++ back) c.few_lanes-back.ensures
+    ∙ padded-halves c.args.bytes.now (omega (arith, c.requires.least)) (omega (arith, c.requires.most))
