@@ -2,6 +2,7 @@ pub mod Answer
 pub mod Bytes
 pub mod Columns
 pub mod LineEnd
+pub mod Room
 pub mod RowKind
 pub mod Row
 pub mod Settled

@@ -2,6 +2,7 @@
 ghost use Rattle.std.specs.Prelude.{◌≡◌, ◌++◌, ◌+◌, ◌/◌, ◌%◌, ◌<◌, ◌≤◌, ◌∷◌, [], OnOk, OnErr, Err, decimal, length};
 ghost use Rattle.std.specs.Prelude.{vec_len, vec_capacity};
 ghost use Rattle.report_core.specs.declared.number_line.TheConstants.{PAIRS};
+ghost use Rattle.report_core.specs.Room.{AppendsInRoom};
 ghost use Rattle.point_core.specs.declared.refusal.Refusal.TheVariants.{Memory};
 
 use crate::rows::{KIND_WIDTH, NUMBER_WIDTH};
@@ -39,9 +40,7 @@ pub fn push_numbered(word: &[u8], number: u64, out: &mut Vec<u8>) -> Result<(), 
 #[inline(always)]
 fn push_digits(number: u64, out: &mut Vec<u8>)
     requires { vec_len out.old + NUMBER_WIDTH ≤ vec_capacity out.old }
-    ensures items { out.new.items ≡ out.old.items ++ decimal number }
-    ensures len { vec_len out.new ≤ vec_len out.old + NUMBER_WIDTH }
-    ensures capacity { vec_capacity out.new ≡ vec_capacity out.old }
+    ensures number { AppendsInRoom out.old out.new (decimal number) NUMBER_WIDTH }
 {
     if number < PAIRS {
         return push_few(number, out);
@@ -58,9 +57,7 @@ fn push_digits(number: u64, out: &mut Vec<u8>)
 fn push_few(number: u64, out: &mut Vec<u8>)
     requires few { number < PAIRS }
     requires room { vec_len out.old + 2 ≤ vec_capacity out.old }
-    ensures items { out.new.items ≡ out.old.items ++ decimal number }
-    ensures len { vec_len out.new ≤ vec_len out.old + 2 }
-    ensures capacity { vec_capacity out.new ≡ vec_capacity out.old }
+    ensures number { AppendsInRoom out.old out.new (decimal number) 2 }
 {
     if number < 10 {
         return out.push_reserved(b'0' + number as u8);
@@ -73,9 +70,7 @@ fn push_few(number: u64, out: &mut Vec<u8>)
 fn push_pair(number: u64, out: &mut Vec<u8>)
     requires few { number < PAIRS }
     requires room { vec_len out.old + 2 ≤ vec_capacity out.old }
-    ensures items { out.new.items ≡ out.old.items ++ (48 + number / 10) ∷ (48 + number % 10) ∷ [] }
-    ensures len { vec_len out.new ≡ vec_len out.old + 2 }
-    ensures capacity { vec_capacity out.new ≡ vec_capacity out.old }
+    ensures digits { AppendsInRoom out.old out.new ((48 + number / 10) ∷ (48 + number % 10) ∷ []) 2 }
 {
     out.push_reserved(b'0' + (number / 10) as u8);
     out.push_reserved(b'0' + (number % 10) as u8);
@@ -85,9 +80,7 @@ fn push_pair(number: u64, out: &mut Vec<u8>)
 #[inline(never)]
 fn push_many(number: u64, out: &mut Vec<u8>)
     requires { vec_len out.old + NUMBER_WIDTH ≤ vec_capacity out.old }
-    ensures items { out.new.items ≡ out.old.items ++ decimal number }
-    ensures len { vec_len out.new ≤ vec_len out.old + NUMBER_WIDTH }
-    ensures capacity { vec_capacity out.new ≡ vec_capacity out.old }
+    ensures number { AppendsInRoom out.old out.new (decimal number) NUMBER_WIDTH }
 {
     let mut digits = [0; NUMBER_WIDTH];
     let start = write_digits(number, &mut digits, NUMBER_WIDTH);
