@@ -1,5 +1,5 @@
 -- Two lists of points by rising context, read as one.
-use Rattle.std.proofs.Common.{◌≡◌, ℕ, ◌+◌, ◌-◌, ◌<◌, ◌≤◌, refl, sym, ap, ◌∙◌, subst, List, [], ◌∷◌, ◌++◌, ◌≢◌, min, max, nat_lt, Bool, true, false, not, length, length-append, append_assoc, append-nil, map, arith, All, get_or, take, drop, if◌then◌else◌, inl, inr, ◌⊎◌}
+use Rattle.std.proofs.Common.{◌≡◌, ℕ, ◌+◌, ◌-◌, ◌<◌, ◌≤◌, refl, sym, ap, ◌∙◌, subst, List, [], ◌∷◌, ◌++◌, ◌≢◌, min, max, nat_lt, not, length, length-append, append_assoc, append-nil, map, arith, All, get_or, take, drop, if◌then◌else◌, inl, inr, ◌⊎◌}
 use Rattle.std.proofs.lemmas.Bool.{cases_lt, lt-ltb, le-ltb}
 use Rattle.std.proofs.lemmas.List.{drop_more, take_all, length-drop}
 use mir.Val.{bool_byte}
@@ -224,10 +224,6 @@ HasRoomFor-rest reach p ps points capacity h has =
       room = omega (arith, h.room, more);
     }
 
-pub is_few : (b : Bool) → bool_byte b ≤ 1
-is_few true = omega arith
-is_few false = omega arith
-
 pub HasRoomFor-left : {reach : List ℕ} {all others points left right : List Point} (capacity : ℕ) → HasMerged reach all others points left right → min (length all + length others) CONTEXTS ≤ capacity → HasRoomFor left points capacity
 HasRoomFor-left capacity h room = record { next = h.next; few = h.few; from = h.from.0; rising = h.risings.0; room = omega (arith, h.room, room) }
 
@@ -246,23 +242,28 @@ IsFirstOf-later p q value ps qs has same is = elim (cases_lt p.value q.value) [
       subst (λ r. IsFirstOf r ps qs (p ∷ ps) (q ∷ qs)) (ap (point_of p.ctx) (sym later)) (IsFirstOf-left_covers p q ps qs has same low)
 ]
 
--- the lists start with two contexts: the point of the lower one, and the indices after it
-pub HasMerged-lower : {reach : List ℕ} {all others points : List Point} (left right : List Point) (i j : ℕ) (p q : Point) (next : ℕ × ℕ) (more_left more_right : ℕ) → IsPartedAt p (drop (i + 1) left) (drop i left) → IsPartedAt q (drop (j + 1) right) (drop j right) → p.ctx ≢ q.ctx → next ≡ (if nat_lt p.ctx q.ctx then (p.ctx, p.value) else (q.ctx, q.value)) → more_left ≡ bool_byte (nat_lt p.ctx q.ctx) → more_right ≡ bool_byte (not (nat_lt p.ctx q.ctx)) → HasMerged reach all others points (drop i left) (drop j right) → HasMerged reach all others (with_above reach (point_of next.0 next.1) points) (drop (i + more_left) left) (drop (j + more_right) right)
-HasMerged-lower {reach} {all} {others} {points} left right i j p q next more_left more_right here there apart is is_left is_right before = elim (cases_lt p.ctx q.ctx) [
-  | inl low ↦
-      let test = lt-ltb p.ctx q.ctx low in
-      let after : HasMerged reach all others (with_above reach p points) (drop (i + 1) left) (drop j right) =
-      HasMerged-above reach p points before (rw (here.parts, there.parts) (IsFirstOf-left p (drop (i + 1) left) (q ∷ drop (j + 1) right) here.context (AllFrom-later p.ctx q (drop (j + 1) right) low))) in
-      let stay : j + 0 ≡ j = omega arith in
-      rw (is, is_left, is_right, test, stay) after
-  | inr high ↦
-      let test = le-ltb p.ctx q.ctx high in
-      let low : q.ctx < p.ctx = omega arith in
-      let after : HasMerged reach all others (with_above reach q points) (drop i left) (drop (j + 1) right) =
-      HasMerged-above reach q points before (rw (here.parts, there.parts) (IsFirstOf-right q (p ∷ drop (i + 1) left) (drop (j + 1) right) there.context (AllFrom-later q.ctx p (drop (i + 1) left) low))) in
-      let stay : i + 0 ≡ i = omega arith in
-      rw (is, is_left, is_right, test, stay) after
-]
+-- the lists start with one context: its later point, and the rests
+pub HasMerged-both : {reach : List ℕ} {all others points left right : List Point} (ps qs : List Point) (p q : Point) (value : ℕ) → IsPartedAt p ps left → IsPartedAt q qs right → p.ctx ≡ q.ctx → value ≡ max p.value q.value → HasMerged reach all others points left right → HasMerged reach all others (with_above reach (point_of p.ctx value) points) ps qs
+HasMerged-both {reach} {all} {others} {points} ps qs p q value here there same is before =
+    HasMerged-above reach (point_of p.ctx value) points (rw (here.parts, there.parts) at before) (IsFirstOf-later p q value ps qs here.context same is)
+
+-- the lists start with two contexts: the point of the lower one, and the lists after it
+pub HasMerged-lower : {reach : List ℕ} {all others points left right : List Point} (ps qs : List Point) (p q : Point) (next : ℕ × ℕ) (more_left more_right : ℕ) → IsPartedAt p ps left → IsPartedAt q qs right → p.ctx ≢ q.ctx → next ≡ (if nat_lt p.ctx q.ctx then (p.ctx, p.value) else (q.ctx, q.value)) → more_left ≡ bool_byte (nat_lt p.ctx q.ctx) → more_right ≡ bool_byte (not (nat_lt p.ctx q.ctx)) → HasMerged reach all others points left right → HasMerged reach all others (with_above reach (point_of next.0 next.1) points) (drop more_left left) (drop more_right right)
+HasMerged-lower {reach} {all} {others} {points} ps qs p q next more_left more_right here there apart is is_left is_right before =
+    let whole = rw (here.parts, there.parts) at before in
+    elim (cases_lt p.ctx q.ctx) [
+      | inl low ↦
+          let after : HasMerged reach all others (with_above reach p points) ps (q ∷ qs) = HasMerged-above reach p points whole (IsFirstOf-left p ps (q ∷ qs) here.context (AllFrom-later p.ctx q qs low)) in
+          rw (here.parts, there.parts, is, is_left, is_right, lt-ltb p.ctx q.ctx low) after
+      | inr high ↦
+          let low : q.ctx < p.ctx = omega arith in
+          let after : HasMerged reach all others (with_above reach q points) (p ∷ ps) qs = HasMerged-above reach q points whole (IsFirstOf-right q (p ∷ ps) qs there.context (AllFrom-later q.ctx p ps low)) in
+          rw (here.parts, there.parts, is, is_left, is_right, le-ltb p.ctx q.ctx high) after
+    ]
+
+-- what is lent of two lists from an index on
+pub HasMerged-lent : {reach : List ℕ} {all others points : List Point} (left right : List Point) (i j : ℕ) → HasMerged reach all others points (drop i left) (drop j right) → HasMerged reach all others points (take (length left - i) (drop i left)) (take (length right - j) (drop j right))
+HasMerged-lent left right i j h = rw (all-of_rest left i, all-of_rest right j) h
 
 -- one list is left
 pub HasMerged-all_left : {reach : List ℕ} {all others : List Point} (left points : List Point) → HasContexts (as_entries left) → HasMerged reach all others points left [] → HasMerged reach all others (with_all_above reach left points) [] []
@@ -277,12 +278,10 @@ HasMerged-all_right {reach} (p ∷ ps) points within h =
     HasMerged-all_right ps (with_above reach p points) (All-tail has_context (as_entry p) (as_entries ps) within)
     (HasMerged-above reach p points h (IsFirstOf-right p [] ps (All-head has_context (as_entry p) (as_entries ps) within) (λ _. AllFrom-nil (p.ctx + 1))))
 
-pub HasMerged-end_left : {reach : List ℕ} {all others points : List Point} (left right rest : List Point) → HasMerged reach all others points left right → (left ≡ []) ⊎ (right ≡ []) → 0 < length left → rest ≡ left → HasContexts (as_entries rest) → HasMerged reach all others (with_all_above reach rest points) [] []
-HasMerged-end_left left right rest h (inl none) some is within = let zero = ap length none in absurd (omega arith)
-HasMerged-end_left {reach} {all} {others} {points} left right rest h (inr none) some is within = HasMerged-all_left rest points within (rw (sym is, none) at h)
-
-pub HasMerged-end_right : {reach : List ℕ} {all others points : List Point} (left right rest : List Point) → HasMerged reach all others points left right → left ≡ [] → rest ≡ right → HasContexts (as_entries rest) → HasMerged reach all others (with_all_above reach rest points) [] []
-HasMerged-end_right {reach} {all} {others} {points} left right rest h none is within = HasMerged-all_right rest points within (rw (sym is, none) at h)
+-- one list is empty: after the points of the first, only the second is left
+pub HasMerged-first : {reach : List ℕ} {all others points : List Point} (left right : List Point) → (left ≡ []) ⊎ (right ≡ []) → HasContexts (as_entries left) → HasMerged reach all others points left right → HasMerged reach all others (with_all_above reach left points) [] right
+HasMerged-first {reach} {all} {others} {points} left right (inl none) within h = rw none (rw none at h)
+HasMerged-first {reach} {all} {others} {points} left right (inr none) within h = rw none (HasMerged-all_left left points within (rw none at h))
 
 -- both lists are empty
 pub merged-HasMerged : {reach : List ℕ} {all others points : List Point} → HasMerged reach all others points [] [] → points ≡ merged reach all others

@@ -10,6 +10,7 @@ use crate::entry::Point;
 use crate::reach::Reach;
 use crate::refusal::Refusal;
 use std::alloc::Global;
+use std::mem::replace;
 
 /// The pending points of two lists by rising context, as `canon` gives them for both together. The cost grows with the
 /// points, not with `CONTEXTS`.
@@ -26,9 +27,8 @@ pub fn merged(
     // The type of a context implies it for each point.
     ensures contexts { IfOk result (λ ps. HasContexts (as_entries left.now) × HasContexts (as_entries right.now)) }
 {
-    let count = most_merged(left, right);
-    let mut points = Vec::with_capacity(alloc, count)?;
-    push_pending(&mut points, left, right, reach);
+    let mut points = Vec::new(alloc);
+    merge_into(&mut points, left, right, reach)?;
     Ok(points)
 }
 
@@ -48,7 +48,12 @@ pub fn merge_into(
 {
     points.clear();
     points.reserve_exact(most_merged(left, right))?;
-    push_pending(points, left, right, reach);
+
+    // A list that nobody else can reach has its length and address in registers.
+    let none = Vec::new(*points.allocator());
+    let mut list = replace(points, none);
+    push_pending(&mut list, left, right, reach);
+    *points = list;
     Ok(())
 }
 
@@ -62,8 +67,8 @@ fn most_merged(left: &[Point], right: &[Point]) -> usize
 /// Pushes the pending points of two lists into an empty list that has room for them.
 ///
 /// No processor foresees which list has the lower context, so a step branches only on whether both have the same one.
-/// The other choices are selects, which LLVM makes of values that are both read, and of places; of the greater value it
-/// makes a branch if the loop shortens one list or the other.
+/// The other choices are selects: of values that are both read, and of where each list goes on.
+#[inline(always)]
 fn push_pending(points: &mut Vec<Point>, left: &[Point], right: &[Point], reach: &Reach)
     requires empty { points.old.items ≡ [] }
     requires room { min (length left.now + length right.now) CONTEXTS ≤ vec_capacity points.old }
@@ -71,48 +76,37 @@ fn push_pending(points: &mut Vec<Point>, left: &[Point], right: &[Point], reach:
     ensures merged { points.new.items ≡ merge_of reach.now left.now right.now }
     ensures contexts { HasContexts (as_entries left.now) × HasContexts (as_entries right.now) }
 {
-    let mut i = 0;
-    let mut j = 0;
-    while let Some((p, q)) = both_at(left, i, right, j) {
+    let mut ps = left;
+    let mut qs = right;
+    while let Some((p, q)) = both_first(ps, qs) {
         let (left_number, right_number) = (p.ctx.number(), q.ctx.number());
         if left_number == right_number {
             push_above(points, p.ctx, p.value.max(q.value), reach);
-            i += 1;
-            j += 1;
+            ps = &ps[1..];
+            qs = &qs[1..];
         } else {
             let is_left = left_number < right_number;
             let (ctx, value) = lower(p, q);
             push_above(points, ctx, value, reach);
-            i += usize::from(is_left);
-            j += usize::from(!is_left);
+            ps = &ps[usize::from(is_left)..];
+            qs = &qs[usize::from(!is_left)..];
         }
     }
-    let rest = if i < left.len() {
-        &left[i..]
-    } else {
-        &right[j..]
-    };
-    push_rest(points, rest, reach);
+    push_rest(points, ps, reach);
+    push_rest(points, qs, reach);
 }
 
-/// The points at index `i` of `left` and `j` of `right`, if both lists have one there.
+/// The first points of two lists, if both have one.
 #[inline(always)]
-fn both_at<'a>(
-    left: &'a [Point],
-    i: usize,
-    right: &'a [Point],
-    j: usize,
-) -> Option<(&'a Point, &'a Point)>
+fn both_first<'a>(left: &'a [Point], right: &'a [Point]) -> Option<(&'a Point, &'a Point)>
     ensures parts { MatchOption result
-        ((drop i left.now ≡ []) ⊎ (drop j right.now ≡ []))
-        (λ (p, q). IsPartedAt p.now (drop (i + 1) left.now) (drop i left.now)
-        × IsPartedAt q.now (drop (j + 1) right.now) (drop j right.now)) }
-    ensures within { IfSome result (λ (p, q). (i < length left.now) × (j < length right.now)) }
+        ((left.now ≡ []) ⊎ (right.now ≡ []))
+        (λ (p, q). IsPartedAt p.now (drop 1 left.now) left.now × IsPartedAt q.now (drop 1 right.now) right.now) }
 {
-    if i >= left.len() || j >= right.len() {
+    if left.is_empty() || right.is_empty() {
         return None;
     }
-    let (p, q) = (&left[i], &right[j]);
+    let (p, q) = (&left[0], &right[0]);
     prove!(p.ctx.number() >= 1 && usize::from(p.ctx.number()) <= CONTEXTS);
     prove!(q.ctx.number() >= 1 && usize::from(q.ctx.number()) <= CONTEXTS);
     Some((p, q))
@@ -132,9 +126,11 @@ fn lower(p: &Point, q: &Point) -> (Context, u64)
 }
 
 /// Pushes the pending points of `rest` into the list, which has room for them.
+#[inline(always)]
 fn push_rest(points: &mut Vec<Point>, rest: &[Point], reach: &Reach)
     requires room { HasRoomFor rest.now points.old.items (vec_capacity points.old) }
     ensures pushed { points.new.items ≡ with_all_above reach.now rest.now points.old.items }
+    ensures capacity { vec_capacity points.new ≡ vec_capacity points.old }
     ensures contexts { HasContexts (as_entries rest.now) }
 {
     for point in rest {

@@ -1,14 +1,13 @@
-use Rattle.std.proofs.Common.{◌+◌, ◌≤◌, ◌-◌, min, length, drop, vec_capacity}
+use Rattle.std.proofs.Common.{◌+◌, ◌≤◌, min, length, vec_capacity}
 use Rattle.point_core.specs.declared.context.TheConstants.{CONTEXTS}
 use Rattle.point_core.proofs.TwoLists.{HasMerged}
 use Rattle.point_core.proofs.merging.push_pending.Given as goal
 
 abbrev pub invariant-loop-p : goal.invariant-loop-p
 invariant-loop-p l = record {
-  merged : HasMerged l.reach l.left l.right l.points.items (drop l.i l.left) (drop l.j l.right);
+  merged : HasMerged l.reach l.left l.right l.points.items l.ps l.qs;
   room : min (length l.left + length l.right) CONTEXTS ≤ vec_capacity l.points;
-  within : (l.i ≤ length l.left) × (l.j ≤ length l.right);
 }
 
 abbrev pub decreases-loop-p : goal.decreases-loop-p
-decreases-loop-p l = (length l.left - l.i) + (length l.right - l.j)
+decreases-loop-p l = length l.ps + length l.qs

@@ -27,6 +27,7 @@ loop-point-preserved c =
           ap (with_all_above reach rest) told.pushed
           ∙ sym (ap (λ qs. with_all_above reach qs points) step)
           ∙ c.loop-point.invariant.pushed;
+      capacity = told.capacity ∙ c.loop-point.invariant.capacity;
       room = rw (told.pushed, told.capacity) (HasRoomFor-rest reach p rest points (vec_capacity c.loop-point.points) (rw step at c.loop-point.invariant.room) told.context);
       contexts = HasContexts-take_more c.args.rest.now i p c.loop-point-test.true c.point-item.is told.context c.loop-point.invariant.contexts;
     }
