@@ -192,10 +192,11 @@ impl ScriptLines {
             → HasEnded before (R.remaining reader.new) self.new ending given) }
         ensures turns { result ≡ None → turns_to_come self.new < turns_to_come self.old }
     {
-        let room = (SCRIPT_BYTES + 1 - self.read).min(BLOCK_BYTES);
-        if room == 0 {
+        // What is tested is not the room: in some programs LLVM then took a read of no bytes for a read of some.
+        if self.read > SCRIPT_BYTES {
             return Some(Ending::TooLong);
         }
+        let room = (SCRIPT_BYTES + 1 - self.read).min(BLOCK_BYTES);
         self.marks = None;
         self.scan = no_scan();
         match reader.read(&mut self.block[..room]) {

@@ -8,11 +8,11 @@ use Rattle.line_core.proofs.Blocks.{line-kept, ready-read, Consumes-none}
 use Rattle.line_core.proofs.GivenLines.{Given-read, Given-end, Ended-same}
 use Rattle.line_core.proofs.script_lines.ScriptLines.read.Goals as goal
 
-pub returns-then-room-eq0-clause-ended : goal.returns-then-room-eq0-clause-ended
-returns-then-room-eq0-clause-ended g c before given p =
+pub returns-then-self-gt-SCRIPT_BYTES-clause-ended : goal.returns-then-self-gt-SCRIPT_BYTES-clause-ended
+returns-then-self-gt-SCRIPT_BYTES-clause-ended g c before given p =
     let old = c.args.self.now in
     let read = ap (λ s. s.read) c.self.view_is in
-    Given-end before _ old given p _ ending.TooLong c.requires.drained p.consumed (omega (arith, p.read, p.few, read, c.min-room.ensures, c.if-room-eq0.true))
+    Given-end before _ old given p _ ending.TooLong c.requires.drained p.consumed (omega (arith, p.read, p.few, read, c.if-self-gt-SCRIPT_BYTES.true))
 
 pub returns-in-Ok-eq0-clause-ended : goal.returns-in-Ok-eq0-clause-ended
 returns-in-Ok-eq0-clause-ended g c before given p =
@@ -21,8 +21,8 @@ returns-in-Ok-eq0-clause-ended g c before given p =
     let zero : count ≡ 0 = c.in-Ok-eq0.field-0-test in
     let begun = ap (λ s. s.ended) c.self.view_is ∙ c.requires.drained.0 in
     let line = line-kept inside.cutter.bytes inside.block (c.read.new.buf ++ post_of 0 c.min-room.result inside.block) inside.start inside.length (c.self.invariant.0.begun begun) ∙ ap (λ s. s.line) c.self.view_is in
-    let some : 0 < length c.read.new.buf = omega (arith, c.read.auto.buf, c.min-room.ensures, c.if-room-eq0.false, length-take c.min-room.result inside.block, c.self.told) in
-    let few : length p.bytes ≤ SCRIPT_BYTES = omega (arith, p.read, ap (λ s. s.read) c.self.view_is, c.min-room.ensures, c.if-room-eq0.false, c.self.invariant.0.few) in
+    let some : 0 < length c.read.new.buf = omega (arith, c.read.auto.buf, c.min-room.ensures, c.if-self-gt-SCRIPT_BYTES.false, length-take c.min-room.result inside.block, c.self.told) in
+    let few : length p.bytes ≤ SCRIPT_BYTES = omega (arith, p.read, ap (λ s. s.read) c.self.view_is, c.min-room.ensures, c.if-self-gt-SCRIPT_BYTES.false, c.self.invariant.0.few) in
     let consumed = Consumes-none _ _ _ p.bytes (take count c.read.new.buf) p.consumed c.in-Ok-eq0.ensures.bytes.0 (ap (λ n. take n c.read.new.buf) zero) in
     Ended-same before _ c.args.self.now _ ending.Whole given (Given-end before _ c.args.self.now given p _ ending.Whole c.requires.drained consumed (few, c.in-Ok-eq0.ensures.bytes.1 zero some)) (ap (λ s. s.number) c.self.view_is) line (ap (λ s. s.length) c.self.view_is)
 
@@ -31,7 +31,7 @@ returns-in-Err-clause-ended g c before given p =
     let inside = c.self.inside in
     let begun = ap (λ s. s.ended) c.self.view_is ∙ c.requires.drained.0 in
     let line = line-kept inside.cutter.bytes inside.block (c.read.new.buf ++ post_of 0 c.min-room.result inside.block) inside.start inside.length (c.self.invariant.0.begun begun) ∙ ap (λ s. s.line) c.self.view_is in
-    let few : length p.bytes ≤ SCRIPT_BYTES = omega (arith, p.read, ap (λ s. s.read) c.self.view_is, c.min-room.ensures, c.if-room-eq0.false, c.self.invariant.0.few) in
+    let few : length p.bytes ≤ SCRIPT_BYTES = omega (arith, p.read, ap (λ s. s.read) c.self.view_is, c.min-room.ensures, c.if-self-gt-SCRIPT_BYTES.false, c.self.invariant.0.few) in
     let consumed = Consumes-kept before _ _ p.bytes p.consumed c.in-Err.ensures.bytes in
     Ended-same before _ c.args.self.now _ ending.Failed given (Given-end before _ c.args.self.now given p _ ending.Failed c.requires.drained consumed few) (ap (λ s. s.number) c.self.view_is) line (ap (λ s. s.length) c.self.view_is)
 
