@@ -1,29 +1,15 @@
--- Points that are waited for are above the floor.
-use Rattle.std.proofs.Common.{◌≡◌, ◌≢◌, ◌↔◌, ℕ, ◌-◌, ◌<◌, ◌≤◌, ◌||◌, ◌&&◌, Bool, true, false, nat_eq, nat_le, min, max, refl, sym, ap, ◌∙◌, subst, List, [], length, Result, Ok, Err, OnOk, OnErr, is_ok, arith, inl, inr}
-use Rattle.std.specs.Prelude.{IsTrue}
-use Rattle.std.proofs.lemmas.Bool.{and_parts, cases_Bool, eqb-true, eq-eqb, false≢true, le-leb, leb-true, leb-false}
+-- Points that are waited for are above the reach.
+use Rattle.std.proofs.Common.{◌≡◌, ◌≢◌, ℕ, ◌<◌, ◌≤◌, ◌||◌, ◌&&◌, Bool, true, false, nat_eq, nat_le, max, refl, sym, ap, ◌∙◌, subst, List, [], length, Result, Ok, Err, OnOk, OnErr, is_ok, arith, inl, inr}
+use Rattle.std.proofs.lemmas.Bool.{and_parts, and_from, cases_Bool, cases_lt, eqb-true, eq-eqb, false≢true, le-leb, leb-true, leb-false}
 use Rattle.point_core.specs.declared.context.TheConstants.{CONTEXTS}
 use Rattle.point_core.specs.declared.entry.Point.{Point}
-use Rattle.point_core.specs.Reach.{value_at, with_value, reaching, is_reached, IsAtLeast}
+use Rattle.point_core.specs.Reach.{value_at, reaching, is_reached, IsAtLeast}
 use Rattle.point_core.proofs.Values.{value_at-with_value_same, value_at-with_value_other, later_values-is, later_values-at_least, IsAtLeast-at}
 use Rattle.fence_core.specs.declared.watches.point_index.WaitingPoint.{WaitingPoint}
 use Rattle.fence_core.specs.declared.watches.point_index.point_queue.Standing.{Standing}
-use Rattle.fence_core.specs.PointIndex.{waiting, is_same, holds, is_due, IsOneAbove, AreWaiting, AreAbove}
-use Rattle.fence_core.proofs.PointIndex.{holds-nothing, is_same-is, one_point}
+use Rattle.fence_core.specs.PointIndex.{waiting, is_same, holds, is_due, IsOneAbove, AreAbove}
+use Rattle.fence_core.proofs.PointIndex.{holds-nothing, holds-within, one_point, due-at}
 use Rattle.fence_core.proofs.Indexed.{or_cases}
-
--- a context where the reach is not above the floor
-pub not-below : (floor reach : ℕ) (b : Bool) → (IsTrue b ↔ (floor < reach)) → b ≡ false → reach ≤ floor
-not-below floor reach b told is = elim (cases_Bool (nat_le reach floor)) [
-  | inl low ↦ leb-true reach floor low
-  | inr high ↦ absurd (false≢true (sym is ∙ told.1 (leb-false reach floor high)))
-]
-
-pub not_due : (ctx value : ℕ) (k : WaitingPoint) → value < k.value → is_due ctx value k ≡ false
-not_due ctx value k past = elim (cases_Bool (is_due ctx value k)) [
-  | inl due ↦ let low = leb-true k.value value (and_parts (nat_eq k.ctx ctx) (nat_le k.value value) due).1 in absurd (omega arith)
-  | inr other ↦ other
-]
 
 pub past-not_due : (value : ℕ) (k : WaitingPoint) → is_due k.ctx value k ≡ false → value < k.value
 past-not_due value k none = elim (cases_Bool (nat_le k.value value)) [
@@ -41,52 +27,8 @@ not_due-lower low high k ctx up none = elim (cases_Bool (is_due ctx low k)) [
   | inr other ↦ other
 ]
 
-pub AreAbove-less : (ks fewer : List (List Standing)) (floor : List ℕ) → AreAbove ks floor → ((k : WaitingPoint) → holds fewer k ≡ true → holds ks k ≡ true) → AreAbove fewer floor
-AreAbove-less ks fewer floor h less = λ k there. h k (less k there)
-
--- another value for one context
-pub AreAbove-with : (ks : List (List Standing)) (floor changed : List ℕ) (ctx value : ℕ) → changed ≡ with_value floor ctx value → length floor ≡ CONTEXTS → 1 ≤ ctx → ctx ≤ CONTEXTS → AreWaiting ks
-    → ((k : WaitingPoint) → holds ks k ≡ true → k.ctx ≢ ctx → is_due k.ctx (value_at floor k.ctx) k ≡ false) → ((k : WaitingPoint) → holds ks k ≡ true → k.ctx ≡ ctx → value < k.value) → AreAbove ks changed
-AreAbove-with ks floor changed ctx value is full low high contexts others own = λ k there. elim (cases_Bool (nat_eq k.ctx ctx)) [
-  | inl same ↦
-      let its = eqb-true k.ctx ctx same in
-      let new : value_at changed k.ctx ≡ value = ap (value_at changed) its ∙ ap (λ f. value_at f ctx) is ∙ value_at-with_value_same floor ctx value low (omega arith) in
-      ap (λ v. is_due k.ctx v k) new ∙ not_due k.ctx value k (own k there its)
-  | inr other ↦
-      let apart : k.ctx ≢ ctx = λ e. false≢true (sym other ∙ eq-eqb k.ctx ctx e) in
-      ap (λ v. is_due k.ctx v k) (ap (λ f. value_at f k.ctx) is ∙ value_at-with_value_other floor ctx k.ctx value low (contexts.contexts k there).0 apart) ∙ others k there apart
-]
-
--- the floor lowered
-pub AreAbove-lowered : (ks : List (List Standing)) (floor lower : List ℕ) (ctx value : ℕ) → lower ≡ with_value floor ctx (min (value_at floor ctx) value) → length floor ≡ CONTEXTS → 1 ≤ ctx → ctx ≤ CONTEXTS → AreWaiting ks → AreAbove ks floor → AreAbove ks lower
-AreAbove-lowered ks floor lower ctx value is full low high contexts h =
-    AreAbove-with ks floor lower ctx (min (value_at floor ctx) value) is full low high contexts (λ k there apart. h k there)
-    (λ k there its. let past = past-not_due (value_at floor k.ctx) k (h k there) in let at = ap (value_at floor) its in omega arith)
-
--- a point put in, and the floor lowered below it
-pub AreAbove-put : (old new : List (List Standing)) (floor lower : List ℕ) (p : Point) (registration : ℕ) → lower ≡ with_value floor p.ctx (min (value_at floor p.ctx) (p.value - 1)) → length floor ≡ CONTEXTS → 1 ≤ p.ctx → p.ctx ≤ CONTEXTS → 1 ≤ p.value → AreWaiting new → AreAbove old floor
-    → ((k : WaitingPoint) → holds new k ≡ (is_same (waiting p registration) k || holds old k)) → AreAbove new lower
-AreAbove-put old new floor lower p registration is full low high some contexts h put =
-    AreAbove-with new floor lower p.ctx (min (value_at floor p.ctx) (p.value - 1)) is full low high contexts
-    (λ k there apart. elim (or_cases (is_same (waiting p registration) k) (holds old k) (sym (put k) ∙ there)) [
-      | inl same ↦ absurd (apart (sym ((is_same-is (waiting p registration) k same).0)))
-      | inr before ↦ h k before
-    ])
-    (λ k there its. elim (or_cases (is_same (waiting p registration) k) (holds old k) (sym (put k) ∙ there)) [
-      | inl same ↦ let value = (is_same-is (waiting p registration) k same).1 in omega arith
-      | inr before ↦ let past = past-not_due (value_at floor k.ctx) k (h k before) in let at = ap (value_at floor) its in omega arith
-    ])
-
--- the floor of a context set to a value below its first point
-pub AreAbove-first : (ks : List (List Standing)) (floor higher : List ℕ) (ctx first : ℕ) → higher ≡ with_value floor ctx (first - 1) → length floor ≡ CONTEXTS → 1 ≤ ctx → ctx ≤ CONTEXTS → 1 ≤ first → AreWaiting ks → AreAbove ks floor
-    → ((k : WaitingPoint) → k.ctx ≡ ctx → holds ks k ≡ true → first ≤ k.value) → AreAbove ks higher
-AreAbove-first ks floor higher ctx first is full low high some contexts h least =
-    AreAbove-with ks floor higher ctx (first - 1) is full low high contexts (λ k there apart. h k there) (λ k there its. let above = least k its there in omega arith)
-
--- and to any where it has none
-pub AreAbove-empty : (ks : List (List Standing)) (floor higher : List ℕ) (ctx value : ℕ) → higher ≡ with_value floor ctx value → length floor ≡ CONTEXTS → 1 ≤ ctx → ctx ≤ CONTEXTS → AreWaiting ks → AreAbove ks floor → ((k : WaitingPoint) → k.ctx ≡ ctx → holds ks k ≡ false) → AreAbove ks higher
-AreAbove-empty ks floor higher ctx value is full low high contexts h none =
-    AreAbove-with ks floor higher ctx value is full low high contexts (λ k there apart. h k there) (λ k there its. absurd (false≢true (sym (none k its) ∙ there)))
+pub AreAbove-less : (ks fewer : List (List Standing)) (reach : List ℕ) → AreAbove ks reach → ((k : WaitingPoint) → holds fewer k ≡ true → holds ks k ≡ true) → AreAbove fewer reach
+AreAbove-less ks fewer reach h less = λ k there. h k (less k there)
 
 -- two reaches of which each is at least the other are one
 pub IsAtLeast-both : (reach other : List ℕ) → length reach ≡ length other → IsAtLeast reach other → IsAtLeast other reach → reach ≡ other
@@ -147,15 +89,15 @@ pub AreAbove-nothing : (ks : List (List Standing)) (reach : List ℕ) → ks ≡
 AreAbove-nothing ks reach is = λ k there. absurd (false≢true (sym (holds-nothing ks k is) ∙ there))
 
 -- if one context alone has risen, no point of another is due
-other-not_due : (ks : List (List Standing)) (kept reach : List ℕ) (p : Point) → reach ≡ reaching kept p → 1 ≤ p.ctx → AreWaiting ks → AreAbove ks kept → (k : WaitingPoint) → holds ks k ≡ true → k.ctx ≢ p.ctx → is_due k.ctx (value_at reach k.ctx) k ≡ false
-other-not_due ks kept reach p is low contexts h k there apart =
-    ap (λ v. is_due k.ctx v k) (ap (λ f. value_at f k.ctx) is ∙ value_at-with_value_other kept p.ctx k.ctx (max (value_at kept p.ctx) p.value) low (contexts.contexts k there).0 apart)
+other-not_due : (ks : List (List Standing)) (kept reach : List ℕ) (p : Point) → reach ≡ reaching kept p → 1 ≤ p.ctx → AreAbove ks kept → (k : WaitingPoint) → holds ks k ≡ true → k.ctx ≢ p.ctx → is_due k.ctx (value_at reach k.ctx) k ≡ false
+other-not_due ks kept reach p is low h k there apart =
+    ap (λ v. is_due k.ctx v k) (ap (λ f. value_at f k.ctx) is ∙ value_at-with_value_other kept p.ctx k.ctx (max (value_at kept p.ctx) p.value) low (holds-within ks k there).0 apart)
     ∙ h k there
 
-pub due-one_context : (ks : List (List Standing)) (kept reach : List ℕ) (p : Point) → reach ≡ reaching kept p → 1 ≤ p.ctx → AreWaiting ks → AreAbove ks kept → (k : WaitingPoint) → is_due k.ctx (value_at reach k.ctx) k ≡ true → holds ks k ≡ true → is_due p.ctx (value_at reach p.ctx) k ≡ true
-due-one_context ks kept reach p is low contexts h k due there = elim (cases_Bool (nat_eq k.ctx p.ctx)) [
+pub due-one_context : (ks : List (List Standing)) (kept reach : List ℕ) (p : Point) → reach ≡ reaching kept p → 1 ≤ p.ctx → AreAbove ks kept → (k : WaitingPoint) → is_due k.ctx (value_at reach k.ctx) k ≡ true → holds ks k ≡ true → is_due p.ctx (value_at reach p.ctx) k ≡ true
+due-one_context ks kept reach p is low h k due there = elim (cases_Bool (nat_eq k.ctx p.ctx)) [
   | inl same ↦ ap (λ c. is_due c (value_at reach c) k) (sym (eqb-true k.ctx p.ctx same)) ∙ due
-  | inr other ↦ absurd (false≢true (sym (other-not_due ks kept reach p is low contexts h k there (λ e. false≢true (sym other ∙ eq-eqb k.ctx p.ctx e))) ∙ due))
+  | inr other ↦ absurd (false≢true (sym (other-not_due ks kept reach p is low h k there (λ e. false≢true (sym other ∙ eq-eqb k.ctx p.ctx e))) ∙ due))
 ]
 
 -- what is not due at its own context is due at none
@@ -166,9 +108,25 @@ not_due-at reach ctx k none = elim (cases_Bool (nat_eq k.ctx ctx)) [
 ]
 
 -- if none that is due is left in that context
-pub AreAbove-one_context : (ks fewer : List (List Standing)) (kept reach : List ℕ) (p : Point) → reach ≡ reaching kept p → 1 ≤ p.ctx → AreWaiting ks → AreAbove ks kept → ((k : WaitingPoint) → is_due k.ctx (value_at reach k.ctx) k ≡ true → holds fewer k ≡ true → holds ks k ≡ true)
+pub AreAbove-one_context : (ks fewer : List (List Standing)) (kept reach : List ℕ) (p : Point) → reach ≡ reaching kept p → 1 ≤ p.ctx → AreAbove ks kept → ((k : WaitingPoint) → is_due k.ctx (value_at reach k.ctx) k ≡ true → holds fewer k ≡ true → holds ks k ≡ true)
     → ((k : WaitingPoint) → is_due p.ctx (value_at reach p.ctx) k ≡ true → holds fewer k ≡ false) → AreAbove fewer reach
-AreAbove-one_context ks fewer kept reach p is low contexts h less none = λ k there. elim (cases_Bool (is_due k.ctx (value_at reach k.ctx) k)) [
-  | inl due ↦ absurd (false≢true (sym (none k (due-one_context ks kept reach p is low contexts h k due (less k due there))) ∙ there))
+AreAbove-one_context ks fewer kept reach p is low h less none = λ k there. elim (cases_Bool (is_due k.ctx (value_at reach k.ctx) k)) [
+  | inl due ↦ absurd (false≢true (sym (none k (due-one_context ks kept reach p is low h k due (less k due there))) ∙ there))
   | inr other ↦ other
 ]
+
+-- if none is due at the point, with the point reached
+pub AreAbove-raised : (ks : List (List Standing)) (reach : List ℕ) (p : Point) → length reach ≡ CONTEXTS → 1 ≤ p.ctx → p.ctx ≤ CONTEXTS → AreAbove ks reach → ((k : WaitingPoint) → is_due p.ctx p.value k ≡ true → holds ks k ≡ false) → AreAbove ks (reaching reach p)
+AreAbove-raised ks reach p full low high h none = AreAbove-one_context ks ks reach (reaching reach p) p refl low h (λ k due there. there) (λ k due.
+    let at = due-at p.ctx (value_at (reaching reach p) p.ctx) k due in
+    let is = value_at-with_value_same reach p.ctx (max (value_at reach p.ctx) p.value) low (omega arith) in
+    elim (cases_lt p.value k.value) [
+      | inr within ↦ none k (and_from (nat_eq k.ctx p.ctx) (nat_le k.value p.value) (eq-eqb k.ctx p.ctx at.0) (le-leb k.value p.value within))
+      | inl past ↦ elim (cases_Bool (holds ks k)) [
+        | inl there ↦
+            let above = past-not_due (value_at reach k.ctx) k (h k there) in
+            let its = ap (value_at reach) at.0 in
+            absurd (omega (arith, at.1))
+        | inr gone ↦ gone
+      ]
+    ])

@@ -5,15 +5,14 @@ use Rattle.std.specs.declared.cmp.Ordering.TheVariants.{Less, Equal, Greater}
 use Rattle.std.specs.Ordering.{is_eq, nat_cmp, ordering_then}
 use Rattle.std.specs.List.{AllByRecursion}
 use Rattle.std.specs.List.Sorted.{IsStrictlySortedBy}
-use Rattle.std.proofs.lemmas.Bool.{and_parts, and_from, leb-true, eqb-true, eq-eqb, cases_Bool, false≢true}
+use Rattle.std.proofs.lemmas.Bool.{and_parts, and_from, leb-true, eqb-true, eq-eqb, cases_Bool, cases_lt, false≢true}
 use Rattle.std.proofs.lemmas.Bool.Decides.{nat_tests}
 use Rattle.std.proofs.lemmas.Cmp.{ranked}
 use Rattle.std.proofs.lemmas.List.{get_or-set_same, get_or-set_other}
-use Rattle.point_core.specs.declared.context.TheConstants.{CONTEXTS}
 use Rattle.point_core.specs.declared.entry.Point.{Point}
 use Rattle.point_core.specs.Reach.{is_reached}
 use Rattle.fence_core.specs.Fence.{are_reached}
-use Rattle.fence_core.specs.PointIndex.{waiting, is_same, standing_of, is_alike, has, is_low, queue_at, holds, is_of, is_due, number, number_due, AreWaiting, order, IsRising}
+use Rattle.fence_core.specs.PointIndex.{waiting, is_same, standing_of, is_alike, has, is_low, queue_at, holds, is_of, is_due, number, number_due, order, IsRising}
 use Rattle.fence_core.specs.declared.watches.point_index.WaitingPoint.{WaitingPoint}
 use Rattle.fence_core.specs.declared.watches.point_index.point_queue.Standing.{Standing}
 
@@ -99,6 +98,17 @@ pub queue_at-past : (queues : List (List Standing)) (place ctx : ℕ) → length
 queue_at-past queues place ctx high is =
     let next : suc place ≡ ctx = omega (arith, is) in
     ap (queue_at queues) (sym next) ∙ past-suc queues place high
+
+-- a watch is indexed only where there is a queue
+has-within : (queues : List (List Standing)) (ctx : ℕ) (s : Standing) → has (queue_at queues ctx) s ≡ true → (1 ≤ ctx) × (ctx ≤ length queues)
+has-within queues zero s there = absurd (cc)
+has-within queues (suc place) s there = elim (cases_lt place (length queues)) [
+  | inl low ↦ (omega arith, omega arith)
+  | inr high ↦ absurd (false≢true (sym (ap (λ q. has q s) (past-suc queues place high)) ∙ there))
+]
+
+pub holds-within : (queues : List (List Standing)) (k : WaitingPoint) → holds queues k ≡ true → (1 ≤ k.ctx) × (k.ctx ≤ length queues)
+holds-within queues k there = has-within queues k.ctx (standing_of k) there
 
 pub queue_at-push : (queues : List (List Standing)) (ctx : ℕ) → queue_at (queues ++ [] ∷ []) ctx ≡ queue_at queues ctx
 queue_at-push queues zero = refl
@@ -223,18 +233,6 @@ OnOk-due (Err e) queues q ctx value most R own is low = tt
 
 pub alike-registration : (a b : Standing) → is_alike a b ≡ true → a.registration ≡ b.registration
 alike-registration a b alike = ap (λ (s : Standing). s.registration) (one_standing a b alike)
-
--- each is still of a context
-pub AreWaiting-less : (old new : List (List Standing)) → AreWaiting old → ((k : WaitingPoint) → holds new k ≡ true → holds old k ≡ true) → AreWaiting new
-AreWaiting-less old new h less = record { contexts = λ k there. h.contexts k (less k there) }
-
-pub AreWaiting-put : (old new : List (List Standing)) (key : WaitingPoint) → AreWaiting old → (1 ≤ key.ctx) × (key.ctx ≤ CONTEXTS) → ((k : WaitingPoint) → holds new k ≡ (is_same key k || holds old k)) → AreWaiting new
-AreWaiting-put old new key h within put = record {
-  contexts = λ k there. elim (cases_Bool (is_same key k)) [
-    | inl same ↦ subst (λ n. (1 ≤ n) × (n ≤ CONTEXTS)) ((is_same-is key k same).0) within
-    | inr other ↦ h.contexts k (sym (put k ∙ ap (λ b. b || holds old k) other) ∙ there)
-  ];
-}
 
 pub and-right : (a b c : Bool) → c ≡ (a && b) → c ≡ true → b ≡ true
 and-right a b c is there = (and_parts a b (sym is ∙ there)).1

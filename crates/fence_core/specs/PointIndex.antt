@@ -4,7 +4,6 @@ use Rattle.std.specs.List.{list_any, AllPairs}
 use Rattle.std.specs.List.Sorted.{IsStrictlySortedBy}
 use Rattle.std.specs.Ordering.{nat_cmp, ordering_then}
 use Rattle.std.specs.declared.cmp.Ordering.{Ordering}
-use Rattle.point_core.specs.declared.context.TheConstants.{CONTEXTS}
 use Rattle.point_core.specs.declared.entry.Point.{Point}
 use Rattle.point_core.specs.Reach.{is_reached, value_at}
 use Rattle.fence_core.specs.declared.watches.point_index.WaitingPoint.{WaitingPoint}
@@ -62,13 +61,9 @@ number test queue = length (filter test queue)
 abbrev pub number_due : ℕ → ℕ → List (List Standing) → ℕ
 number_due ctx value queues = number (is_low value) (queue_at queues ctx)
 
--- each is of a context
-pub record AreWaiting (queues : List (List Standing)) : Type 0 where
-  pub contexts : (k : WaitingPoint) → holds queues k ≡ true → (1 ≤ k.ctx) × (k.ctx ≤ CONTEXTS)
-
--- each is above the value that the floor has for its context
+-- each is above the reach
 abbrev pub AreAbove : List (List Standing) → List ℕ → Type 0
-AreAbove queues floor = (k : WaitingPoint) → holds queues k ≡ true → is_due k.ctx (value_at floor k.ctx) k ≡ false
+AreAbove queues reach = (k : WaitingPoint) → holds queues k ≡ true → is_due k.ctx (value_at reach k.ctx) k ≡ false
 
 -- by value, and by registration at one value
 abbrev pub order : Standing → Standing → Ordering

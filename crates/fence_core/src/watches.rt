@@ -16,7 +16,6 @@ ghost use Rattle.fence_core.specs.PointIndex.{IsOneAbove};
 ghost use Rattle.fence_core.specs.Watch.{registry_of, ArePending};
 ghost use Rattle.fence_core.specs.Watches.{no_watches, has_watch, cause_to_refuse, cause_to_refuse_watch, with_watch, without_watch, without_watches, fires, fired_by, after_rise_to};
 
-mod due_floor;
 mod pending;
 mod point_index;
 mod registration;
@@ -205,11 +204,6 @@ impl Watches {
         ensures unchanged { OnErr result (self.new ≡ self.old) }
         ensures pending { ArePending self.old.pending }
     {
-        if self.index.is_above(reach) {
-            self.reach.copy_from(reach);
-            self.is_settled = true;
-            return Ok(Vec::new(self.alloc));
-        }
         let cookies = self.fired(reach)?;
         self.remove_all(cookies.as_slice());
         self.rise_to(reach);

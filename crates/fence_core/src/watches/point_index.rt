@@ -1,5 +1,5 @@
-//! `PointIndex`: a queue of waiting points for each context, so that a rise looks only at what it can reach. All points
-//! are above the floor, and every change in here keeps that. `Watches` puts in one point for each pending watch.
+//! `PointIndex`: a queue of waiting points for each context, so that a rise looks only at what it can reach. There are no
+//! more queues than contexts, which `put` keeps. `Watches` puts in one point for each pending watch.
 ghost use Rattle.std.specs.Prelude.{◌≡◌, ℕ, ◌<◌, ◌≤◌, true, false, not, ◌&&◌, ◌||◌, [], length};
 ghost use Rattle.std.specs.Prelude.{OnOk, OnErr, IfOk, IfErr, IfSome, IfNone};
 ghost use Rattle.std.specs.Ordering.{nat_cmp};
@@ -7,7 +7,7 @@ ghost use Rattle.std.specs.Map.{keys_of};
 ghost use Rattle.std.specs.List.Sorted.{IsStrictlySortedBy};
 ghost use Rattle.point_core.specs.declared.refusal.Refusal.TheVariants.{Memory};
 ghost use Rattle.fence_core.specs.declared.watches.point_index.WaitingPoint.{WaitingPoint as Waiting};
-ghost use Rattle.fence_core.specs.PointIndex.{waiting, is_same, queue_at, holds, is_due, number_due, AreWaiting};
+ghost use Rattle.fence_core.specs.PointIndex.{waiting, is_same, queue_at, holds, is_due, number_due};
 ghost use Rattle.fence_core.specs.Pending.{watches_of};
 ghost use Rattle.fence_core.specs.Registered.{IsIndexed, AreKept, AreBefore, NoneFires};
 ghost use Rattle.fence_core.specs.Reported.{IsReported, AreOnlyFiring, Fires};
@@ -22,7 +22,6 @@ mod single_rise;
 use self::firing::report_reached;
 use self::point_queue::{PointQueue, Standing};
 use self::single_rise::gathered_in_order;
-use super::due_floor::DueFloor;
 use super::pending::{PendingWatches, find, replace};
 use super::registration::Registration;
 use point_core::{Context, Point, Reach, Refusal};
@@ -56,25 +55,21 @@ impl WaitingPoint {
 pub(super) struct PointIndex {
     alloc: Global,
     queues: Vec<PointQueue>,
-    floor: DueFloor,
 }
 
 impl Model for PointIndex {
-    ghost use Rattle.std.specs.Prelude.{List};
-    ghost use Rattle.fence_core.specs.PointIndex.{AreWaiting, AreAbove};
+    ghost use Rattle.std.specs.Prelude.{List, ◌≤◌, length};
+    ghost use Rattle.point_core.specs.declared.context.TheConstants.{CONTEXTS};
     ghost use Rattle.fence_core.specs.declared.watches.point_index.point_queue.Standing.{Standing};
 
     ghost Value = { List (List Standing) };
 
     ghost view = { λ p. p.queues.items };
 
-    ghost invariant = { λ p. AreWaiting p.queues.items × AreAbove p.queues.items p.floor };
+    ghost invariant = { λ p. length p.queues.items ≤ CONTEXTS };
 }
 
 impl PointIndex {
-    ghost use Rattle.std.specs.Prelude.{List};
-    ghost use Rattle.fence_core.specs.PointIndex.{AreAbove};
-
     /// No points. It does not allocate.
     pub(super) fn new(alloc: Global) -> PointIndex
         ensures { result ≡ [] }
@@ -82,32 +77,21 @@ impl PointIndex {
         PointIndex {
             alloc,
             queues: Vec::new(alloc),
-            floor: DueFloor::highest(),
         }
     }
 
-    /// Whether the floor shows that no point is at or below the reach.
-    pub(super) fn is_above(&self, reach: &Reach) -> bool
-        ensures { result ≡ true → (k : Waiting) → holds self.now k ≡ true →
-            is_due k.ctx (value_at reach.now k.ctx) k ≡ false }
-    {
-        self.floor.at_least(reach)
-    }
-
-    /// Whether the floor shows that the point reaches no point of the index. An index that is above a reach is then above
-    /// it with the point reached too.
+    /// Whether the point reaches no point of the index.
     pub(super) fn is_above_point(&self, point: &Point) -> bool
-        ensures { result ≡ true → (reach : List ℕ) → length reach ≡ CONTEXTS → AreAbove self.now reach →
-            AreAbove self.now (reaching reach point.now) }
+        ensures { result ≡ true → (k : Waiting) → is_due point.now.ctx point.now.value k ≡ true →
+            holds self.now k ≡ false }
     {
-        self.floor.reaches(point)
+        first_due(self.queues.as_slice(), point.ctx, point.value).is_none()
     }
 
     /// Puts a point in.
     ///
     /// Fails only with `Memory`, and then no point has gone and none has come.
     pub(super) fn put(&mut self, point: &Point, registration: Registration) -> Result<(), Refusal>
-        requires above { 1 ≤ point.now.value }
         ensures put { OnOk result ((k : Waiting) →
             holds self.new k ≡ (is_same (waiting point.now registration) k || holds self.old k)) }
         ensures due { (ctx value : ℕ) → is_due ctx value (waiting point.now registration) ≡ false →
@@ -115,7 +99,6 @@ impl PointIndex {
         ensures memory { IfErr result (λ e. e ≡ Memory) }
         ensures unchanged { OnErr result ((k : Waiting) → holds self.new k ≡ holds self.old k) }
     {
-        self.floor.lower(point);
         insert(&mut self.queues, self.alloc, point, registration)
     }
 
@@ -128,8 +111,7 @@ impl PointIndex {
         remove(self.queues.as_mut_slice(), point);
     }
 
-    /// Moves each watch that is indexed at or below the reach to a point above it. Only the contexts where the reach is
-    /// above the floor are looked at.
+    /// Moves each watch that is indexed at or below the reach to a point above it.
     ///
     /// Fails only with `Memory`; some watches may then not have moved.
     pub(super) fn settle(
@@ -147,12 +129,8 @@ impl PointIndex {
         ensures none_left { OnOk result ((k : Waiting) → is_due k.ctx (value_at reach.now k.ctx) k ≡ true →
             holds self.new k ≡ false) }
     {
-        // Opens the invariant.
-        let _queues = &self.queues;
-        for index in 0..reach.used() {
-            if self.floor.is_below(reach, index) {
-                self.settle_context(pending, Context::at(index), reach)?;
-            }
+        for index in 0..self.queues.len() {
+            self.settle_context(pending, Context::at(index), reach)?;
         }
         Ok(())
     }
@@ -172,14 +150,11 @@ impl PointIndex {
         ensures kept { AreKept pending.new.entries }
         ensures same { watches_of pending.new.entries ≡ watches_of pending.old.entries }
         ensures before { (made : ℕ) → AreBefore made pending.old.entries → AreBefore made pending.new.entries }
-        ensures waiting { AreWaiting self.old }
         ensures less { (k : Waiting) → is_due k.ctx (value_at reach.now k.ctx) k ≡ true →
             holds self.new k ≡ true → holds self.old k ≡ true }
         ensures none_left { OnOk result ((k : Waiting) → is_due ctx (value_at reach.now ctx) k ≡ true →
             holds self.new k ≡ false) }
     {
-        // Opens the invariant.
-        let _queues = &self.queues;
         while self.move_first(pending, ctx, reach)? {}
         Ok(())
     }
@@ -205,7 +180,7 @@ impl PointIndex {
         ensures none_left { IfOk result (λ moved. moved ≡ false → (k : Waiting) →
             is_due ctx (value_at reach.now ctx) k ≡ true → holds self.new k ≡ false) }
     {
-        let Some(due) = self.next_due(ctx, reach.get(ctx)) else {
+        let Some(due) = first_due(self.queues.as_slice(), ctx, reach.get(ctx)) else {
             return Ok(false);
         };
         self.move_on(&due, pending, reach)?;
@@ -242,25 +217,7 @@ impl PointIndex {
         Ok(())
     }
 
-    /// The first point of the context, if it is at or below the value; otherwise the floor rises to just below it.
-    fn next_due(&mut self, ctx: Context, value: u64) -> Option<WaitingPoint>
-        ensures same { self.new ≡ self.old }
-        ensures some { IfSome result (λ k. (is_due ctx value k ≡ true) × (holds self.new k ≡ true)) }
-        ensures none { IfNone result ((k : Waiting) → is_due ctx value k ≡ true → holds self.new k ≡ false) }
-    {
-        let Some(first) = first_in(self.queues.as_slice(), ctx) else {
-            self.floor.set(ctx, u64::MAX);
-            return None;
-        };
-        if first.value > value {
-            self.floor.set(ctx, first.value - 1);
-            return None;
-        }
-        Some(first)
-    }
-
-    /// The cookies of the watches all of whose points are signalled at the reach, by registration. Only the contexts
-    /// where it is above the floor are looked at.
+    /// The cookies of the watches all of whose points are signalled at the reach, by registration.
     pub(super) fn fired(
         &self,
         alloc: Global,
@@ -275,13 +232,7 @@ impl PointIndex {
         ensures some_fires { OnErr result (Fires pending.now.entries reach.now) }
     {
         let mut fired = BTreeMap::new(alloc);
-        report_reached(
-            self.queues.as_slice(),
-            pending,
-            &self.floor,
-            reach,
-            &mut fired,
-        )?;
+        report_reached(self.queues.as_slice(), pending, reach, &mut fired)?;
         // Opens the map's invariant.
         let _count = fired.len();
         Ok(fired)
@@ -296,7 +247,6 @@ impl PointIndex {
         point: &Point,
         reach: &Reach,
     ) -> Result<Option<Vec<u64>>, Refusal>
-        ensures waiting { AreWaiting self.now }
         ensures fired { IfOk result (λ found. IfSome found (λ cookies.
             AreFiredIn point.now.ctx self.now pending.now.entries (reaching reach.now point.now) cookies.items)) }
         ensures memory { IfErr result (λ e. e ≡ Memory) }
@@ -315,8 +265,8 @@ fn insert(
     point: &Point,
     registration: Registration,
 ) -> Result<(), Refusal>
-    requires waiting { AreWaiting queues.old.items }
-    ensures waiting { AreWaiting queues.new.items }
+    requires few { length queues.old.items ≤ CONTEXTS }
+    ensures few { length queues.new.items ≤ CONTEXTS }
     ensures put { OnOk result ((k : Waiting) →
         holds queues.new.items k ≡ (is_same (waiting point.now registration) k || holds queues.old.items k)) }
     ensures due { (ctx value : ℕ) → is_due ctx value (waiting point.now registration) ≡ false →
@@ -332,6 +282,8 @@ fn insert(
 ///
 /// Fails only with `Memory`. A new queue is empty.
 fn make_queues(queues: &mut Vec<PointQueue>, alloc: Global, ctx: Context) -> Result<(), Refusal>
+    requires few { length queues.old.items ≤ CONTEXTS }
+    ensures few { length queues.new.items ≤ CONTEXTS }
     ensures same { (c : ℕ) → queue_at queues.new.items c ≡ queue_at queues.old.items c }
     ensures enough { OnOk result (ctx ≤ length queues.new.items) }
     ensures memory { IfErr result (λ e. e ≡ Memory) }
@@ -351,8 +303,7 @@ fn insert_in_queue(
     registration: Registration,
 ) -> Result<(), Refusal>
     requires enough { point.now.ctx ≤ length queues.old }
-    requires waiting { AreWaiting queues.old }
-    ensures waiting { AreWaiting queues.new }
+    ensures few { length queues.new ≡ length queues.old }
     ensures put { OnOk result ((k : Waiting) →
         holds queues.new k ≡ (is_same (waiting point.now registration) k || holds queues.old k)) }
     ensures due { (ctx value : ℕ) → is_due ctx value (waiting point.now registration) ≡ false →
@@ -360,9 +311,6 @@ fn insert_in_queue(
     ensures memory { IfErr result (λ e. e ≡ Memory) }
     ensures unchanged { OnErr result ((k : Waiting) → holds queues.new k ≡ holds queues.old k) }
 {
-    let number = point.ctx.number();
-    // For the proof: what a context keeps.
-    prove!(number >= 1);
     let index = point.ctx.index();
     let watch = Standing {
         value: point.value,
@@ -391,12 +339,10 @@ fn remove(queues: &mut [PointQueue], point: &WaitingPoint)
     queues[index].take(&watch);
 }
 
-/// The first point of the context.
-fn first_in(queues: &[PointQueue], ctx: Context) -> Option<WaitingPoint>
-    ensures some { IfSome result (λ first. (first.ctx ≡ ctx) × (holds queues.now first ≡ true)) }
-    ensures first { IfSome result (λ first. (k : Waiting) → k.ctx ≡ ctx → holds queues.now k ≡ true →
-        first.value ≤ k.value) }
-    ensures none { IfNone result ((k : Waiting) → k.ctx ≡ ctx → holds queues.now k ≡ false) }
+/// The first point of the context, if it is at or below the value.
+fn first_due(queues: &[PointQueue], ctx: Context, value: u64) -> Option<WaitingPoint>
+    ensures some { IfSome result (λ k. (is_due ctx value k ≡ true) × (holds queues.now k ≡ true)) }
+    ensures none { IfNone result ((k : Waiting) → is_due ctx value k ≡ true → holds queues.now k ≡ false) }
 {
     let index = ctx.index();
     if index >= queues.len() {
@@ -405,6 +351,9 @@ fn first_in(queues: &[PointQueue], ctx: Context) -> Option<WaitingPoint>
     let Some(first) = queues[index].first() else {
         return None;
     };
+    if first.value > value {
+        return None;
+    }
     Some(WaitingPoint {
         ctx,
         value: first.value,

@@ -1,33 +1,29 @@
 //! Finds the watches that a rise of any contexts fires, as a map from registrations to cookies. `PointIndex::fired`
 //! calls it; the index is not changed before all are found, so a refusal has nothing to undo.
-ghost use Rattle.std.specs.Prelude.{◌≡◌, ℕ, true, false, []};
+ghost use Rattle.std.specs.Prelude.{◌≡◌, ◌≤◌, ℕ, true, length, []};
 ghost use Rattle.std.specs.Prelude.{OnOk, OnErr, IfErr};
+ghost use Rattle.point_core.specs.declared.context.TheConstants.{CONTEXTS};
 ghost use Rattle.point_core.specs.declared.refusal.Refusal.TheVariants.{Memory};
 ghost use Rattle.point_core.specs.Reach.{value_at};
 ghost use Rattle.fence_core.specs.declared.watches.point_index.WaitingPoint.{WaitingPoint as Waiting};
 ghost use Rattle.fence_core.specs.declared.watches.point_index.point_queue.Standing.{Standing as Stands};
-ghost use Rattle.fence_core.specs.PointIndex.{has, is_low, holds, is_due, AreWaiting};
+ghost use Rattle.fence_core.specs.PointIndex.{has, is_low, holds, is_due};
 ghost use Rattle.fence_core.specs.Reported.{IsReported, AreOnlyFiring, Fires};
 
 use super::point_queue::PointQueue;
-use crate::watches::due_floor::DueFloor;
 use crate::watches::pending::{PendingWatches, find};
 use crate::watches::registration::Registration;
 use point_core::{Context, Reach, Refusal};
 use std::collections::BTreeMap;
 
-/// Adds the watches of all contexts that the reach fires to `fired`. It looks only at contexts where the reach is above the
-/// floor.
+/// Adds the watches of all contexts that the reach fires to `fired`.
 pub(super) fn report_reached(
     queues: &[PointQueue],
     pending: &PendingWatches,
-    floor: &DueFloor,
     reach: &Reach,
     fired: &mut BTreeMap<Registration, u64>,
 ) -> Result<(), Refusal>
-    requires waiting { AreWaiting queues.now }
-    requires above { (k : Waiting) → holds queues.now k ≡ true →
-        is_due k.ctx (value_at floor.now k.ctx) k ≡ false }
+    requires few { length queues.now ≤ CONTEXTS }
     requires none_fired { fired.old.entries ≡ [] }
     ensures only_firing { AreOnlyFiring pending.now.entries reach.now fired.new.entries }
     ensures all { OnOk result ((k : Waiting) → is_due k.ctx (value_at reach.now k.ctx) k ≡ true →
@@ -35,10 +31,8 @@ pub(super) fn report_reached(
     ensures memory { IfErr result (λ e. e ≡ Memory) }
     ensures some_fires { OnErr result (Fires pending.now.entries reach.now) }
 {
-    for index in 0..reach.used() {
-        if floor.is_below(reach, index) {
-            report_due(queues, pending, Context::at(index), reach, fired)?;
-        }
+    for index in 0..queues.len() {
+        report_due(queues, pending, Context::at(index), reach, fired)?;
     }
     Ok(())
 }

@@ -22,5 +22,5 @@ returns-in-Some-clause-fired c =
     let found = at_some _ c.in_ok-found.found c.in-Some.cookies c.in_ok-found.ensures.fired c.in-Some.is in
     sym found.gathered.values
     ∙ values-fired reach c.self.inside.pending.entries index found.fired c.self.invariant.0.kept c.self.invariant.1 found.gathered.ordered found.gathered.only_firing
-    (λ k due there. found.all k (due-one_context index c.self.inside.reach reach p refl low c.in_ok-found.ensures.waiting above k due there) there)
+    (λ k due there. found.all k (due-one_context index c.self.inside.reach reach p refl low above k due there) there)
     ∙ ap (λ (r : Registry). fired_by r (reaching r.reach p)) c.self.view_is

@@ -33,6 +33,6 @@ invariant_of-self-2 c =
     let step = c.settle_context-settled.ensures in (
       AreRegistered-same c.self.inside.pending.entries c.settle_context-settled.new.pending.entries c.self.inside.made c.self.invariant.0 step.same step.kept (step.before c.self.inside.made c.self.invariant.0.before),
       step.indexed,
-      λ settled. AreAbove-one_context c.self.inside.index c.settle_context-settled.new.self c.self.inside.reach c.raise_to.new.self c.args.point.now c.raise_to.ensures.value c.raise_to.ensures.context.0 step.waiting (c.self.invariant.2 c.if-not-self.false) step.less
+      λ settled. AreAbove-one_context c.self.inside.index c.settle_context-settled.new.self c.self.inside.reach c.raise_to.new.self c.args.point.now c.raise_to.ensures.value c.raise_to.ensures.context.0 (c.self.invariant.2 c.if-not-self.false) step.less
           (on_ok c.settle_context-settled.result step.none_left (sym c.is_ok-self-inside-2.ensures.value ∙ settled)),
     )

@@ -1,13 +1,9 @@
-use Rattle.std.proofs.Common.{◌≡◌, ◌∙◌, sym}
+use Rattle.std.proofs.Common.{◌≡◌}
 use Rattle.fence_core.specs.declared.watches.point_index.WaitingPoint.{WaitingPoint as Waiting}
 use Rattle.fence_core.specs.PointIndex.{holds}
-use Rattle.fence_core.proofs.PointIndex.{holds-same, AreWaiting-less}
+use Rattle.fence_core.proofs.PointIndex.{holds-same}
 use Rattle.fence_core.proofs.Above.{OnErr-always}
 use Rattle.fence_core.proofs.watches.point_index.insert.Goals as goal
-
-pub returns-in_err-make_queues-clause-waiting : goal.returns-in_err-make_queues-clause-waiting
-returns-in_err-make_queues-clause-waiting c = AreWaiting-less c.args.queues.now.items c.make_queues.new.queues.items c.requires.waiting
-    (λ k there. sym (holds-same c.args.queues.now.items c.make_queues.new.queues.items k (c.make_queues.ensures.same k.ctx)) ∙ there)
 
 pub returns-in_err-make_queues-clause-unchanged : goal.returns-in_err-make_queues-clause-unchanged
 returns-in_err-make_queues-clause-unchanged c =

@@ -1,7 +1,5 @@
-use Rattle.std.proofs.Common.{◌≤◌, ◌∙◌, sym, subst}
-use Rattle.point_core.specs.declared.context.TheConstants.{CONTEXTS}
 use Rattle.fence_core.specs.PointIndex.{waiting}
-use Rattle.fence_core.proofs.PointIndex.{queue-put, queue-put_due, queue-same, AreWaiting-put, AreWaiting-less}
+use Rattle.fence_core.proofs.PointIndex.{queue-put, queue-put_due, queue-same}
 use Rattle.fence_core.proofs.watches.point_index.insert_in_queue.Goals as goal
 
 pub returns-clause-put : goal.returns-clause-put
@@ -10,15 +8,5 @@ returns-clause-put c = queue-put c.args.queues.now c.index-index.result (waiting
 pub returns-clause-due : goal.returns-clause-due
 returns-clause-due c = queue-put_due c.args.queues.now c.index-index.result (waiting c.args.point.now c.args.registration) c.index-queues-index.result c.put.new.self c.index-index.ensures.value c.requires.enough c.in-Ok.ensures.low
 
-pub returns-clause-waiting : goal.returns-clause-waiting
-returns-clause-waiting c =
-    AreWaiting-put c.args.queues.now _ (waiting c.args.point.now c.args.registration) c.requires.waiting
-    (subst (λ n. (1 ≤ n) × (n ≤ CONTEXTS)) c.number-number.ensures.value c.number-number.ensures.within)
-    (queue-put c.args.queues.now c.index-index.result (waiting c.args.point.now c.args.registration) c.index-queues-index.result c.put.new.self c.index-index.ensures.value c.requires.enough c.in-Ok.ensures.put)
-
 pub returns-in_default-clause-unchanged : goal.returns-in_default-clause-unchanged
 returns-in_default-clause-unchanged c = queue-same c.args.queues.now c.index-index.result (waiting c.args.point.now c.args.registration) c.index-queues-index.result c.put.new.self c.index-index.ensures.value c.requires.enough c.in_default.ensures.unchanged
-
-pub returns-in_default-clause-waiting : goal.returns-in_default-clause-waiting
-returns-in_default-clause-waiting c = AreWaiting-less c.args.queues.now _ c.requires.waiting
-    (λ k there. sym (queue-same c.args.queues.now c.index-index.result (waiting c.args.point.now c.args.registration) c.index-queues-index.result c.put.new.self c.index-index.ensures.value c.requires.enough c.in_default.ensures.unchanged k) ∙ there)
