@@ -2,12 +2,13 @@
 use Rattle.std.specs.Prelude.{◌≡◌, ℕ, ◌<◌, nat_eq, Bool, true, false, List, Some}
 use Rattle.std.specs.List.{list_any, IsDistinct}
 use Rattle.std.specs.Map.{keys_of, lookup}
+use Rattle.point_core.specs.Reach.{value_at}
 use Rattle.fence_core.specs.Fence.{members_of}
 use Rattle.fence_core.specs.Watch.{ArePending}
 use Rattle.fence_core.specs.Watches.{fires}
 use Rattle.fence_core.specs.Pending.{Places, watches_of}
 use Rattle.fence_core.specs.Registration.{numbered, cookie_of}
-use Rattle.fence_core.specs.PointIndex.{holds, is_of, AreAbove}
+use Rattle.fence_core.specs.PointIndex.{holds, is_of, is_due, AreAbove}
 use Rattle.fence_core.specs.declared.watches.pending.PendingWatch.{PendingWatch}
 use Rattle.fence_core.specs.declared.watches.point_index.WaitingPoint.{WaitingPoint}
 use Rattle.fence_core.specs.declared.watches.point_index.point_queue.Standing.{Standing}
@@ -29,6 +30,11 @@ pub record AreKept (places : Places) : Type 0 where
   pub distinct : IsDistinct nat_eq (keys_of places)
   pub own : AreByCookie places
 
+-- the index has the place of each pending watch, which is kept under its own cookie
+pub record ArePlaced (places : Places) (index : List (List Standing)) : Type 0 where
+  pub indexed : IsIndexed places index
+  pub kept : AreKept places
+
 -- each registration is below the number ever made
 pub record AreBefore (made : ℕ) (places : Places) : Type 0 where
   pub each : (cookie : ℕ) (w : PendingWatch) → lookup (nat_eq cookie) places ≡ Some w →
@@ -46,3 +52,11 @@ IsSettled is_settled index reach = is_settled ≡ true → AreAbove index reach
 -- no pending watch fires at the reach
 abbrev pub NoneFires : Places → List ℕ → Type 0
 NoneFires places reach = list_any (fires reach) (watches_of places) ≡ false
+
+-- the same watches are pending, and each of them has its old place or was moved above the reach
+pub record AreMoved (reach : List ℕ) (before : Places) (was : List (List Standing)) (after : Places)
+    (index : List (List Standing)) : Type 0 where
+  pub placed : ArePlaced after index
+  pub same : watches_of after ≡ watches_of before
+  pub numbers : (made : ℕ) → AreBefore made before → AreBefore made after
+  pub less : (k : WaitingPoint) → is_due k.ctx (value_at reach k.ctx) k ≡ true → holds index k ≡ true → holds was k ≡ true

@@ -8,8 +8,7 @@ ghost use Rattle.std.specs.List.Sorted.{IsStrictlySortedBy};
 ghost use Rattle.point_core.specs.declared.refusal.Refusal.TheVariants.{Memory};
 ghost use Rattle.fence_core.specs.declared.watches.point_index.WaitingPoint.{WaitingPoint as Waiting};
 ghost use Rattle.fence_core.specs.PointIndex.{waiting, is_same, queue_at, holds, is_due, number_due};
-ghost use Rattle.fence_core.specs.Pending.{watches_of};
-ghost use Rattle.fence_core.specs.Registered.{IsIndexed, AreKept, AreBefore, NoneFires};
+ghost use Rattle.fence_core.specs.Registered.{ArePlaced, AreMoved, NoneFires};
 ghost use Rattle.fence_core.specs.Reported.{IsReported, AreOnlyFiring, Fires};
 ghost use Rattle.fence_core.specs.Gathered.{AreFiredIn};
 ghost use Rattle.point_core.specs.Reach.{value_at, reaching};
@@ -119,13 +118,9 @@ impl PointIndex {
         pending: &mut PendingWatches,
         reach: &Reach,
     ) -> Result<(), Refusal>
-        requires indexed { IsIndexed pending.old.entries self.old }
-        requires kept { AreKept pending.old.entries }
+        requires placed { ArePlaced pending.old.entries self.old }
         requires none_fires { NoneFires pending.old.entries reach.now }
-        ensures indexed { IsIndexed pending.new.entries self.new }
-        ensures kept { AreKept pending.new.entries }
-        ensures same { watches_of pending.new.entries ≡ watches_of pending.old.entries }
-        ensures before { (made : ℕ) → AreBefore made pending.old.entries → AreBefore made pending.new.entries }
+        ensures moved { AreMoved reach.now pending.old.entries self.old pending.new.entries self.new }
         ensures none_left { OnOk result ((k : Waiting) → is_due k.ctx (value_at reach.now k.ctx) k ≡ true →
             holds self.new k ≡ false) }
     {
@@ -143,15 +138,9 @@ impl PointIndex {
         ctx: Context,
         reach: &Reach,
     ) -> Result<(), Refusal>
-        requires indexed { IsIndexed pending.old.entries self.old }
-        requires kept { AreKept pending.old.entries }
+        requires placed { ArePlaced pending.old.entries self.old }
         requires none_fires { NoneFires pending.old.entries reach.now }
-        ensures indexed { IsIndexed pending.new.entries self.new }
-        ensures kept { AreKept pending.new.entries }
-        ensures same { watches_of pending.new.entries ≡ watches_of pending.old.entries }
-        ensures before { (made : ℕ) → AreBefore made pending.old.entries → AreBefore made pending.new.entries }
-        ensures less { (k : Waiting) → is_due k.ctx (value_at reach.now k.ctx) k ≡ true →
-            holds self.new k ≡ true → holds self.old k ≡ true }
+        ensures moved { AreMoved reach.now pending.old.entries self.old pending.new.entries self.new }
         ensures none_left { OnOk result ((k : Waiting) → is_due ctx (value_at reach.now ctx) k ≡ true →
             holds self.new k ≡ false) }
     {
@@ -166,15 +155,9 @@ impl PointIndex {
         ctx: Context,
         reach: &Reach,
     ) -> Result<bool, Refusal>
-        requires indexed { IsIndexed pending.old.entries self.old }
-        requires kept { AreKept pending.old.entries }
+        requires placed { ArePlaced pending.old.entries self.old }
         requires none_fires { NoneFires pending.old.entries reach.now }
-        ensures indexed { IsIndexed pending.new.entries self.new }
-        ensures kept { AreKept pending.new.entries }
-        ensures same { watches_of pending.new.entries ≡ watches_of pending.old.entries }
-        ensures before { (made : ℕ) → AreBefore made pending.old.entries → AreBefore made pending.new.entries }
-        ensures less { (k : Waiting) → is_due k.ctx (value_at reach.now k.ctx) k ≡ true →
-            holds self.new k ≡ true → holds self.old k ≡ true }
+        ensures moved { AreMoved reach.now pending.old.entries self.old pending.new.entries self.new }
         ensures fewer { IfOk result (λ moved. moved ≡ true →
             number_due ctx (value_at reach.now ctx) self.new < number_due ctx (value_at reach.now ctx) self.old) }
         ensures none_left { IfOk result (λ moved. moved ≡ false → (k : Waiting) →
@@ -194,17 +177,11 @@ impl PointIndex {
         pending: &mut PendingWatches,
         reach: &Reach,
     ) -> Result<(), Refusal>
-        requires indexed { IsIndexed pending.old.entries self.old }
-        requires kept { AreKept pending.old.entries }
+        requires placed { ArePlaced pending.old.entries self.old }
         requires none_fires { NoneFires pending.old.entries reach.now }
         requires there { holds self.old due.now ≡ true }
         requires due { is_due due.now.ctx (value_at reach.now due.now.ctx) due.now ≡ true }
-        ensures indexed { IsIndexed pending.new.entries self.new }
-        ensures kept { AreKept pending.new.entries }
-        ensures same { watches_of pending.new.entries ≡ watches_of pending.old.entries }
-        ensures before { (made : ℕ) → AreBefore made pending.old.entries → AreBefore made pending.new.entries }
-        ensures less { (k : Waiting) → is_due k.ctx (value_at reach.now k.ctx) k ≡ true →
-            holds self.new k ≡ true → holds self.old k ≡ true }
+        ensures moved { AreMoved reach.now pending.old.entries self.old pending.new.entries self.new }
         ensures fewer { OnOk result (number_due due.now.ctx (value_at reach.now due.now.ctx) self.new <
             number_due due.now.ctx (value_at reach.now due.now.ctx) self.old) }
     {

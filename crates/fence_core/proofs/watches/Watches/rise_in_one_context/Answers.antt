@@ -20,19 +20,25 @@ settle_context-settled-requires-clause-none_fires c =
     ∙ ap (λ (r : Registry). list_any (fires (reaching r.reach c.args.point.now)) r.pending) c.self.view_is
     ∙ c.requires.none_fires
 
+pub settle-settled-requires-clause-placed : goal.settle-settled-requires-clause-placed
+settle-settled-requires-clause-placed c = record { indexed = c.self.invariant.1; kept = c.self.invariant.0.kept }
+
+pub settle_context-settled-requires-clause-placed : goal.settle_context-settled-requires-clause-placed
+settle_context-settled-requires-clause-placed c = record { indexed = c.self.invariant.1; kept = c.self.invariant.0.kept }
+
 pub invariant_of-self : goal.invariant_of-self
 invariant_of-self c =
     let step = c.settle-settled.ensures in (
-      AreRegistered-same c.self.inside.pending.entries c.settle-settled.new.pending.entries c.self.inside.made c.self.invariant.0 step.same step.kept (step.before c.self.inside.made c.self.invariant.0.before),
-      step.indexed,
+      AreRegistered-same c.self.inside.pending.entries c.settle-settled.new.pending.entries c.self.inside.made c.self.invariant.0 step.moved.same step.moved.placed.kept (step.moved.numbers c.self.inside.made c.self.invariant.0.before),
+      step.moved.placed.indexed,
       λ settled. AreAbove-none_due c.settle-settled.new.self c.raise_to.new.self (on_ok c.settle-settled.result step.none_left (sym c.is_ok-self-inside.ensures.value ∙ settled)),
     )
 
 pub invariant_of-self-2 : goal.invariant_of-self-2
 invariant_of-self-2 c =
     let step = c.settle_context-settled.ensures in (
-      AreRegistered-same c.self.inside.pending.entries c.settle_context-settled.new.pending.entries c.self.inside.made c.self.invariant.0 step.same step.kept (step.before c.self.inside.made c.self.invariant.0.before),
-      step.indexed,
-      λ settled. AreAbove-one_context c.self.inside.index c.settle_context-settled.new.self c.self.inside.reach c.raise_to.new.self c.args.point.now c.raise_to.ensures.value c.raise_to.ensures.context.0 (c.self.invariant.2 c.if-not-self.false) step.less
+      AreRegistered-same c.self.inside.pending.entries c.settle_context-settled.new.pending.entries c.self.inside.made c.self.invariant.0 step.moved.same step.moved.placed.kept (step.moved.numbers c.self.inside.made c.self.invariant.0.before),
+      step.moved.placed.indexed,
+      λ settled. AreAbove-one_context c.self.inside.index c.settle_context-settled.new.self c.self.inside.reach c.raise_to.new.self c.args.point.now c.raise_to.ensures.value c.raise_to.ensures.context.0 (c.self.invariant.2 c.if-not-self.false) step.moved.less
           (on_ok c.settle_context-settled.result step.none_left (sym c.is_ok-self-inside-2.ensures.value ∙ settled)),
     )

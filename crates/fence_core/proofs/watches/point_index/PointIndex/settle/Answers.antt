@@ -7,8 +7,8 @@ use Rattle.fence_core.proofs.watches.point_index.PointIndex.settle.Goals as goal
 pub returns-clause-none_left : goal.returns-clause-none_left
 returns-clause-none_left c = λ k due. elim (cases_Bool (holds c.loop-index.self k)) [
   | inl there ↦
-      let within = holds-within c.args.self.now k (c.loop-index.invariant.4 k due there) in
+      let within = holds-within c.args.self.now k (c.loop-index.invariant.moved.less k due there) in
       let same = ap length c.self.view_is in
-      c.loop-index.invariant.5 k (omega (arith, within.1, same)) due
+      c.loop-index.invariant.none k (omega (arith, within.1, same)) due
   | inr gone ↦ gone
 ]

@@ -1,16 +1,12 @@
-use Rattle.std.proofs.Common.{◌≡◌, ◌≤◌, ℕ, true, false}
+use Rattle.std.proofs.Common.{◌≡◌, ◌≤◌, true, false}
 use Rattle.point_core.specs.Reach.{value_at}
 use Rattle.fence_core.specs.declared.watches.point_index.WaitingPoint.{WaitingPoint as Waiting}
 use Rattle.fence_core.specs.PointIndex.{holds, is_due}
-use Rattle.fence_core.specs.Pending.{watches_of}
-use Rattle.fence_core.specs.Registered.{AreKept, AreBefore, IsIndexed}
+use Rattle.fence_core.specs.Registered.{AreMoved}
 use Rattle.fence_core.proofs.watches.point_index.PointIndex.settle.Given as goal
 
 abbrev pub invariant-loop-index : goal.invariant-loop-index
-invariant-loop-index l =
-    IsIndexed l.pending.entries l.self ×
-    AreKept l.pending.entries ×
-    (watches_of l.pending.entries ≡ watches_of l.fn.pending.entries) ×
-    ((made : ℕ) → AreBefore made l.fn.pending.entries → AreBefore made l.pending.entries) ×
-    ((k : Waiting) → is_due k.ctx (value_at l.reach k.ctx) k ≡ true → holds l.self k ≡ true → holds l.fn.self k ≡ true) ×
-    ((k : Waiting) → k.ctx ≤ l.index → is_due k.ctx (value_at l.reach k.ctx) k ≡ true → holds l.self k ≡ false)
+invariant-loop-index l = record {
+  moved : AreMoved l.reach l.fn.pending.entries l.fn.self l.pending.entries l.self;
+  none : (k : Waiting) → k.ctx ≤ l.index → is_due k.ctx (value_at l.reach k.ctx) k ≡ true → holds l.self k ≡ false;
+}
