@@ -1,9 +1,10 @@
 -- Points that are waited for are above the reach.
-use Rattle.std.proofs.Common.{◌≡◌, ◌≢◌, ℕ, ◌<◌, ◌≤◌, ◌||◌, ◌&&◌, Bool, true, false, nat_eq, nat_le, max, refl, sym, ap, ◌∙◌, subst, List, [], length, Result, Ok, Err, OnOk, OnErr, is_ok, arith, inl, inr}
+use Rattle.std.proofs.Common.{◌≡◌, ◌≢◌, ℕ, ◌-◌, ◌<◌, ◌≤◌, ◌||◌, ◌&&◌, Bool, true, false, nat_eq, nat_le, max, refl, sym, ap, ◌∙◌, subst, List, [], length, Result, Ok, Err, OnOk, OnErr, is_ok, arith, inl, inr}
 use Rattle.std.proofs.lemmas.Bool.{and_parts, and_from, cases_Bool, cases_lt, eqb-true, eq-eqb, false≢true, le-leb, leb-true, leb-false}
+use Rattle.std.proofs.lemmas.List.{set-get_or}
 use Rattle.point_core.specs.declared.context.TheConstants.{CONTEXTS}
 use Rattle.point_core.specs.declared.entry.Point.{Point}
-use Rattle.point_core.specs.Reach.{value_at, reaching, is_reached, IsAtLeast}
+use Rattle.point_core.specs.Reach.{value_at, with_value, reaching, is_reached, IsAtLeast}
 use Rattle.point_core.proofs.Values.{value_at-with_value_same, value_at-with_value_other, later_values-is, later_values-at_least, IsAtLeast-at}
 use Rattle.fence_core.specs.declared.watches.point_index.WaitingPoint.{WaitingPoint}
 use Rattle.fence_core.specs.declared.watches.point_index.point_queue.Standing.{Standing}
@@ -130,3 +131,9 @@ AreAbove-raised ks reach p full low high h none = AreAbove-one_context ks ks rea
         | inr gone ↦ gone
       ]
     ])
+
+-- a point that the reach has reached raises nothing
+pub reaching-own : (reach : List ℕ) (p : Point) → p.value ≡ value_at reach p.ctx → reaching reach p ≡ reach
+reaching-own reach p is =
+    let same : max (value_at reach p.ctx) p.value ≡ value_at reach p.ctx = omega (arith, is) in
+    ap (with_value reach p.ctx) same ∙ set-get_or reach (p.ctx - 1) 0

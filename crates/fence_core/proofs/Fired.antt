@@ -23,7 +23,7 @@ use Rattle.fence_core.proofs.ByCookie.{at-by_registration}
 use Rattle.fence_core.proofs.Indexed.{fires-due}
 use Rattle.fence_core.specs.Watch.{Watch, is_for, cookies_of}
 use Rattle.fence_core.specs.Watches.{fires}
-use Rattle.fence_core.specs.Reported.{at, cookie_if_fires, IsReported, AreOnlyFiring, Fires}
+use Rattle.fence_core.specs.Reported.{at, cookie_if_fires, with_cookies, IsReported, AreOnlyFiring, AreGathered, Fires}
 
 -- the cookies of the watches that fire, by registration
 reported : List ℕ → List (ℕ × Watch) → List (ℕ × ℕ)
@@ -86,18 +86,22 @@ values-reported reach (e ∷ es) = by (fires reach e.1) (values-reported reach e
     by false rest = rest
 
 -- if each registration was reported, the cookies stand by registration
-values-IsReported : (reach : List ℕ) (es : Places) (fired : List (ℕ × ℕ)) → AreKept es → IsStrictlySortedBy nat_cmp (keys_of fired) → ((r : ℕ) → IsReported es reach fired r) → values_of fired ≡ cookies_of (filter (fires reach) (watches_of es))
+pub keys_of-with_cookies : (fired : List ℕ) → keys_of (with_cookies fired) ≡ fired
+keys_of-with_cookies [] = refl
+keys_of-with_cookies (r ∷ fired) = ap (λ rs. r ∷ rs) (keys_of-with_cookies fired)
+
+values-IsReported : (reach : List ℕ) (es : Places) (fired : List ℕ) → AreKept es → IsStrictlySortedBy nat_cmp fired → ((r : ℕ) → IsReported es reach fired r) → values_of (with_cookies fired) ≡ cookies_of (filter (fires reach) (watches_of es))
 values-IsReported reach es fired kept rising all =
     let ws = in_order (by_registration es) in
     let ordered = ordered-in_order (by_registration es) in
-    ap values_of (same_lists fired (reported reach ws) rising (ordered-reported reach ws ordered) (λ r. all r ∙ ap (cookie_if_fires reach) (sym (at-by_registration es r kept)) ∙ sym (at-reported reach ws r ordered)))
+    ap values_of (same_lists (with_cookies fired) (reported reach ws) (subst (IsStrictlySortedBy nat_cmp) (sym (keys_of-with_cookies fired)) rising) (ordered-reported reach ws ordered) (λ r. all r ∙ ap (cookie_if_fires reach) (sym (at-by_registration es r kept)) ∙ sym (at-reported reach ws r ordered)))
     ∙ values-reported reach ws
 
 -- if no watch was reported that doesn't fire, and each that fires was, each was reported
-pub IsReported-all : (reach : List ℕ) (es : Places) (fired : List (ℕ × ℕ)) (r : ℕ) → AreOnlyFiring es reach fired → ((w : Watch) → found es r ≡ Some w → fires reach w ≡ true → IsReported es reach fired r) → IsReported es reach fired r
-IsReported-all reach es fired r some all = by (at fired r) refl
+pub IsReported-all : (reach : List ℕ) (es : Places) (fired : List ℕ) (r : ℕ) → AreOnlyFiring es reach fired → ((w : Watch) → found es r ≡ Some w → fires reach w ≡ true → IsReported es reach fired r) → IsReported es reach fired r
+IsReported-all reach es fired r some all = by (at (with_cookies fired) r) refl
   where
-    by : (o : Option ℕ) → at fired r ≡ o → IsReported es reach fired r
+    by : (o : Option ℕ) → at (with_cookies fired) r ≡ o → IsReported es reach fired r
     by (Some c) is = is ∙ sym (some r c is)
     by None is = from (found es r) refl
       where
@@ -109,17 +113,24 @@ IsReported-all reach es fired r some all = by (at fired r) refl
         ]
 
 -- what is reported of the points that are due is the cookies of the watches that fire
-pub values-fired : (reach : List ℕ) (es : Places) (index : List (List Standing)) (fired : List (ℕ × ℕ)) → AreKept es → IsIndexed es index → IsStrictlySortedBy nat_cmp (keys_of fired) → AreOnlyFiring es reach fired → ((k : WaitingPoint) → is_due k.ctx (value_at reach k.ctx) k ≡ true → holds index k ≡ true → IsReported es reach fired k.registration) → values_of fired ≡ cookies_of (filter (fires reach) (watches_of es))
-values-fired reach es index fired kept h rising some all =
-    values-IsReported reach es fired kept rising (λ r. IsReported-all reach es fired r some (λ w is fired_it.
+pub values-fired : (reach : List ℕ) (es : Places) (index : List (List Standing)) (fired : List ℕ) → AreKept es → IsIndexed es index → AreGathered es reach fired → ((k : WaitingPoint) → is_due k.ctx (value_at reach k.ctx) k ≡ true → holds index k ≡ true → IsReported es reach fired k.registration) → values_of (with_cookies fired) ≡ cookies_of (filter (fires reach) (watches_of es))
+values-fired reach es index fired kept h gathered all =
+    values-IsReported reach es fired kept gathered.rising (λ r. IsReported-all reach es fired r gathered.only_firing (λ w is fired_it.
     let k = fires-due es index reach r w h is fired_it in
     subst (IsReported es reach fired) k.1 (all k.0 k.3 k.2)))
+
+none-gathered : (reach : List ℕ) (es : Places) → AreGathered es reach []
+unfolding IsStrictlySortedBy
+none-gathered reach es = record { rising = tt; only_firing = λ r cookie there. absurd (none-some cookie there) }
+
+pub AreGathered-none : (reach : List ℕ) (es : Places) (fired : List ℕ) → fired ≡ [] → AreGathered es reach fired
+AreGathered-none reach es fired is = subst (λ rs. AreGathered es reach rs) (sym is) (none-gathered reach es)
 
 -- if no point is due, no watch fires
 pub none-due : (reach : List ℕ) (es : Places) (index : List (List Standing)) → AreKept es → IsIndexed es index → ((k : WaitingPoint) → holds index k ≡ true → is_due k.ctx (value_at reach k.ctx) k ≡ false) → cookies_of (filter (fires reach) (watches_of es)) ≡ []
 unfolding IsStrictlySortedBy
 none-due reach es index kept h none =
-    sym (values-fired reach es index [] kept h tt (λ r cookie is. absurd (none-some cookie is)) (λ k due there. absurd (false≢true (sym (none k there) ∙ due))))
+    sym (values-fired reach es index [] kept h (none-gathered reach es) (λ k due there. absurd (false≢true (sym (none k there) ∙ due))))
 
 none-of : (reach : List ℕ) (w : Watch) (ws : List Watch) → cookies_of (filter (fires reach) (w ∷ ws)) ≡ [] → (fires reach w ≡ false) × (cookies_of (filter (fires reach) ws) ≡ [])
 none-of reach w ws none = by (fires reach w) refl
@@ -233,29 +244,29 @@ none-left reach (w ∷ ws) = by (fires reach w) refl (none-left reach ws)
     by false is rest = ap (λ b. b || list_any (fires reach) (filter (λ w. not (fires reach w)) ws)) is ∙ rest
 
 -- a watch that does not fire was reported rightly
-pub reported-none : (es : Places) (reach : List ℕ) (fired : List (ℕ × ℕ)) (r : ℕ) → AreOnlyFiring es reach fired → cookie_if_fires reach (found es r) ≡ None → IsReported es reach fired r
-reported-none es reach fired r only none = by (at fired r) refl
+pub reported-none : (es : Places) (reach : List ℕ) (fired : List ℕ) (r : ℕ) → AreOnlyFiring es reach fired → cookie_if_fires reach (found es r) ≡ None → IsReported es reach fired r
+reported-none es reach fired r only none = by (at (with_cookies fired) r) refl
   where
-    by : (o : Option ℕ) → at fired r ≡ o → IsReported es reach fired r
+    by : (o : Option ℕ) → at (with_cookies fired) r ≡ o → IsReported es reach fired r
     by None is = is ∙ sym none
     by (Some c) is = absurd (none-some c (sym none ∙ only r c is))
 
 -- one more watch that fires
-module _ (es : Places) (reach : List ℕ) (old new : List (ℕ × ℕ)) (r : ℕ) (w : Watch) (only : AreOnlyFiring es reach old) (there : found es r ≡ Some w) (fired : fires reach w ≡ true) (put : (q : ℕ) → at new q ≡ cond (is_at (nat_cmp r) q) (Some w.cookie) (at old q)) where
+module _ (es : Places) (reach : List ℕ) (old new : List ℕ) (r : ℕ) (w : Watch) (only : AreOnlyFiring es reach old) (there : found es r ≡ Some w) (fired : fires reach w ≡ true) (put : (q : ℕ) → at (with_cookies new) q ≡ cond (is_at (nat_cmp r) q) (Some w.cookie) (at (with_cookies old) q)) where
   its : cookie_if_fires reach (found es r) ≡ Some w.cookie
   its = ap (cookie_if_fires reach) there ∙ ap (λ b. cond b (Some w.cookie) None) fired
 
   pub reported-put : IsReported es reach new r
-  reported-put = put r ∙ ap (λ b. cond b (Some w.cookie) (at old r)) (is_at-true r r refl) ∙ sym its
+  reported-put = put r ∙ ap (λ b. cond b (Some w.cookie) (at (with_cookies old) r)) (is_at-true r r refl) ∙ sym its
 
   pub reported-still : (q : ℕ) → IsReported es reach old q → IsReported es reach new q
   reported-still q was = elim (cases_Bool (is_at (nat_cmp r) q)) [
     | inl here ↦ subst (IsReported es reach new) (is_at-is r q here) reported-put
-    | inr past ↦ put q ∙ ap (λ b. cond b (Some w.cookie) (at old q)) past ∙ was
+    | inr past ↦ put q ∙ ap (λ b. cond b (Some w.cookie) (at (with_cookies old) q)) past ∙ was
   ]
 
   pub only-put : AreOnlyFiring es reach new
   only-put q c is = elim (cases_Bool (is_at (nat_cmp r) q)) [
     | inl here ↦ sym (subst (IsReported es reach new) (is_at-is r q here) reported-put) ∙ is
-    | inr past ↦ only q c (sym (put q ∙ ap (λ b. cond b (Some w.cookie) (at old q)) past) ∙ is)
+    | inr past ↦ only q c (sym (put q ∙ ap (λ b. cond b (Some w.cookie) (at (with_cookies old) q)) past) ∙ is)
   ]

@@ -1,128 +1,115 @@
--- Cookies of watches that fire, gathered by registration: none, one more, and all that stand in a context.
-use Rattle.std.proofs.Common.{◌≡◌, ℕ, ◌<◌, ◌≤◌, ◌⊎◌, inl, inr, true, false, cond, refl, sym, ap, ◌∙◌, subst, List, [], ◌∷◌, ◌++◌, Option, None, Some, arith}
-use Rattle.std.specs.Prelude.{IfSome}
-use Rattle.std.specs.List.Sorted.{IsStrictlySortedBy}
-use Rattle.std.specs.Map.{values_of}
+-- Registrations of watches that fire, gathered in rising order: one more, at its place.
+use Rattle.std.proofs.Common.{◌≡◌, ℕ, zero, suc, ◌<◌, ◌≤◌, cond, refl, sym, ap, ◌∙◌, subst, List, [], ◌∷◌, ◌++◌, ◌+◌, Some, Ok, Err, length, get_or, take, inl, inr, arith}
+use Rattle.std.specs.List.{insert, AllByRecursion}
+use Rattle.std.specs.List.Sorted.{IsStrictlySortedBy, IsBinarySearchResult}
+use Rattle.std.specs.Map.{keys_of, values_of}
 use Rattle.std.specs.BTreeMap.{is_at, insert_entry}
-use Rattle.std.specs.Ordering.{nat_cmp}
-use Rattle.std.proofs.lemmas.Bool.{false≢true}
-use Rattle.std.proofs.lemmas.List.{map-append}
-use Rattle.std.proofs.lemmas.Option.{same_Some, none-some}
-use Rattle.point_core.specs.Reach.{value_at}
-use Rattle.fence_core.specs.declared.watches.point_index.WaitingPoint.{WaitingPoint}
-use Rattle.fence_core.specs.declared.watches.point_index.point_queue.Standing.{Standing}
+use Rattle.std.specs.Ordering.{nat_cmp, match_ordering}
+use Rattle.std.specs.declared.cmp.Ordering.TheVariants.{Less}
+use Rattle.std.proofs.lemmas.Bool.{cases_Bool}
+use Rattle.std.proofs.lemmas.List.{take_more}
+use Rattle.std.proofs.lemmas.List.Sorted.{searched}
+use Rattle.fence_core.specs.Registration.{cookie_of}
 use Rattle.fence_core.specs.Watch.{Watch}
 use Rattle.fence_core.specs.Pending.{Places, found}
-use Rattle.fence_core.specs.Watches.{fires}
-use Rattle.fence_core.specs.PointIndex.{standing_of, is_alike, has, holds, is_due, IsRising}
-use Rattle.fence_core.specs.Reported.{at, cookie_if_fires, IsReported}
-use Rattle.fence_core.specs.Gathered.{IsAfter, AreGathered, HasGathered, AreFiredIn}
-use Rattle.fence_core.proofs.PointIndex.{IsRising-rest, first-least, due-at, alike-registration}
-use Rattle.fence_core.proofs.Indexed.{or_cases}
-use Rattle.fence_core.proofs.InOrder.{at-insert, All-insert, ordered-insert, insert_entry-last}
-use Rattle.fence_core.proofs.Fired.{reported-none, reported-put, reported-still, only-put}
+use Rattle.fence_core.specs.Reported.{at, with_cookies, AreGathered, HasGathered}
+use Rattle.fence_core.proofs.PointIndex.{less-nat}
+use Rattle.fence_core.proofs.InOrder.{is_at-true, is_at-is, greater, less, at-insert, ordered-insert}
+use Rattle.fence_core.proofs.ByCookie.{found-is}
+use Rattle.fence_core.proofs.Fired.{keys_of-with_cookies}
 
-pub at_some : {T : Type 0} (P : T → Type 0) (o : Option T) (x : T) → IfSome o P → o ≡ Some x → P x
-at_some P None x h is = absurd (none-some x is)
-at_some P (Some y) x h is = subst P (same_Some y x is) h
+-- the cookie of a registration's watch
+pub cookie-found : (es : Places) (r : ℕ) (w : Watch) → found es r ≡ Some w → cookie_of r ≡ w.cookie
+cookie-found es r w is = let it = found-is es r w is in ap cookie_of (sym it.2) ∙ ap (λ (v : Watch). v.cookie) it.3
 
-AreGathered-none : (es : Places) (reach : List ℕ) → AreGathered es reach [] [] None
+pub HasGathered-none : (es : Places) (reach fired : List ℕ) → AreGathered es reach fired → HasGathered es reach fired fired
+HasGathered-none es reach fired h = record { gathered = h; still = λ r told. told }
+
+pub HasGathered-same : (es : Places) (reach fired after : List ℕ) → after ≡ fired → AreGathered es reach fired → HasGathered es reach fired after
+HasGathered-same es reach fired after is h = subst (HasGathered es reach fired) (sym is) (HasGathered-none es reach fired h)
+
+pub HasGathered-more : (es : Places) (reach before now after : List ℕ) → HasGathered es reach before now → HasGathered es reach now after → HasGathered es reach before after
+HasGathered-more es reach before now after h more = record { gathered = more.gathered; still = λ r told. more.still r (h.still r told) }
+
+-- registrations that rise never fall
+least-first : (x : ℕ) (xs : List ℕ) (j : ℕ) → AllByRecursion (λ y. nat_cmp x y ≡ Less) xs → j < length xs → x ≤ get_or xs j 0
+least-first x [] j all low = absurd (omega arith)
+least-first x (y ∷ xs) zero all low = let up = less-nat x y all.0 in omega arith
+least-first x (y ∷ xs) (suc j) all low = least-first x xs j all.1 (omega arith)
+
+pub rising-at : (xs : List ℕ) → IsStrictlySortedBy nat_cmp xs → (i j : ℕ) → i ≤ j → j < length xs → get_or xs i 0 ≤ get_or xs j 0
 unfolding IsStrictlySortedBy
-AreGathered-none es reach = record { values = refl; ordered = tt; before = λ r after. tt; only_firing = λ r cookie is. absurd (none-some cookie is) }
+rising-at [] h i j up low = absurd (omega arith)
+rising-at (x ∷ xs) h zero zero up low = omega arith
+rising-at (x ∷ xs) h zero (suc j) up low = least-first x xs j h.0 (omega arith)
+rising-at (x ∷ xs) h (suc i) zero up low = absurd (omega arith)
+rising-at (x ∷ xs) h (suc i) (suc j) up low = rising-at xs h.1 i j (omega arith) (omega arith)
 
-after-later : (last : Option ℕ) (r later : ℕ) → IsAfter last r → r < later → IsAfter last later
-after-later None r later after up = tt
-after-later (Some last) r later after up = omega arith
+-- one more, at its place
+pub with_cookies-insert : (xs : List ℕ) (place r : ℕ) → place ≤ length xs → ((k : ℕ) → k < place → get_or xs k 0 < r) → ((k : ℕ) → place ≤ k → k < length xs → r < get_or xs k 0) → with_cookies (insert xs place r) ≡ insert_entry nat_cmp (with_cookies xs) r (cookie_of r)
+with_cookies-insert [] zero r within under over = refl
+with_cookies-insert [] (suc place) r within under over = absurd (omega arith)
+with_cookies-insert (x ∷ xs) zero r within under over =
+    sym (ap (λ o. match_ordering o ((r, cookie_of r) ∷ (x, cookie_of x) ∷ with_cookies xs) ((x, cookie_of r) ∷ with_cookies xs) ((x, cookie_of x) ∷ insert_entry nat_cmp (with_cookies xs) r (cookie_of r))) (less r x (over 0 (omega arith) (omega arith))))
+with_cookies-insert (x ∷ xs) (suc place) r within under over =
+    ap (λ es. (x, cookie_of x) ∷ es) (with_cookies-insert xs place r (omega arith) (λ k low. under (suc k) (omega arith)) (λ k up low. over (suc k) (omega arith) (omega arith)))
+    ∙ sym (ap (λ o. match_ordering o ((r, cookie_of r) ∷ (x, cookie_of x) ∷ with_cookies xs) ((x, cookie_of r) ∷ with_cookies xs) ((x, cookie_of x) ∷ insert_entry nat_cmp (with_cookies xs) r (cookie_of r))) (greater r x (under 0 (omega arith))))
 
--- a watch that does not fire
-pub HasGathered-same : (es : Places) (reach : List ℕ) (r : ℕ) (fired : List (ℕ × ℕ)) (cookies : List ℕ) (last : Option ℕ) → AreGathered es reach fired cookies last → cookie_if_fires reach (found es r) ≡ None → HasGathered es reach r fired cookies last
-HasGathered-same es reach r fired cookies last h none = record {
-  more = fired;
-  gathered = h;
-  still = λ q was. was;
-  reported = reported-none es reach fired r h.only_firing none;
-}
+module _ (xs : List ℕ) (place r : ℕ) (within : place ≤ length xs) (under : (k : ℕ) → k < place → get_or xs k 0 < r) (over : (k : ℕ) → place ≤ k → k < length xs → r < get_or xs k 0) where
+  pub at-inserted : (q : ℕ) → at (with_cookies (insert xs place r)) q ≡ cond (is_at (nat_cmp r) q) (Some (cookie_of r)) (at (with_cookies xs) q)
+  at-inserted q = ap (λ es. at es q) (with_cookies-insert xs place r within under over) ∙ at-insert (with_cookies xs) r (cookie_of r) q
 
--- a watch that fires, of a later registration
-pub HasGathered-put : (es : Places) (reach : List ℕ) (r : ℕ) (w : Watch) (fired : List (ℕ × ℕ)) (cookies : List ℕ) (last : Option ℕ) → AreGathered es reach fired cookies last → found es r ≡ Some w → fires reach w ≡ true → IsAfter last r → HasGathered es reach r fired (cookies ++ w.cookie ∷ []) (Some r)
-HasGathered-put es reach r w fired cookies last h there fired_it after =
-    let more : List (ℕ × ℕ) = insert_entry nat_cmp fired r w.cookie in
-    let put : (q : ℕ) → at more q ≡ cond (is_at (nat_cmp r) q) (Some w.cookie) (at fired q) = at-insert fired r w.cookie in
-    let is : more ≡ fired ++ (r, w.cookie) ∷ [] = insert_entry-last fired r w.cookie (h.before r after) in
-    record {
-      more = more;
-      gathered = record {
-        values = ap values_of is ∙ map-append (λ (e : ℕ × ℕ). e.1) fired ((r, w.cookie) ∷ []) ∙ ap (λ cs. cs ++ w.cookie ∷ []) h.values;
-        ordered = ordered-insert fired r w.cookie h.ordered;
-        before = λ later up. All-insert (λ n. n < later) fired r w.cookie (h.before later (after-later last r later after up)) up;
-        only_firing = only-put es reach fired more r w h.only_firing there fired_it put;
-      };
-      still = reported-still es reach fired more r w h.only_firing there fired_it put;
-      reported = reported-put es reach fired more r w h.only_firing there fired_it put;
-    }
+  pub rising-inserted : IsStrictlySortedBy nat_cmp xs → IsStrictlySortedBy nat_cmp (insert xs place r)
+  rising-inserted h =
+      let keys = sym (keys_of-with_cookies (insert xs place r)) ∙ ap (λ es. keys_of es) (with_cookies-insert xs place r within under over) in
+      subst (IsStrictlySortedBy nat_cmp) (sym keys) (ordered-insert (with_cookies xs) r (cookie_of r) (subst (IsStrictlySortedBy nat_cmp) (sym (keys_of-with_cookies xs)) h))
 
--- each watch of the context was looked at, or is still ahead
-pub record HasPassed (ctx : ℕ) (index : List (List Standing)) (ahead : List Standing) (es : Places) (reach cookies : List ℕ) (last : Option ℕ) : Type 0 where
-  pub fired : List (ℕ × ℕ)
-  pub gathered : AreGathered es reach fired cookies last
-  pub rising : IsRising ahead
-  pub passed : (k : WaitingPoint) → is_due ctx (value_at reach ctx) k ≡ true → holds index k ≡ true → (has ahead (standing_of k) ≡ true) ⊎ IsReported es reach fired k.registration
+-- a registration that is there already
+at-there : (xs : List ℕ) (i r : ℕ) → i < length xs → get_or xs i 0 ≡ r → at (with_cookies xs) r ≡ Some (cookie_of r)
+at-there [] i r low is = absurd (omega arith)
+at-there (x ∷ xs) zero r low is = ap (λ b. cond b (Some (cookie_of x)) (at (with_cookies xs) r)) (is_at-true r x (sym is)) ∙ ap (λ n. Some (cookie_of n)) is
+at-there (x ∷ xs) (suc i) r low is = elim (cases_Bool (is_at (nat_cmp r) x)) [
+  | inl here ↦ ap (λ b. cond b (Some (cookie_of x)) (at (with_cookies xs) r)) here ∙ ap (λ n. Some (cookie_of n)) (sym (is_at-is r x here))
+  | inr past ↦ ap (λ b. cond b (Some (cookie_of x)) (at (with_cookies xs) r)) past ∙ at-there xs i r (omega arith) is
+]
 
-module _ (ctx : ℕ) (index : List (List Standing)) (es : Places) (reach : List ℕ) where
-  pub AreFiredIn-none : (cookies : List ℕ) → cookies ≡ [] → ((k : WaitingPoint) → k.ctx ≡ ctx → holds index k ≡ false) → AreFiredIn ctx index es reach cookies
-  AreFiredIn-none cookies none nowhere = record {
-    fired = [];
-    last = None;
-    gathered = subst (λ cs. AreGathered es reach [] cs None) (sym none) (AreGathered-none es reach);
-    all = λ k due there. absurd (false≢true (sym (nowhere k (due-at ctx (value_at reach ctx) k due).0) ∙ there));
-  }
+pub at-again : (xs : List ℕ) (i r : ℕ) → i < length xs → get_or xs i 0 ≡ r → (q : ℕ) → at (with_cookies xs) q ≡ cond (is_at (nat_cmp r) q) (Some (cookie_of r)) (at (with_cookies xs) q)
+at-again xs i r low is q = elim (cases_Bool (is_at (nat_cmp r) q)) [
+  | inl here ↦
+      ap (λ n. at (with_cookies xs) n) (sym (is_at-is r q here)) ∙ at-there xs i r low is
+      ∙ sym (ap (λ b. cond b (Some (cookie_of r)) (at (with_cookies xs) q)) here)
+  | inr past ↦ sym (ap (λ b. cond b (Some (cookie_of r)) (at (with_cookies xs) q)) past)
+]
 
-  pub HasPassed-none : (ahead : List Standing) (cookies : List ℕ) → cookies ≡ [] → IsRising ahead → ((k : WaitingPoint) → is_due ctx (value_at reach ctx) k ≡ true → holds index k ≡ true → has ahead (standing_of k) ≡ true) → HasPassed ctx index ahead es reach cookies None
-  HasPassed-none ahead cookies none rising all = record {
-    fired = [];
-    gathered = subst (λ cs. AreGathered es reach [] cs None) (sym none) (AreGathered-none es reach);
-    rising = rising;
-    passed = λ k due there. inl (all k due there);
-  }
+-- what a search found
+pub at-found : (xs ys : List ℕ) (i r : ℕ) → ys ≡ xs → IsBinarySearchResult (λ y. nat_cmp y r) ys (Ok i) → IsStrictlySortedBy nat_cmp xs → (q : ℕ) → at (with_cookies xs) q ≡ cond (is_at (nat_cmp r) q) (Some (cookie_of r)) (at (with_cookies xs) q)
+at-found xs ys i r is there h q =
+    let found : (i < length xs) × (get_or xs i 0 ≡ r) = searched xs r (Ok i) (subst (λ zs. IsBinarySearchResult (λ y. nat_cmp y r) zs (Ok i)) is there) (rising-at xs h) in
+    at-again xs i r found.0 found.1 q
 
-  pub HasPassed-more : (ahead left : List Standing) (first : Standing) (cookies more : List ℕ) (last later : Option ℕ) → HasPassed ctx index ahead es reach cookies last → ahead ≡ first ∷ left → ((fired : List (ℕ × ℕ)) → AreGathered es reach fired cookies last → HasGathered es reach first.registration fired more later) → HasPassed ctx index left es reach more later
-  HasPassed-more ahead left first cookies more last later h steps put =
-      let step = put h.fired h.gathered in
-      record {
-        fired = step.more;
-        gathered = step.gathered;
-        rising = IsRising-rest ahead left first h.rising steps;
-        passed = λ k due there. elim (h.passed k due there) [
-          | inl ahead_of ↦ elim (or_cases (is_alike (standing_of k) first) (has left (standing_of k)) (sym (ap (λ q. has q (standing_of k)) steps) ∙ ahead_of)) [
-            | inl here ↦ inr (subst (IsReported es reach step.more) (sym (alike-registration (standing_of k) first here)) step.reported)
-            | inr rest ↦ inl rest
-          ]
-          | inr told ↦ inr (step.still k.registration told)
-        ];
-      }
+module _ (xs ys : List ℕ) (i r : ℕ) (is : ys ≡ xs) (past : IsBinarySearchResult (λ y. nat_cmp y r) ys (Err i)) (h : IsStrictlySortedBy nat_cmp xs) where
+  place : (i ≤ length xs) × ((k : ℕ) → k < i → get_or xs k 0 < r) × ((k : ℕ) → i ≤ k → k < length xs → r < get_or xs k 0)
+  place = searched xs r (Err i) (subst (λ zs. IsBinarySearchResult (λ y. nat_cmp y r) zs (Err i)) is past) (rising-at xs h)
 
-  -- the next one stands above the value, and so do all that are ahead
-  pub HasPassed-stop : (ahead left : List Standing) (first : Standing) (cookies : List ℕ) (last : Option ℕ) → HasPassed ctx index ahead es reach cookies last → ahead ≡ first ∷ left → value_at reach ctx < first.value → AreFiredIn ctx index es reach cookies
-  HasPassed-stop ahead left first cookies last h steps above = record {
-    fired = h.fired;
-    last = last;
-    gathered = h.gathered;
-    all = λ k due there. elim (h.passed k due there) [
-      | inl ahead_of ↦
-          let low = (due-at ctx (value_at reach ctx) k due).1 in
-          let least : first.value ≤ k.value = first-least ahead left first (standing_of k) h.rising steps ahead_of in
-          absurd (omega arith)
-      | inr told ↦ told
-    ];
-  }
+  pub put-within : i ≤ length xs
+  put-within = place.0
 
-  pub HasPassed-all : (ahead : List Standing) (cookies : List ℕ) (last : Option ℕ) → HasPassed ctx index ahead es reach cookies last → ahead ≡ [] → AreFiredIn ctx index es reach cookies
-  HasPassed-all ahead cookies last h end = record {
-    fired = h.fired;
-    last = last;
-    gathered = h.gathered;
-    all = λ k due there. elim (h.passed k due there) [
-      | inl ahead_of ↦ absurd (false≢true (sym (ap (λ q. has q (standing_of k)) end) ∙ ahead_of))
-      | inr told ↦ told
-    ];
-  }
+  pub at-put : (q : ℕ) → at (with_cookies (insert xs i r)) q ≡ cond (is_at (nat_cmp r) q) (Some (cookie_of r)) (at (with_cookies xs) q)
+  at-put = at-inserted xs i r place.0 place.1 place.2
+
+  pub rising-put : IsStrictlySortedBy nat_cmp (insert xs i r)
+  rising-put = rising-inserted xs i r place.0 place.1 place.2 h
+
+-- their cookies, one by one
+values-push : (xs : List ℕ) (x : ℕ) → values_of (with_cookies (xs ++ x ∷ [])) ≡ values_of (with_cookies xs) ++ cookie_of x ∷ []
+values-push [] x = refl
+values-push (y ∷ xs) x = ap (λ cs. cookie_of y ∷ cs) (values-push xs x)
+
+pub listed-more : (xs cookies more : List ℕ) (i c d : ℕ) → i < length xs → cookies ≡ values_of (with_cookies (take i xs)) → more ≡ cookies ++ c ∷ [] → c ≡ cookie_of (get_or xs i d) → more ≡ values_of (with_cookies (take (i + 1) xs))
+listed-more xs cookies more i c d low were pushed is =
+    pushed ∙ ap (λ cs. cs ++ c ∷ []) were ∙ ap (λ n. values_of (with_cookies (take i xs)) ++ n ∷ []) is
+    ∙ sym (values-push (take i xs) (get_or xs i d)) ∙ ap (λ rs. values_of (with_cookies rs)) (sym (take_more xs i d low))
+
+pub none-listed : (xs : List ℕ) (i : ℕ) → i < length xs → values_of (with_cookies xs) ≡ [] → ⊥
+none-listed [] i low none = absurd (omega arith)
+none-listed (x ∷ xs) i low none = absurd (cc)

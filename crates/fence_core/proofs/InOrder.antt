@@ -39,8 +39,11 @@ apart : {X : Type 0} (r : ℕ) (e : ℕ × X) → nat_cmp e.0 r ≡ Less → is_
 apart r e less = let below = less-nat e.0 r less in is_at-false r e.0 (λ is. omega arith)
 
 -- one more, of the greatest registration
-greater : (made r : ℕ) → r < made → nat_cmp made r ≡ Greater
+pub greater : (made r : ℕ) → r < made → nat_cmp made r ≡ Greater
 greater made r low = grind (arith, nat_tests)
+
+pub less : (r made : ℕ) → r < made → nat_cmp r made ≡ Less
+less r made low = grind (arith, nat_tests)
 
 pub insert_entry-last : {X : Type 0} (es : List (ℕ × X)) (made : ℕ) (w : X) → AllByRecursion (λ r. r < made) (keys_of es) → insert_entry nat_cmp es made w ≡ es ++ (made, w) ∷ []
 insert_entry-last [] made w low = refl

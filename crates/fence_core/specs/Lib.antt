@@ -1,6 +1,5 @@
 pub mod Callbacks
 pub mod Fence
-pub mod Gathered
 pub mod Pending
 pub mod PointIndex
 pub mod Registered

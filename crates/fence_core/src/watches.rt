@@ -13,6 +13,7 @@ ghost use Rattle.point_core.specs.Reach.{IsAtLeast, reaching};
 ghost use Rattle.point_core.specs.Refusal.{IsRefusedFor};
 ghost use Rattle.fence_core.specs.Fence.{members_of};
 ghost use Rattle.fence_core.specs.PointIndex.{IsOneAbove};
+ghost use Rattle.fence_core.specs.Reported.{with_cookies};
 ghost use Rattle.fence_core.specs.Watch.{registry_of, ArePending};
 ghost use Rattle.fence_core.specs.Watches.{no_watches, has_watch, cause_to_refuse, cause_to_refuse_watch, with_watch, without_watch, without_watches, fires, fired_by, after_rise_to};
 
@@ -26,7 +27,7 @@ use self::registration::Registration;
 use crate::fence::{Fence, first_above};
 use point_core::{LimitKind, Point, Reach, Refusal};
 use std::alloc::Global;
-use std::collections::{BTreeMap, HashMap};
+use std::collections::HashMap;
 use std::marker::Model;
 
 /// How many watches can be pending at a time.
@@ -48,6 +49,8 @@ pub struct Watches {
     index: PointIndex,
     made: u64,
     reach: Reach,
+    // The registrations that a rise fires, while it looks for them. Kept for its memory.
+    fired: Vec<Registration>,
     // Whether each point of the index is known to be above the reach.
     is_settled: bool,
 }
@@ -84,6 +87,7 @@ impl Watches {
             index: PointIndex::new(alloc),
             made,
             reach: Reach::zero(),
+            fired: Vec::new(alloc),
             is_settled: true,
         }
     }
@@ -247,44 +251,46 @@ impl Watches {
     }
 
     /// The cookies of the watches all of whose points are signalled at this reach, by registration.
-    fn fired(&self, reach: &Reach) -> Result<Vec<u64>, Refusal>
-        ensures fired { IfOk result (λ cookies. cookies.items ≡ fired_by self.now reach.now) }
+    fn fired(&mut self, reach: &Reach) -> Result<Vec<u64>, Refusal>
+        ensures fired { IfOk result (λ cookies. cookies.items ≡ fired_by self.old reach.now) }
         ensures memory { IfErr result (λ e. e ≡ Memory) }
-        ensures none_fires { fired_by self.now reach.now ≡ [] → IsOk result }
-        ensures pending { ArePending self.now.pending }
+        ensures none_fires { fired_by self.old reach.now ≡ [] → IsOk result }
+        ensures same { self.new ≡ self.old }
+        ensures pending { ArePending self.old.pending }
     {
-        let fired = self.index.fired(self.alloc, &self.pending, reach)?;
-        listed(self.alloc, &fired)
+        self.fired.clear();
+        self.index
+            .report_reached(&self.pending, reach, &mut self.fired)?;
+        listed(self.alloc, self.fired.as_slice())
     }
 
     /// The cookies that fire once `point` is reached as well.
-    fn fired_by_point(&self, point: &Point) -> Result<Vec<u64>, Refusal>
-        ensures fired { IfOk result (λ cookies. cookies.items ≡ fired_by self.now (reaching self.now.reach point.now)) }
+    fn fired_by_point(&mut self, point: &Point) -> Result<Vec<u64>, Refusal>
+        ensures fired { IfOk result (λ cookies. cookies.items ≡ fired_by self.old (reaching self.old.reach point.now)) }
         ensures memory { IfErr result (λ e. e ≡ Memory) }
-        ensures none_fires { fired_by self.now (reaching self.now.reach point.now) ≡ [] → IsOk result }
-        ensures pending { ArePending self.now.pending }
+        ensures none_fires { fired_by self.old (reaching self.old.reach point.now) ≡ [] → IsOk result }
+        ensures same { self.new ≡ self.old }
+        ensures pending { ArePending self.old.pending }
     {
         // For the proof: what a context keeps.
         prove!(point.ctx.number() >= 1);
         if !self.is_settled {
             return self.fired_anywhere(point);
         }
-        let found = self
-            .index
-            .fired_in_context(self.alloc, &self.pending, point, &self.reach)?;
-        match found {
-            Some(cookies) => Ok(cookies),
-            None => self.fired_anywhere(point),
-        }
+        self.fired.clear();
+        self.index
+            .report_due(&self.pending, point, &self.reach, &mut self.fired)?;
+        listed(self.alloc, self.fired.as_slice())
     }
 
-    /// Slow path of `fired_by_point`: several watches may fire; works on a copy of the reach.
+    /// Slow path of `fired_by_point`: a watch may fire that is indexed elsewhere. It works on a copy of the reach.
     #[inline(never)]
-    fn fired_anywhere(&self, point: &Point) -> Result<Vec<u64>, Refusal>
-        ensures fired { IfOk result (λ cookies. cookies.items ≡ fired_by self.now (reaching self.now.reach point.now)) }
+    fn fired_anywhere(&mut self, point: &Point) -> Result<Vec<u64>, Refusal>
+        ensures fired { IfOk result (λ cookies. cookies.items ≡ fired_by self.old (reaching self.old.reach point.now)) }
         ensures memory { IfErr result (λ e. e ≡ Memory) }
-        ensures none_fires { fired_by self.now (reaching self.now.reach point.now) ≡ [] → IsOk result }
-        ensures pending { ArePending self.now.pending }
+        ensures none_fires { fired_by self.old (reaching self.old.reach point.now) ≡ [] → IsOk result }
+        ensures same { self.new ≡ self.old }
+        ensures pending { ArePending self.old.pending }
     {
         let Point { ctx, value } = *point;
         let mut reach = self.reach;
@@ -347,15 +353,17 @@ fn follow(kept: &mut Reach, is_settled: bool, reach: &Reach) -> bool
     false
 }
 
-/// The cookies, by registration.
-fn listed(alloc: Global, fired: &BTreeMap<Registration, u64>) -> Result<Vec<u64>, Refusal>
-    ensures listed { IfOk result (λ cookies. cookies.items ≡ values_of fired.now.entries) }
+/// The cookies of the registrations.
+fn listed(alloc: Global, fired: &[Registration]) -> Result<Vec<u64>, Refusal>
+    ensures listed { IfOk result (λ cookies. cookies.items ≡ values_of (with_cookies fired.now)) }
     ensures memory { IfErr result (λ e. e ≡ Memory) }
-    ensures none { values_of fired.now.entries ≡ [] → IsOk result }
+    ensures none { values_of (with_cookies fired.now) ≡ [] → IsOk result }
 {
     let mut cookies = Vec::new(alloc);
-    for cookie in fired.values() {
-        cookies.push(*cookie).map_err(|_| Refusal::Memory)?;
+    for registration in fired {
+        let Ok(()) = cookies.push(registration.cookie()) else {
+            return Err(Refusal::Memory);
+        };
     }
     Ok(cookies)
 }

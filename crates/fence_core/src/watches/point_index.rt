@@ -1,31 +1,25 @@
 //! `PointIndex`: a queue of waiting points for each context, so that a rise looks only at what it can reach. There are no
 //! more queues than contexts, which `put` keeps. `Watches` puts in one point for each pending watch.
-ghost use Rattle.std.specs.Prelude.{◌≡◌, ℕ, ◌<◌, ◌≤◌, true, false, not, ◌&&◌, ◌||◌, [], length};
+ghost use Rattle.std.specs.Prelude.{◌≡◌, ℕ, ◌<◌, ◌≤◌, ◌+◌, true, false, not, ◌&&◌, ◌||◌, [], length};
 ghost use Rattle.std.specs.Prelude.{OnOk, OnErr, IfOk, IfErr, IfSome, IfNone};
-ghost use Rattle.std.specs.Ordering.{nat_cmp};
-ghost use Rattle.std.specs.Map.{keys_of};
-ghost use Rattle.std.specs.List.Sorted.{IsStrictlySortedBy};
 ghost use Rattle.point_core.specs.declared.refusal.Refusal.TheVariants.{Memory};
 ghost use Rattle.fence_core.specs.declared.watches.point_index.WaitingPoint.{WaitingPoint as Waiting};
 ghost use Rattle.fence_core.specs.PointIndex.{waiting, is_same, queue_at, holds, is_due, number_due};
 ghost use Rattle.fence_core.specs.Registered.{ArePlaced, AreMoved, NoneFires};
-ghost use Rattle.fence_core.specs.Reported.{IsReported, AreOnlyFiring, Fires};
-ghost use Rattle.fence_core.specs.Gathered.{AreFiredIn};
+ghost use Rattle.fence_core.specs.Reported.{IsReported, AreGathered, HasGathered, Fires};
 ghost use Rattle.point_core.specs.Reach.{value_at, reaching};
 ghost use Rattle.point_core.specs.declared.context.TheConstants.{CONTEXTS};
 
 mod firing;
 mod point_queue;
-mod single_rise;
 
-use self::firing::report_reached;
+use self::firing::report_low;
 use self::point_queue::{PointQueue, Standing};
-use self::single_rise::gathered_in_order;
 use super::pending::{PendingWatches, find, replace};
 use super::registration::Registration;
+use crate::fence::value_with;
 use point_core::{Context, Point, Reach, Refusal};
 use std::alloc::Global;
-use std::collections::BTreeMap;
 use std::marker::Model;
 
 /// A point, and the registration of a watch that waits for it.
@@ -194,43 +188,63 @@ impl PointIndex {
         Ok(())
     }
 
-    /// The cookies of the watches all of whose points are signalled at the reach, by registration.
-    pub(super) fn fired(
+    /// Adds the watches all of whose points are signalled at the reach, as registrations in rising order.
+    ///
+    /// Fails only with `Memory`; some of them may then have been added.
+    pub(super) fn report_reached(
         &self,
-        alloc: Global,
         pending: &PendingWatches,
         reach: &Reach,
-    ) -> Result<BTreeMap<Registration, u64>, Refusal>
-        ensures only_firing { IfOk result (λ fired. AreOnlyFiring pending.now.entries reach.now fired.entries) }
-        ensures all { IfOk result (λ fired. (k : Waiting) → is_due k.ctx (value_at reach.now k.ctx) k ≡ true →
-            holds self.now k ≡ true → IsReported pending.now.entries reach.now fired.entries k.registration) }
-        ensures ordered { IfOk result (λ fired. IsStrictlySortedBy nat_cmp (keys_of fired.entries)) }
+        fired: &mut Vec<Registration>,
+    ) -> Result<(), Refusal>
+        requires none_fired { fired.old.items ≡ [] }
+        ensures gathered { AreGathered pending.now.entries reach.now fired.new.items }
+        ensures all { OnOk result ((k : Waiting) → is_due k.ctx (value_at reach.now k.ctx) k ≡ true →
+            holds self.now k ≡ true → IsReported pending.now.entries reach.now fired.new.items k.registration) }
         ensures memory { IfErr result (λ e. e ≡ Memory) }
         ensures some_fires { OnErr result (Fires pending.now.entries reach.now) }
     {
-        let mut fired = BTreeMap::new(alloc);
-        report_reached(self.queues.as_slice(), pending, reach, &mut fired)?;
-        // Opens the map's invariant.
-        let _count = fired.len();
-        Ok(fired)
+        for index in 0..self.queues.len() {
+            let point = reached_point(reach, index);
+            self.report_due(pending, &point, reach, fired)?;
+        }
+        Ok(())
     }
 
-    /// The cookies of the watches of the point's context that fire once it is reached too, by registration; `None` if the
-    /// queue does not have these watches in order of registration.
-    pub(super) fn fired_in_context(
+    /// `report_reached` for the watches that are indexed in the point's context, once the point is reached too.
+    pub(super) fn report_due(
         &self,
-        alloc: Global,
         pending: &PendingWatches,
         point: &Point,
         reach: &Reach,
-    ) -> Result<Option<Vec<u64>>, Refusal>
-        ensures fired { IfOk result (λ found. IfSome found (λ cookies.
-            AreFiredIn point.now.ctx self.now pending.now.entries (reaching reach.now point.now) cookies.items)) }
+        fired: &mut Vec<Registration>,
+    ) -> Result<(), Refusal>
+        requires gathered { AreGathered pending.now.entries (reaching reach.now point.now) fired.old.items }
+        ensures added { HasGathered pending.now.entries (reaching reach.now point.now) fired.old.items fired.new.items }
+        ensures all { OnOk result ((k : Waiting) →
+            is_due point.now.ctx (value_at (reaching reach.now point.now) point.now.ctx) k ≡ true → holds self.now k ≡ true →
+            IsReported pending.now.entries (reaching reach.now point.now) fired.new.items k.registration) }
         ensures memory { IfErr result (λ e. e ≡ Memory) }
         ensures some_fires { OnErr result (Fires pending.now.entries (reaching reach.now point.now)) }
     {
-        gathered_in_order(alloc, self.queues.as_slice(), pending, point, reach)
+        let index = point.ctx.index();
+        if index >= self.queues.len() {
+            return Ok(());
+        }
+        let value = value_with(reach, point, point.ctx);
+        report_low(&self.queues[index], pending, value, point, reach, fired)
     }
+}
+
+/// The last point that the reach has reached of the context at that place, counted from 0.
+fn reached_point(reach: &Reach, index: usize) -> Point
+    requires within { index < CONTEXTS }
+    ensures context { result.ctx ≡ index + 1 }
+    ensures reached { reaching reach.now result ≡ reach.now }
+{
+    let ctx = Context::at(index);
+    let value = reach.at(index);
+    Point { ctx, value }
 }
 
 /// Puts a point in, in the queue of its context.
