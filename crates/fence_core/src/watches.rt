@@ -26,7 +26,7 @@ use self::point_index::{PointIndex, WaitingPoint};
 use self::registration::Registration;
 use crate::fence::{Fence, first_above};
 use point_core::{LimitKind, Point, Reach, Refusal};
-use std::alloc::Global;
+use std::alloc::{AllocError, Global};
 use std::collections::HashMap;
 use std::marker::Model;
 
@@ -251,9 +251,8 @@ impl Watches {
     }
 
     /// The cookies of the watches all of whose points are signalled at this reach, by registration.
-    fn fired(&mut self, reach: &Reach) -> Result<Vec<u64>, Refusal>
+    fn fired(&mut self, reach: &Reach) -> Result<Vec<u64>, AllocError>
         ensures fired { IfOk result (λ cookies. cookies.items ≡ fired_by self.old reach.now) }
-        ensures memory { IfErr result (λ e. e ≡ Memory) }
         ensures none_fires { fired_by self.old reach.now ≡ [] → IsOk result }
         ensures same { self.new ≡ self.old }
         ensures pending { ArePending self.old.pending }
@@ -265,9 +264,8 @@ impl Watches {
     }
 
     /// The cookies that fire once `point` is reached as well.
-    fn fired_by_point(&mut self, point: &Point) -> Result<Vec<u64>, Refusal>
+    fn fired_by_point(&mut self, point: &Point) -> Result<Vec<u64>, AllocError>
         ensures fired { IfOk result (λ cookies. cookies.items ≡ fired_by self.old (reaching self.old.reach point.now)) }
-        ensures memory { IfErr result (λ e. e ≡ Memory) }
         ensures none_fires { fired_by self.old (reaching self.old.reach point.now) ≡ [] → IsOk result }
         ensures same { self.new ≡ self.old }
         ensures pending { ArePending self.old.pending }
@@ -285,9 +283,8 @@ impl Watches {
 
     /// Slow path of `fired_by_point`: a watch may fire that is indexed elsewhere. It works on a copy of the reach.
     #[inline(never)]
-    fn fired_anywhere(&mut self, point: &Point) -> Result<Vec<u64>, Refusal>
+    fn fired_anywhere(&mut self, point: &Point) -> Result<Vec<u64>, AllocError>
         ensures fired { IfOk result (λ cookies. cookies.items ≡ fired_by self.old (reaching self.old.reach point.now)) }
-        ensures memory { IfErr result (λ e. e ≡ Memory) }
         ensures none_fires { fired_by self.old (reaching self.old.reach point.now) ≡ [] → IsOk result }
         ensures same { self.new ≡ self.old }
         ensures pending { ArePending self.old.pending }
@@ -354,16 +351,13 @@ fn follow(kept: &mut Reach, is_settled: bool, reach: &Reach) -> bool
 }
 
 /// The cookies of the registrations.
-fn listed(alloc: Global, fired: &[Registration]) -> Result<Vec<u64>, Refusal>
+fn listed(alloc: Global, fired: &[Registration]) -> Result<Vec<u64>, AllocError>
     ensures listed { IfOk result (λ cookies. cookies.items ≡ values_of (with_cookies fired.now)) }
-    ensures memory { IfErr result (λ e. e ≡ Memory) }
     ensures none { values_of (with_cookies fired.now) ≡ [] → IsOk result }
 {
     let mut cookies = Vec::new(alloc);
     for registration in fired {
-        let Ok(()) = cookies.push(registration.cookie()) else {
-            return Err(Refusal::Memory);
-        };
+        cookies.push(registration.cookie())?;
     }
     Ok(cookies)
 }

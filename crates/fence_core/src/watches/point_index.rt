@@ -1,8 +1,7 @@
 //! `PointIndex`: a queue of waiting points for each context, so that a rise looks only at what it can reach. There are no
 //! more queues than contexts, which `put` keeps. `Watches` puts in one point for each pending watch.
 ghost use Rattle.std.specs.Prelude.{◌≡◌, ℕ, ◌<◌, ◌≤◌, ◌+◌, true, false, not, ◌&&◌, ◌||◌, [], length};
-ghost use Rattle.std.specs.Prelude.{OnOk, OnErr, IfOk, IfErr, IfSome, IfNone};
-ghost use Rattle.point_core.specs.declared.refusal.Refusal.TheVariants.{Memory};
+ghost use Rattle.std.specs.Prelude.{OnOk, OnErr, IfOk, IfSome, IfNone};
 ghost use Rattle.fence_core.specs.declared.watches.point_index.WaitingPoint.{WaitingPoint as Waiting};
 ghost use Rattle.fence_core.specs.PointIndex.{waiting, is_same, queue_at, holds, is_due, number_due};
 ghost use Rattle.fence_core.specs.Registered.{ArePlaced, AreMoved, NoneFires};
@@ -18,8 +17,8 @@ use self::point_queue::{PointQueue, Standing};
 use super::pending::{PendingWatches, find, replace};
 use super::registration::Registration;
 use crate::fence::value_with;
-use point_core::{Context, Point, Reach, Refusal};
-use std::alloc::Global;
+use point_core::{Context, Point, Reach};
+use std::alloc::{AllocError, Global};
 use std::marker::Model;
 
 /// A point, and the registration of a watch that waits for it.
@@ -81,15 +80,16 @@ impl PointIndex {
         first_due(self.queues.as_slice(), point.ctx, point.value).is_none()
     }
 
-    /// Puts a point in.
-    ///
-    /// Fails only with `Memory`, and then no point has gone and none has come.
-    pub(super) fn put(&mut self, point: &Point, registration: Registration) -> Result<(), Refusal>
+    /// Puts a point in. If it fails, no point has gone and none has come.
+    pub(super) fn put(
+        &mut self,
+        point: &Point,
+        registration: Registration,
+    ) -> Result<(), AllocError>
         ensures put { OnOk result ((k : Waiting) →
             holds self.new k ≡ (is_same (waiting point.now registration) k || holds self.old k)) }
         ensures due { (ctx value : ℕ) → is_due ctx value (waiting point.now registration) ≡ false →
             number_due ctx value self.new ≡ number_due ctx value self.old }
-        ensures memory { IfErr result (λ e. e ≡ Memory) }
         ensures unchanged { OnErr result ((k : Waiting) → holds self.new k ≡ holds self.old k) }
     {
         insert(&mut self.queues, self.alloc, point, registration)
@@ -104,14 +104,13 @@ impl PointIndex {
         remove(self.queues.as_mut_slice(), point);
     }
 
-    /// Moves each watch that is indexed at or below the reach to a point above it.
-    ///
-    /// Fails only with `Memory`; some watches may then not have moved.
+    /// Moves each watch that is indexed at or below the reach to a point above it. If it fails, some watches may not have
+    /// moved.
     pub(super) fn settle(
         &mut self,
         pending: &mut PendingWatches,
         reach: &Reach,
-    ) -> Result<(), Refusal>
+    ) -> Result<(), AllocError>
         requires placed { ArePlaced pending.old.entries self.old }
         requires none_fires { NoneFires pending.old.entries reach.now }
         ensures moved { AreMoved reach.now pending.old.entries self.old pending.new.entries self.new }
@@ -131,7 +130,7 @@ impl PointIndex {
         pending: &mut PendingWatches,
         ctx: Context,
         reach: &Reach,
-    ) -> Result<(), Refusal>
+    ) -> Result<(), AllocError>
         requires placed { ArePlaced pending.old.entries self.old }
         requires none_fires { NoneFires pending.old.entries reach.now }
         ensures moved { AreMoved reach.now pending.old.entries self.old pending.new.entries self.new }
@@ -148,7 +147,7 @@ impl PointIndex {
         pending: &mut PendingWatches,
         ctx: Context,
         reach: &Reach,
-    ) -> Result<bool, Refusal>
+    ) -> Result<bool, AllocError>
         requires placed { ArePlaced pending.old.entries self.old }
         requires none_fires { NoneFires pending.old.entries reach.now }
         ensures moved { AreMoved reach.now pending.old.entries self.old pending.new.entries self.new }
@@ -170,7 +169,7 @@ impl PointIndex {
         due: &WaitingPoint,
         pending: &mut PendingWatches,
         reach: &Reach,
-    ) -> Result<(), Refusal>
+    ) -> Result<(), AllocError>
         requires placed { ArePlaced pending.old.entries self.old }
         requires none_fires { NoneFires pending.old.entries reach.now }
         requires there { holds self.old due.now ≡ true }
@@ -188,20 +187,18 @@ impl PointIndex {
         Ok(())
     }
 
-    /// Adds the watches all of whose points are signalled at the reach, as registrations in rising order.
-    ///
-    /// Fails only with `Memory`; some of them may then have been added.
+    /// Adds the watches all of whose points are signalled at the reach, as registrations in rising order. If it fails, some
+    /// may have been added.
     pub(super) fn report_reached(
         &self,
         pending: &PendingWatches,
         reach: &Reach,
         fired: &mut Vec<Registration>,
-    ) -> Result<(), Refusal>
+    ) -> Result<(), AllocError>
         requires none_fired { fired.old.items ≡ [] }
         ensures gathered { AreGathered pending.now.entries reach.now fired.new.items }
         ensures all { OnOk result ((k : Waiting) → is_due k.ctx (value_at reach.now k.ctx) k ≡ true →
             holds self.now k ≡ true → IsReported pending.now.entries reach.now fired.new.items k.registration) }
-        ensures memory { IfErr result (λ e. e ≡ Memory) }
         ensures some_fires { OnErr result (Fires pending.now.entries reach.now) }
     {
         for index in 0..self.queues.len() {
@@ -218,13 +215,12 @@ impl PointIndex {
         point: &Point,
         reach: &Reach,
         fired: &mut Vec<Registration>,
-    ) -> Result<(), Refusal>
+    ) -> Result<(), AllocError>
         requires gathered { AreGathered pending.now.entries (reaching reach.now point.now) fired.old.items }
         ensures added { HasGathered pending.now.entries (reaching reach.now point.now) fired.old.items fired.new.items }
         ensures all { OnOk result ((k : Waiting) →
             is_due point.now.ctx (value_at (reaching reach.now point.now) point.now.ctx) k ≡ true → holds self.now k ≡ true →
             IsReported pending.now.entries (reaching reach.now point.now) fired.new.items k.registration) }
-        ensures memory { IfErr result (λ e. e ≡ Memory) }
         ensures some_fires { OnErr result (Fires pending.now.entries (reaching reach.now point.now)) }
     {
         let index = point.ctx.index();
@@ -247,42 +243,34 @@ fn reached_point(reach: &Reach, index: usize) -> Point
     Point { ctx, value }
 }
 
-/// Puts a point in, in the queue of its context.
-///
-/// Fails only with `Memory`, and then no point has gone and none has come.
+/// Puts a point in, in the queue of its context. If it fails, no point has gone and none has come.
 fn insert(
     queues: &mut Vec<PointQueue>,
     alloc: Global,
     point: &Point,
     registration: Registration,
-) -> Result<(), Refusal>
+) -> Result<(), AllocError>
     requires few { length queues.old.items ≤ CONTEXTS }
     ensures few { length queues.new.items ≤ CONTEXTS }
     ensures put { OnOk result ((k : Waiting) →
         holds queues.new.items k ≡ (is_same (waiting point.now registration) k || holds queues.old.items k)) }
     ensures due { (ctx value : ℕ) → is_due ctx value (waiting point.now registration) ≡ false →
         number_due ctx value queues.new.items ≡ number_due ctx value queues.old.items }
-    ensures memory { IfErr result (λ e. e ≡ Memory) }
     ensures unchanged { OnErr result ((k : Waiting) → holds queues.new.items k ≡ holds queues.old.items k) }
 {
     make_queues(queues, alloc, point.ctx)?;
     insert_in_queue(queues.as_mut_slice(), point, registration)
 }
 
-/// Makes a queue for each context up to this one that has none yet.
-///
-/// Fails only with `Memory`. A new queue is empty.
-fn make_queues(queues: &mut Vec<PointQueue>, alloc: Global, ctx: Context) -> Result<(), Refusal>
+/// Makes a queue for each context up to this one that has none yet. A new queue is empty.
+fn make_queues(queues: &mut Vec<PointQueue>, alloc: Global, ctx: Context) -> Result<(), AllocError>
     requires few { length queues.old.items ≤ CONTEXTS }
     ensures few { length queues.new.items ≤ CONTEXTS }
     ensures same { (c : ℕ) → queue_at queues.new.items c ≡ queue_at queues.old.items c }
     ensures enough { OnOk result (ctx ≤ length queues.new.items) }
-    ensures memory { IfErr result (λ e. e ≡ Memory) }
 {
     while queues.len() <= ctx.index() {
-        let Ok(()) = queues.push(PointQueue::new(alloc)) else {
-            return Err(Refusal::Memory);
-        };
+        queues.push(PointQueue::new(alloc))?;
     }
     Ok(())
 }
@@ -292,14 +280,13 @@ fn insert_in_queue(
     queues: &mut [PointQueue],
     point: &Point,
     registration: Registration,
-) -> Result<(), Refusal>
+) -> Result<(), AllocError>
     requires enough { point.now.ctx ≤ length queues.old }
     ensures few { length queues.new ≡ length queues.old }
     ensures put { OnOk result ((k : Waiting) →
         holds queues.new k ≡ (is_same (waiting point.now registration) k || holds queues.old k)) }
     ensures due { (ctx value : ℕ) → is_due ctx value (waiting point.now registration) ≡ false →
         number_due ctx value queues.new ≡ number_due ctx value queues.old }
-    ensures memory { IfErr result (λ e. e ≡ Memory) }
     ensures unchanged { OnErr result ((k : Waiting) → holds queues.new k ≡ holds queues.old k) }
 {
     let index = point.ctx.index();
@@ -307,9 +294,7 @@ fn insert_in_queue(
         value: point.value,
         registration,
     };
-    let Ok(()) = queues[index].put(&watch) else {
-        return Err(Refusal::Memory);
-    };
+    queues[index].put(&watch)?;
     Ok(())
 }
 

@@ -1,12 +1,10 @@
 //! Finds the watches of a queue that a rise fires, as registrations in rising order. `PointIndex` calls it; the index is
 //! not changed before all are found, so a refusal has nothing to undo.
 ghost use Rattle.std.specs.Prelude.{◌≡◌, ◌≤◌, ◌<◌, ◌+◌, ℕ, true, length, [], Some, if◌then◌else◌};
-ghost use Rattle.std.specs.Prelude.{OnOk, OnErr, IfErr};
+ghost use Rattle.std.specs.Prelude.{OnOk, OnErr};
 ghost use Rattle.std.specs.BTreeMap.{is_at};
 ghost use Rattle.std.specs.List.Sorted.{IsStrictlySortedBy};
 ghost use Rattle.std.specs.Ordering.{nat_cmp};
-ghost use Rattle.point_core.specs.declared.context.TheConstants.{CONTEXTS};
-ghost use Rattle.point_core.specs.declared.refusal.Refusal.TheVariants.{Memory};
 ghost use Rattle.point_core.specs.Reach.{value_at, reaching};
 ghost use Rattle.fence_core.specs.declared.watches.point_index.WaitingPoint.{WaitingPoint as Waiting};
 ghost use Rattle.fence_core.specs.declared.watches.point_index.point_queue.Standing.{Standing as Stands};
@@ -17,7 +15,8 @@ ghost use Rattle.fence_core.specs.Reported.{at, with_cookies, IsReported, AreGat
 use super::point_queue::PointQueue;
 use crate::watches::pending::{PendingWatches, find};
 use crate::watches::registration::Registration;
-use point_core::{Point, Reach, Refusal};
+use point_core::{Point, Reach};
+use std::alloc::AllocError;
 
 /// `report_due` for the watches of a queue at or below the value.
 #[inline(never)]
@@ -28,12 +27,11 @@ pub(super) fn report_low(
     point: &Point,
     reach: &Reach,
     fired: &mut Vec<Registration>,
-) -> Result<(), Refusal>
+) -> Result<(), AllocError>
     requires gathered { AreGathered pending.now.entries (reaching reach.now point.now) fired.old.items }
     ensures added { HasGathered pending.now.entries (reaching reach.now point.now) fired.old.items fired.new.items }
     ensures all { OnOk result ((s : Stands) → is_low value s ≡ true → has queue.now s ≡ true →
         IsReported pending.now.entries (reaching reach.now point.now) fired.new.items s.registration) }
-    ensures memory { IfErr result (λ e. e ≡ Memory) }
     ensures some_fires { OnErr result (Fires pending.now.entries (reaching reach.now point.now)) }
 {
     for place in 0..queue.len() {
@@ -53,11 +51,10 @@ fn report(
     point: &Point,
     reach: &Reach,
     fired: &mut Vec<Registration>,
-) -> Result<(), Refusal>
+) -> Result<(), AllocError>
     requires gathered { AreGathered pending.now.entries (reaching reach.now point.now) fired.old.items }
     ensures added { HasGathered pending.now.entries (reaching reach.now point.now) fired.old.items fired.new.items }
     ensures reported { OnOk result (IsReported pending.now.entries (reaching reach.now point.now) fired.new.items registration) }
-    ensures memory { IfErr result (λ e. e ≡ Memory) }
     ensures some_fires { OnErr result (Fires pending.now.entries (reaching reach.now point.now)) }
 {
     let Some(watch) = find(pending, &registration) else {
@@ -71,19 +68,16 @@ fn report(
 }
 
 /// Puts the registration in, in its place.
-fn put(fired: &mut Vec<Registration>, registration: Registration) -> Result<(), Refusal>
+fn put(fired: &mut Vec<Registration>, registration: Registration) -> Result<(), AllocError>
     requires rising { IsStrictlySortedBy nat_cmp fired.old.items }
     ensures put { OnOk result ((r : ℕ) → at (with_cookies fired.new.items) r ≡ (if is_at (nat_cmp registration) r
         then Some (cookie_of registration) else at (with_cookies fired.old.items) r)) }
     ensures rising { IsStrictlySortedBy nat_cmp fired.new.items }
-    ensures memory { IfErr result (λ e. e ≡ Memory) }
     ensures unchanged { OnErr result (fired.new.items ≡ fired.old.items) }
 {
     let Err(place) = fired.as_slice().binary_search(&registration) else {
         return Ok(());
     };
-    let Ok(()) = fired.insert(place, registration) else {
-        return Err(Refusal::Memory);
-    };
+    fired.insert(place, registration)?;
     Ok(())
 }

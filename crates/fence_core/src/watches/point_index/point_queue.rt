@@ -3,14 +3,12 @@
 ghost use Rattle.std.specs.Prelude.{◌≡◌, ◌↔◌, ◌<◌, ◌≤◌, true, false, not, ◌&&◌, ◌||◌, ◌+◌, ◌∷◌, []};
 ghost use Rattle.std.specs.Prelude.{length, drop, reverse, IsTrue};
 ghost use Rattle.std.specs.List.{insert, remove};
-ghost use Rattle.std.specs.Prelude.{OnOk, OnErr, IfErr, IfSome, IfNone};
-ghost use Rattle.point_core.specs.declared.refusal.Refusal.TheVariants.{Memory};
+ghost use Rattle.std.specs.Prelude.{OnOk, OnErr, IfSome, IfNone};
 ghost use Rattle.fence_core.specs.declared.watches.point_index.point_queue.Standing.{Standing as Stands};
 ghost use Rattle.fence_core.specs.PointIndex.{is_alike, has, is_low, number, StandsBefore, IsRising, IsPlaceOf, IsRangeOf, StandsAt};
 
 use crate::watches::registration::Registration;
-use point_core::Refusal;
-use std::alloc::Global;
+use std::alloc::{AllocError, Global};
 use std::marker::Model;
 
 /// A waiting point of the queue's context: its value, and the registration of the watch that is indexed there.
@@ -61,23 +59,18 @@ impl PointQueue {
         }
     }
 
-    /// Puts a watch in.
-    ///
-    /// Fails only with `Memory`, and then leaves all as it was.
-    pub(super) fn put(&mut self, watch: &Standing) -> Result<(), Refusal>
+    /// Puts a watch in. If it fails, it leaves all as it was.
+    pub(super) fn put(&mut self, watch: &Standing) -> Result<(), AllocError>
         ensures put { OnOk result ((s : Stands) → has self.new s ≡ (is_alike watch.now s || has self.old s)) }
         ensures low { OnOk result ((value : ℕ) → is_low value watch.now ≡ false →
             number (is_low value) self.new ≡ number (is_low value) self.old) }
-        ensures memory { IfErr result (λ e. e ≡ Memory) }
         ensures unchanged { OnErr result (self.new ≡ self.old) }
     {
         let place = self.place_of(watch);
         if self.has_at(place, watch) {
             return Ok(());
         }
-        let Ok(()) = put_at(&mut self.standing, place, watch) else {
-            return Err(Refusal::Memory);
-        };
+        put_at(&mut self.standing, place, watch)?;
         Ok(())
     }
 
@@ -164,24 +157,17 @@ impl PointQueue {
     }
 }
 
-/// Puts a watch in at the place. At the end no other is moved.
-///
-/// Fails only with `Memory`, and then leaves all as it was.
-fn put_at(standing: &mut Vec<Standing>, place: usize, watch: &Standing) -> Result<(), Refusal>
+/// Puts a watch in at the place. At the end no other is moved. If it fails, it leaves all as it was.
+fn put_at(standing: &mut Vec<Standing>, place: usize, watch: &Standing) -> Result<(), AllocError>
     requires within { place ≤ length standing.old.items }
     ensures items { OnOk result (standing.new.items ≡ insert standing.old.items place watch.now) }
-    ensures memory { IfErr result (λ e. e ≡ Memory) }
     ensures unchanged { OnErr result (standing.new.items ≡ standing.old.items) }
 {
     if place == standing.len() {
-        let Ok(()) = standing.push(*watch) else {
-            return Err(Refusal::Memory);
-        };
+        standing.push(*watch)?;
         return Ok(());
     }
-    let Ok(()) = standing.insert(place, *watch) else {
-        return Err(Refusal::Memory);
-    };
+    standing.insert(place, *watch)?;
     Ok(())
 }
 

@@ -10,7 +10,7 @@ invariant_of-self-2 c =
     let q = c.args.self.now in
     let w = c.args.watch.now in
     let p = c.place_of-place.result in
-    let is = c.in-Ok.ensures.items ∙ ap (λ xs. insert xs p w) c.self.view_is in
+    let is = c.in_ok-put_at.ensures.items ∙ ap (λ xs. insert xs p w) c.self.view_is in
     subst IsFalling (sym is) (IsFalling-insert w p q (subst IsFalling c.self.view_is c.self.invariant) c.place_of-place.ensures.place (λ stands. false≢true (sym c.if-has_at.false ∙ c.has_at.ensures.1 stands)))
 
 pub returns-clause-put : goal.returns-clause-put
@@ -18,12 +18,12 @@ returns-clause-put c = λ s.
     let q = c.args.self.now in
     let w = c.args.watch.now in
     let p = c.place_of-place.result in
-    let is = c.in-Ok.ensures.items ∙ ap (λ xs. insert xs p w) c.self.view_is in
+    let is = c.in_ok-put_at.ensures.items ∙ ap (λ xs. insert xs p w) c.self.view_is in
     ap (λ xs. has xs s) is ∙ has-inserted w p q (subst IsFalling c.self.view_is c.self.invariant) c.place_of-place.ensures.place s
 
 pub returns-clause-low : goal.returns-clause-low
 returns-clause-low c = λ value high.
     let p = c.place_of-place.result in
     let w = c.args.watch.now in
-    let is = c.in-Ok.ensures.items ∙ ap (λ xs. insert xs p w) c.self.view_is in
+    let is = c.in_ok-put_at.ensures.items ∙ ap (λ xs. insert xs p w) c.self.view_is in
     ap (number (is_low value)) is ∙ number-inserted (is_low value) c.args.self.now p w high
