@@ -61,6 +61,10 @@ number test queue = length (filter test queue)
 abbrev pub number_due : ℕ → ℕ → List (List Standing) → ℕ
 number_due ctx value queues = number (is_low value) (queue_at queues ctx)
 
+-- no point of the context is at or below the value
+abbrev pub NoneDue : ℕ → ℕ → List (List Standing) → Type 0
+NoneDue ctx value queues = (k : WaitingPoint) → is_due ctx value k ≡ true → holds queues k ≡ false
+
 -- each is above the reach
 abbrev pub AreAbove : List (List Standing) → List ℕ → Type 0
 AreAbove queues reach = (k : WaitingPoint) → holds queues k ≡ true → is_due k.ctx (value_at reach k.ctx) k ≡ false

@@ -90,18 +90,9 @@ impl Fence {
             .iter()
             .all(|member| is_reached_with(member, reach, point))
     }
-
-    /// The first of its points that is above the reach. There is none if it is signalled.
-    pub(crate) fn first_above(&self, reach: &Reach) -> Option<Point>
-        ensures above { IfSome result (λ p. IsOneAbove reach.now (members_of self.now) p) }
-        ensures pending { IfSome result (λ _. are_reached reach.now (members_of self.now) ≡ false) }
-        ensures signalled { IfNone result (are_reached reach.now (members_of self.now) ≡ true) }
-    {
-        first_above(self.members(), reach)
-    }
 }
 
-/// The first of the points that is above the reach.
+/// The first of the points that is above the reach. There is none if all are signalled.
 pub(crate) fn first_above(points: &[Point], reach: &Reach) -> Option<Point>
     ensures above { IfSome result (λ p. IsOneAbove reach.now points.now p) }
     ensures pending { IfSome result (λ _. are_reached reach.now points.now ≡ false) }

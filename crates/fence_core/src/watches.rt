@@ -74,22 +74,15 @@ impl Watches {
     pub fn new(alloc: Global) -> Result<Watches, Refusal>
         ensures { result ≡ Ok no_watches }
     {
-        Ok(Watches::after(alloc, 0))
-    }
-
-    /// No watches, after this many registrations.
-    fn after(alloc: Global, made: u64) -> Watches
-        ensures { result ≡ registry_of [] made (replicate CONTEXTS 0) }
-    {
-        Watches {
+        Ok(Watches {
             alloc,
             pending: HashMap::new(alloc),
             index: PointIndex::new(alloc),
-            made,
+            made: 0,
             reach: Reach::zero(),
             fired: Vec::new(alloc),
             is_settled: true,
-        }
+        })
     }
 
     /// Registers a callback on a fence, as Linux's `dma_fence_add_callback` does.

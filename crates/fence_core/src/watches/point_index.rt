@@ -3,7 +3,7 @@
 ghost use Rattle.std.specs.Prelude.{◌≡◌, ℕ, ◌<◌, ◌≤◌, ◌+◌, true, false, not, ◌&&◌, ◌||◌, [], length};
 ghost use Rattle.std.specs.Prelude.{OnOk, OnErr, IfOk, IfSome, IfNone};
 ghost use Rattle.fence_core.specs.declared.watches.point_index.WaitingPoint.{WaitingPoint as Waiting};
-ghost use Rattle.fence_core.specs.PointIndex.{waiting, is_same, queue_at, holds, is_due, number_due};
+ghost use Rattle.fence_core.specs.PointIndex.{waiting, is_same, queue_at, holds, is_due, number_due, AreAbove, NoneDue};
 ghost use Rattle.fence_core.specs.Registered.{ArePlaced, AreMoved, NoneFires};
 ghost use Rattle.fence_core.specs.Reported.{IsReported, AreGathered, HasGathered, Fires};
 ghost use Rattle.point_core.specs.Reach.{value_at, reaching};
@@ -16,7 +16,7 @@ use self::firing::report_low;
 use self::point_queue::{PointQueue, Standing};
 use super::pending::{PendingWatches, find, replace};
 use super::registration::Registration;
-use crate::fence::value_with;
+use crate::fence::{first_above, value_with};
 use point_core::{Context, Point, Reach};
 use std::alloc::{AllocError, Global};
 use std::marker::Model;
@@ -74,8 +74,7 @@ impl PointIndex {
 
     /// Whether the point reaches no point of the index.
     pub(super) fn is_above_point(&self, point: &Point) -> bool
-        ensures { result ≡ true → (k : Waiting) → is_due point.now.ctx point.now.value k ≡ true →
-            holds self.now k ≡ false }
+        ensures { result ≡ true → NoneDue point.now.ctx point.now.value self.now }
     {
         first_due(self.queues.as_slice(), point.ctx, point.value).is_none()
     }
@@ -92,7 +91,9 @@ impl PointIndex {
             number_due ctx value self.new ≡ number_due ctx value self.old }
         ensures unchanged { OnErr result ((k : Waiting) → holds self.new k ≡ holds self.old k) }
     {
-        insert(&mut self.queues, self.alloc, point, registration)
+        make_queues(&mut self.queues, self.alloc, point.ctx)?;
+        insert_in_queue(self.queues.as_mut_slice(), point, registration)?;
+        Ok(())
     }
 
     /// Takes a point out.
@@ -101,7 +102,15 @@ impl PointIndex {
         ensures fewer { (ctx value : ℕ) → is_due ctx value point.now ≡ true → holds self.old point.now ≡ true →
             number_due ctx value self.new < number_due ctx value self.old }
     {
-        remove(self.queues.as_mut_slice(), point);
+        let index = point.ctx.index();
+        if index >= self.queues.len() {
+            return;
+        }
+        let watch = Standing {
+            value: point.value,
+            registration: point.registration,
+        };
+        self.queues[index].take(&watch);
     }
 
     /// Moves each watch that is indexed at or below the reach to a point above it. If it fails, some watches may not have
@@ -114,8 +123,7 @@ impl PointIndex {
         requires placed { ArePlaced pending.old.entries self.old }
         requires none_fires { NoneFires pending.old.entries reach.now }
         ensures moved { AreMoved reach.now pending.old.entries self.old pending.new.entries self.new }
-        ensures none_left { OnOk result ((k : Waiting) → is_due k.ctx (value_at reach.now k.ctx) k ≡ true →
-            holds self.new k ≡ false) }
+        ensures above { OnOk result (AreAbove self.new reach.now) }
     {
         for index in 0..self.queues.len() {
             self.settle_context(pending, Context::at(index), reach)?;
@@ -134,8 +142,7 @@ impl PointIndex {
         requires placed { ArePlaced pending.old.entries self.old }
         requires none_fires { NoneFires pending.old.entries reach.now }
         ensures moved { AreMoved reach.now pending.old.entries self.old pending.new.entries self.new }
-        ensures none_left { OnOk result ((k : Waiting) → is_due ctx (value_at reach.now ctx) k ≡ true →
-            holds self.new k ≡ false) }
+        ensures none_left { OnOk result (NoneDue ctx (value_at reach.now ctx) self.new) }
     {
         while self.move_first(pending, ctx, reach)? {}
         Ok(())
@@ -153,8 +160,7 @@ impl PointIndex {
         ensures moved { AreMoved reach.now pending.old.entries self.old pending.new.entries self.new }
         ensures fewer { IfOk result (λ moved. moved ≡ true →
             number_due ctx (value_at reach.now ctx) self.new < number_due ctx (value_at reach.now ctx) self.old) }
-        ensures none_left { IfOk result (λ moved. moved ≡ false → (k : Waiting) →
-            is_due ctx (value_at reach.now ctx) k ≡ true → holds self.new k ≡ false) }
+        ensures none_left { IfOk result (λ moved. moved ≡ false → NoneDue ctx (value_at reach.now ctx) self.new) }
     {
         let Some(due) = first_due(self.queues.as_slice(), ctx, reach.get(ctx)) else {
             return Ok(false);
@@ -180,7 +186,7 @@ impl PointIndex {
     {
         let registration = due.registration;
         let watch = find(pending, &registration).unwrap();
-        let next = watch.fence.first_above(reach).unwrap();
+        let next = first_above(watch.fence.members(), reach).unwrap();
         self.put(&next, registration)?;
         self.take(due);
         replace(pending, &WaitingPoint::of(&next, registration));
@@ -243,25 +249,6 @@ fn reached_point(reach: &Reach, index: usize) -> Point
     Point { ctx, value }
 }
 
-/// Puts a point in, in the queue of its context. If it fails, no point has gone and none has come.
-fn insert(
-    queues: &mut Vec<PointQueue>,
-    alloc: Global,
-    point: &Point,
-    registration: Registration,
-) -> Result<(), AllocError>
-    requires few { length queues.old.items ≤ CONTEXTS }
-    ensures few { length queues.new.items ≤ CONTEXTS }
-    ensures put { OnOk result ((k : Waiting) →
-        holds queues.new.items k ≡ (is_same (waiting point.now registration) k || holds queues.old.items k)) }
-    ensures due { (ctx value : ℕ) → is_due ctx value (waiting point.now registration) ≡ false →
-        number_due ctx value queues.new.items ≡ number_due ctx value queues.old.items }
-    ensures unchanged { OnErr result ((k : Waiting) → holds queues.new.items k ≡ holds queues.old.items k) }
-{
-    make_queues(queues, alloc, point.ctx)?;
-    insert_in_queue(queues.as_mut_slice(), point, registration)
-}
-
 /// Makes a queue for each context up to this one that has none yet. A new queue is empty.
 fn make_queues(queues: &mut Vec<PointQueue>, alloc: Global, ctx: Context) -> Result<(), AllocError>
     requires few { length queues.old.items ≤ CONTEXTS }
@@ -298,27 +285,10 @@ fn insert_in_queue(
     Ok(())
 }
 
-/// Takes a point out.
-fn remove(queues: &mut [PointQueue], point: &WaitingPoint)
-    ensures taken { (k : Waiting) → holds queues.new k ≡ (not (is_same point.now k) && holds queues.old k) }
-    ensures fewer { (ctx value : ℕ) → is_due ctx value point.now ≡ true → holds queues.old point.now ≡ true →
-        number_due ctx value queues.new < number_due ctx value queues.old }
-{
-    let index = point.ctx.index();
-    if index >= queues.len() {
-        return;
-    }
-    let watch = Standing {
-        value: point.value,
-        registration: point.registration,
-    };
-    queues[index].take(&watch);
-}
-
 /// The first point of the context, if it is at or below the value.
 fn first_due(queues: &[PointQueue], ctx: Context, value: u64) -> Option<WaitingPoint>
     ensures some { IfSome result (λ k. (is_due ctx value k ≡ true) × (holds queues.now k ≡ true)) }
-    ensures none { IfNone result ((k : Waiting) → is_due ctx value k ≡ true → holds queues.now k ≡ false) }
+    ensures none { IfNone result (NoneDue ctx value queues.now) }
 {
     let index = ctx.index();
     if index >= queues.len() {

@@ -4,7 +4,7 @@ use Rattle.fence_core.specs.Pending.{watches_of}
 use Rattle.point_core.specs.Reach.{reaching}
 use Rattle.fence_core.specs.Watch.{Registry}
 use Rattle.fence_core.specs.Watches.{fires}
-use Rattle.fence_core.proofs.Above.{AreAbove-one_context, AreAbove-none_due, on_ok}
+use Rattle.fence_core.proofs.Above.{AreAbove-one_context, on_ok}
 use Rattle.fence_core.proofs.Registered.{AreRegistered-same}
 use Rattle.fence_core.proofs.watches.Watches.rise_in_one_context.Goals as goal
 
@@ -31,7 +31,7 @@ invariant_of-self c =
     let step = c.settle-settled.ensures in (
       AreRegistered-same c.self.inside.pending.entries c.settle-settled.new.pending.entries c.self.inside.made c.self.invariant.0 step.moved.same step.moved.placed.kept (step.moved.numbers c.self.inside.made c.self.invariant.0.before),
       step.moved.placed.indexed,
-      λ settled. AreAbove-none_due c.settle-settled.new.self c.raise_to.new.self (on_ok c.settle-settled.result step.none_left (sym c.is_ok-self-inside.ensures.value ∙ settled)),
+      λ settled. on_ok c.settle-settled.result step.above (sym c.is_ok-self-inside.ensures.value ∙ settled),
     )
 
 pub invariant_of-self-2 : goal.invariant_of-self-2

@@ -3,7 +3,7 @@ use Rattle.std.specs.List.{list_any}
 use Rattle.fence_core.specs.Watch.{Registry}
 use Rattle.fence_core.specs.Watches.{fires}
 use Rattle.fence_core.specs.PointIndex.{AreAbove}
-use Rattle.fence_core.proofs.Above.{AreAbove-none_due, on_ok}
+use Rattle.fence_core.proofs.Above.{on_ok}
 use Rattle.fence_core.proofs.Registered.{AreRegistered-same}
 use Rattle.fence_core.proofs.watches.Watches.rise_to.Goals as goal
 
@@ -18,5 +18,5 @@ invariant_of-self c = (
   AreRegistered-same c.self.inside.pending.entries c.settle-settled.new.pending.entries c.self.inside.made c.self.invariant.0 c.settle-settled.ensures.moved.same c.settle-settled.ensures.moved.placed.kept (c.settle-settled.ensures.moved.numbers c.self.inside.made c.self.invariant.0.before),
   c.settle-settled.ensures.moved.placed.indexed,
   λ settled. subst (AreAbove c.settle-settled.new.self) (sym c.copy_from.ensures.values)
-      (AreAbove-none_due c.settle-settled.new.self c.args.reach.now (on_ok c.settle-settled.result c.settle-settled.ensures.none_left (sym c.is_ok-self-inside.ensures.value ∙ settled))),
+      (on_ok c.settle-settled.result c.settle-settled.ensures.above (sym c.is_ok-self-inside.ensures.value ∙ settled)),
 )

@@ -1,9 +1,9 @@
-use Rattle.std.proofs.Common.{◌≢◌, ◌∙◌, sym, ap, subst, nat_eq, not, ◌&&◌}
-use Rattle.std.specs.Prelude.{IfSome, option_copied}
+use Rattle.std.proofs.Common.{◌≡◌, ◌≢◌, true, ◌∙◌, sym, ap, subst, nat_eq, not, ◌&&◌}
+use Rattle.std.specs.Prelude.{IfSome, IfNone, option_copied}
 use Rattle.std.specs.Map.{lookup, set_value}
 use Rattle.std.proofs.lemmas.Bool.{false≢true}
 use Rattle.point_core.specs.Reach.{value_at}
-use Rattle.fence_core.specs.Fence.{members_of}
+use Rattle.fence_core.specs.Fence.{members_of, are_reached}
 use Rattle.fence_core.specs.Registration.{cookie_of}
 use Rattle.fence_core.specs.PointIndex.{waiting, is_same, is_due, IsOneAbove}
 use Rattle.fence_core.specs.declared.watches.point_index.WaitingPoint.{WaitingPoint as Waiting}
@@ -22,7 +22,7 @@ moved c =
     let p = c.unwrap-next.result in
     let x = c.unwrap-watch.result.now in
     let found = sym c.find.ensures ∙ ap option_copied c.unwrap-watch.ensures in
-    let one : IsOneAbove reach (members_of x.fence) p = subst (λ o. IfSome o (λ q. IsOneAbove reach (members_of x.fence) q)) c.unwrap-next.ensures c.first_above.ensures.above in
+    let one : IsOneAbove reach (members_of x.fence) p = subst (λ o. IfSome o (λ q. IsOneAbove reach (members_of x.fence) q)) c.unwrap-next.ensures (subst (λ ps. IfSome c.first_above.result (λ q. IsOneAbove reach ps q)) c.members.ensures.value c.first_above.ensures.above) in
     let apart : due ≢ waiting p due.registration = λ e. false≢true (sym (above-not_due reach p due.registration one.above) ∙ sym (ap (λ (k : Waiting). is_due k.ctx (value_at reach k.ctx) k) e) ∙ c.requires.due) in
     moved-on reach es c.replace.new.pending.entries c.args.self.now c.take.new.self due p x c.requires.placed one.above c.requires.there found (one.member due.registration) apart
     (λ w there.
@@ -38,4 +38,4 @@ returns-in_err-put-clause-moved c = AreMoved-same c.args.reach.now c.args.pendin
 
 -- it does not fire
 pub unwrap-next-requires : goal.unwrap-next-requires
-unwrap-next-requires c = some-above c.args.pending.now.entries c.args.reach.now c.args.due.now.registration c.unwrap-watch.result.now c.first_above.result c.requires.placed.kept c.requires.none_fires (sym c.find.ensures ∙ ap option_copied c.unwrap-watch.ensures) c.first_above.ensures.signalled
+unwrap-next-requires c = some-above c.args.pending.now.entries c.args.reach.now c.args.due.now.registration c.unwrap-watch.result.now c.first_above.result c.requires.placed.kept c.requires.none_fires (sym c.find.ensures ∙ ap option_copied c.unwrap-watch.ensures) (subst (λ ps. IfNone c.first_above.result (are_reached c.args.reach.now ps ≡ true)) c.members.ensures.value c.first_above.ensures.signalled)
