@@ -92,7 +92,12 @@ impl PointIndex {
         ensures unchanged { OnErr result ((k : Waiting) → holds self.new k ≡ holds self.old k) }
     {
         make_queues(&mut self.queues, self.alloc, point.ctx)?;
-        insert_in_queue(self.queues.as_mut_slice(), point, registration)?;
+        let index = point.ctx.index();
+        let watch = Standing {
+            value: point.value,
+            registration,
+        };
+        self.queues[index].put(&watch)?;
         Ok(())
     }
 
@@ -259,29 +264,6 @@ fn make_queues(queues: &mut Vec<PointQueue>, alloc: Global, ctx: Context) -> Res
     while queues.len() <= ctx.index() {
         queues.push(PointQueue::new(alloc))?;
     }
-    Ok(())
-}
-
-/// Puts a point in, in the queue of its context, which there is.
-fn insert_in_queue(
-    queues: &mut [PointQueue],
-    point: &Point,
-    registration: Registration,
-) -> Result<(), AllocError>
-    requires enough { point.now.ctx ≤ length queues.old }
-    ensures few { length queues.new ≡ length queues.old }
-    ensures put { OnOk result ((k : Waiting) →
-        holds queues.new k ≡ (is_same (waiting point.now registration) k || holds queues.old k)) }
-    ensures due { (ctx value : ℕ) → is_due ctx value (waiting point.now registration) ≡ false →
-        number_due ctx value queues.new ≡ number_due ctx value queues.old }
-    ensures unchanged { OnErr result ((k : Waiting) → holds queues.new k ≡ holds queues.old k) }
-{
-    let index = point.ctx.index();
-    let watch = Standing {
-        value: point.value,
-        registration,
-    };
-    queues[index].put(&watch)?;
     Ok(())
 }
 
