@@ -24,88 +24,36 @@ pub enum Operand {
     Flags,
 }
 
+/// A row: `form!(word, operands..)`.
+macro_rules! form {
+    ($word:literal $(, $operand:ident)*) => {
+        CommandForm {
+            word: $word,
+            operands: &[$(Operand::$operand),*],
+        }
+    };
+}
+
 static COMMANDS: &[CommandForm] = &[
-    CommandForm {
-        word: "timeline",
-        operands: &[Operand::Name],
-    },
-    CommandForm {
-        word: "inc",
-        operands: &[Operand::Name, Operand::Number],
-    },
-    CommandForm {
-        word: "value",
-        operands: &[Operand::Name],
-    },
-    CommandForm {
-        word: "shut",
-        operands: &[Operand::Name],
-    },
-    CommandForm {
-        word: "fence",
-        operands: &[Operand::Name, Operand::Name, Operand::Number],
-    },
-    CommandForm {
-        word: "merge",
-        operands: &[Operand::Name, Operand::Name, Operand::Name],
-    },
-    CommandForm {
-        word: "close",
-        operands: &[Operand::Name],
-    },
-    CommandForm {
-        word: "wait",
-        operands: &[Operand::Name],
-    },
-    CommandForm {
-        word: "info",
-        operands: &[Operand::Name],
-    },
-    CommandForm {
-        word: "buffer",
-        operands: &[Operand::Name],
-    },
-    CommandForm {
-        word: "add",
-        operands: &[
-            Operand::Name,
-            Operand::Name,
-            Operand::Number,
-            Operand::Usage,
-        ],
-    },
-    CommandForm {
-        word: "import",
-        operands: &[Operand::Name, Operand::Name, Operand::Flags],
-    },
-    CommandForm {
-        word: "export",
-        operands: &[Operand::Name, Operand::Name, Operand::Flags],
-    },
-    CommandForm {
-        word: "test",
-        operands: &[Operand::Name, Operand::Usage],
-    },
-    CommandForm {
-        word: "trim",
-        operands: &[Operand::Name],
-    },
-    CommandForm {
-        word: "watch",
-        operands: &[Operand::Name, Operand::Number],
-    },
-    CommandForm {
-        word: "unwatch",
-        operands: &[Operand::Number],
-    },
-    CommandForm {
-        word: "show",
-        operands: &[Operand::Name],
-    },
-    CommandForm {
-        word: "report",
-        operands: &[],
-    },
+    form!("timeline", Name),
+    form!("inc", Name, Number),
+    form!("value", Name),
+    form!("shut", Name),
+    form!("fence", Name, Name, Number),
+    form!("merge", Name, Name, Name),
+    form!("close", Name),
+    form!("wait", Name),
+    form!("info", Name),
+    form!("buffer", Name),
+    form!("add", Name, Name, Number, Usage),
+    form!("import", Name, Name, Flags),
+    form!("export", Name, Name, Flags),
+    form!("test", Name, Usage),
+    form!("trim", Name),
+    form!("watch", Name, Number),
+    form!("unwatch", Number),
+    form!("show", Name),
+    form!("report"),
 ];
 
 /// The table, a row for each command.
