@@ -1,5 +1,5 @@
 -- The lowest bits of marks, and how marks are joined.
-use Rattle.std.proofs.Common.{◌≡◌, ℕ, ◌+◌, ◌-◌, ◌*◌, ◌/◌, ◌%◌, ◌^◌, ◌<◌, ◌≤◌, Bool, true, false, not, cond, nat_lt, List, length, get_or, take, drop, map, None, Some, unwrap_or, inl, inr, refl, sym, ap, ◌∙◌, arith, w64, pow_mono, length-take, length-drop, take_all, drop-drop}
+use Rattle.std.proofs.Common.{◌≡◌, ℕ, ◌+◌, ◌-◌, ◌*◌, ◌/◌, ◌%◌, ◌^◌, ◌<◌, ◌≤◌, Bool, true, false, not, cond, nat_lt, List, length, get_or, take, drop, map, None, Some, unwrap_or, inl, inr, refl, sym, ap, subst, ◌∙◌, arith, w64, pow_mono, length-take, length-drop, take_all, drop-drop}
 use Rattle.std.specs.Int.{bit_at, trailing_zeros, trailing_ones}
 use Rattle.std.specs.List.{position, position_or_len}
 use Rattle.std.proofs.lemmas.Bool.{cases_lt, lt-ltb, le-ltb}
@@ -9,7 +9,7 @@ use Rattle.std.proofs.lemmas.Nat.{or_shifted, shl_whole}
 use Rattle.std.proofs.lemmas.Nat.Bits.{bit_at-trailing_ones, bit_at_above}
 use Rattle.std.proofs.lemmas.Simd.{bit_mask_l, leading_from_mask_l}
 use lib.Bits.{bit_or}
-use Rattle.line_core.specs.Marks.{marks_of}
+use Rattle.line_core.specs.Marks.{HasMarks, marks_of}
 use Rattle.line_core.specs.Words.{is_space}
 use Rattle.line_core.proofs.Masks.{mask-below, mask-below_lanes, mask-drop, mask-split, first_set, first_set-within}
 
@@ -36,16 +36,16 @@ of_none : (b : Bool) → cond {A = ℕ} (not b) 1 0 ≡ 0 → b ≡ true
 of_none true e = refl
 of_none false e = absurd (omega arith)
 
-pub marked-none : (xs : List ℕ) → marks_of xs ≡ 0 → position is_of_word xs ≡ None
+marked-none : (xs : List ℕ) → marks_of xs ≡ 0 → position is_of_word xs ≡ None
 marked-none xs e =
     let all : position_or_len is_of_word xs ≡ length xs = leading_from_mask_l is_of_word xs e in
     ap (λ n. cond (nat_lt n (length xs)) (Some n) None) all
     ∙ ap (λ b. cond b (Some (length xs)) None) (le-ltb (length xs) (length xs) (omega arith))
 
-pub marked-start_within : (xs : List ℕ) → length xs ≤ 63 → 0 < marks_of xs → trailing_zeros w64 (marks_of xs) < length xs
+marked-start_within : (xs : List ℕ) → length xs ≤ 63 → 0 < marks_of xs → trailing_zeros w64 (marks_of xs) < length xs
 marked-start_within xs few some = first_set-within is_of_word xs few some
 
-pub marked-start : (xs : List ℕ) → length xs ≤ 63 → 0 < marks_of xs → position is_of_word xs ≡ Some (trailing_zeros w64 (marks_of xs))
+marked-start : (xs : List ℕ) → length xs ≤ 63 → 0 < marks_of xs → position is_of_word xs ≡ Some (trailing_zeros w64 (marks_of xs))
 marked-start xs few some = first_set is_of_word xs few some
 
 ended : (n len : ℕ) → n ≤ len → unwrap_or (cond (nat_lt n len) (Some n) None) len ≡ n
@@ -61,14 +61,14 @@ module _ (xs : List ℕ) (few : length xs ≤ 63) where
   lowest_unset : (trailing_ones w64 (marks_of xs) < 64) × (bit_at (marks_of xs) (trailing_ones w64 (marks_of xs)) ≡ 0) × ((k : ℕ) → k < trailing_ones w64 (marks_of xs) → bit_at (marks_of xs) k ≡ 1)
   lowest_unset = bit_at-trailing_ones w64 (marks_of xs) (omega (arith, marks_fit xs few))
 
-  pub marked-end_within : trailing_ones w64 (marks_of xs) ≤ length xs
+  marked-end_within : trailing_ones w64 (marks_of xs) ≤ length xs
   marked-end_within =
       elim (cases_lt (length xs) (trailing_ones w64 (marks_of xs))) [
         | inl past ↦ absurd (omega (arith, lowest_unset.2 (length xs) past, bit_past xs (length xs) (omega arith)))
         | inr within ↦ within
       ]
 
-  pub marked-end : unwrap_or (position is_space xs) (length xs) ≡ trailing_ones w64 (marks_of xs)
+  marked-end : unwrap_or (position is_space xs) (length xs) ≡ trailing_ones w64 (marks_of xs)
   marked-end =
       let n = trailing_ones w64 (marks_of xs) in
       let at : position_or_len is_space xs ≡ n = position_or_len_is is_space xs n 0 marked-end_within
@@ -78,6 +78,33 @@ module _ (xs : List ℕ) (few : length xs ≤ 63) where
 
 pub marks-drop : (n : ℕ) (xs : List ℕ) → marks_of (drop n xs) ≡ marks_of xs / 2 ^ n
 marks-drop n xs = mask-drop is_of_word n xs
+
+-- the place of the first word, and the end of the word with which the bytes begin, by their marks
+module _ (xs : List ℕ) (m : ℕ) (has : HasMarks xs m) where
+  pub none-marked : m ≡ 0 → position is_of_word xs ≡ None
+  none-marked none = marked-none xs (sym has.marked ∙ none)
+
+  pub start-marked : 0 < m → position is_of_word xs ≡ Some (trailing_zeros w64 m)
+  start-marked some =
+      let all : 0 < marks_of xs = omega (arith, has.marked, some) in
+      marked-start xs has.few all ∙ ap (λ a. Some (trailing_zeros w64 a)) (sym has.marked)
+
+  pub start-within : 0 < m → trailing_zeros w64 m ≤ length xs
+  start-within some =
+      let all : 0 < marks_of xs = omega (arith, has.marked, some) in
+      subst (λ a. trailing_zeros w64 a ≤ length xs) (sym has.marked) (omega (arith, marked-start_within xs has.few all))
+
+  pub end-marked : unwrap_or (position is_space xs) (length xs) ≡ trailing_ones w64 m
+  end-marked = marked-end xs has.few ∙ ap (trailing_ones w64) (sym has.marked)
+
+  pub end-within : trailing_ones w64 m ≤ length xs
+  end-within = subst (λ n. n ≤ length xs) (ap (trailing_ones w64) (sym has.marked)) (marked-end_within xs has.few)
+
+pub HasMarks-drop : (n m : ℕ) (xs : List ℕ) → HasMarks xs m → HasMarks (drop n xs) (m / 2 ^ n)
+HasMarks-drop n m xs has = record {
+  few = omega (arith, has.few, length-drop n xs);
+  marked = ap (λ a. a / 2 ^ n) has.marked ∙ sym (marks-drop n xs);
+}
 
 -- from the marks of the first n bytes and of the last n
 pub marks-joined : (n : ℕ) (xs : List ℕ) → n ≤ length xs → length xs ≤ n + n → n + n ≤ 64

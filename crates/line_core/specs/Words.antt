@@ -1,5 +1,5 @@
 -- Words of a line.
-use Rattle.std.specs.Prelude.{◌≡◌, ℕ, ◌<◌, ◌==◌, Bool, false, not, List, [], ◌∷◌, length, get_or, filter, Option, None, Some, option_map}
+use Rattle.std.specs.Prelude.{ℕ, ◌==◌, Bool, not, List, [], ◌∷◌, length, filter, Option, None, Some, option_map}
 use Rattle.std.specs.List.{slice_split}
 
 -- 32 is the space
@@ -12,10 +12,6 @@ is_word bytes = not (length bytes == 0)
 -- the runs of bytes other than the space
 abbrev pub words_of : List ℕ → List (List ℕ)
 words_of line = filter is_word (slice_split is_space line)
-
--- there are bytes, and the first is no space
-abbrev pub BeginsWithWord : List ℕ → Type 0
-BeginsWithWord bytes = (0 < length bytes) × (is_space (get_or bytes 0 0) ≡ false)
 
 abbrev pub are_none : {A : Type 0} → List A → Bool
 are_none words = length words == 0

@@ -1,8 +1,7 @@
 //! Marks: a bit mask with one bit for each byte of a line, set if the byte belongs to a word. Words are then found by
 //! counting zeros instead of looking at each byte.
-ghost use Rattle.std.specs.Prelude.{◌≡◌, ◌+◌, ◌*◌, ◌≤◌, not, drop, take, length, position, unwrap_or, IfSome};
+ghost use Rattle.std.specs.Prelude.{◌≡◌, ◌+◌, ◌*◌, ◌≤◌, drop, take, length};
 ghost use Rattle.line_core.specs.Marks.{HasMarks, MayHaveMarks, marks_of};
-ghost use Rattle.line_core.specs.Words.{is_space};
 
 use std::simd::prelude::*;
 
@@ -99,35 +98,4 @@ fn half_lane_marks(bytes: &[u8], start: usize) -> u64
     u8x8::from_slice(&bytes[start..])
         .simd_ne(u8x8::splat(b' '))
         .to_bitmask()
-}
-
-/// The start of the first word. Only the contract uses `bytes`, here and below.
-pub(crate) fn marked_start(bytes: &[u8], marks: u64) -> Option<usize>
-    requires marks { HasMarks bytes.now marks }
-    ensures place { result ≡ position (λ b. not (is_space b)) bytes.now }
-    ensures within { IfSome result (λ start. start ≤ length bytes.now) }
-{
-    if marks == 0 {
-        None
-    } else {
-        Some(marks.trailing_zeros() as usize)
-    }
-}
-
-/// The end of the word with which the bytes begin.
-pub(crate) fn marked_end(bytes: &[u8], marks: u64) -> usize
-    requires marks { HasMarks bytes.now marks }
-    ensures place { unwrap_or (position is_space bytes.now) (length bytes.now) ≡ result }
-    ensures within { result ≤ length bytes.now }
-{
-    marks.trailing_ones() as usize
-}
-
-/// The marks of the bytes from `start` on.
-pub(crate) fn marks_from(bytes: &[u8], marks: u64, start: usize) -> u64
-    requires marks { HasMarks bytes.now marks }
-    requires within { start ≤ length bytes.now }
-    ensures marks { HasMarks (drop start bytes.now) result }
-{
-    marks >> start
 }

@@ -24,7 +24,8 @@ pub fn without_spaces(line: &[u8]) -> &[u8]
     }
 }
 
-fn first_other_than_space(line: &[u8]) -> Option<usize>
+/// The place of the first byte of a word.
+pub(crate) fn first_other_than_space(line: &[u8]) -> Option<usize>
     ensures place { result ≡ position (λ b. not (is_space b)) line.now }
 {
     line.iter().position(|byte| *byte != b' ')

@@ -1,12 +1,12 @@
 //! `Words`: an iterator over the words of a line, which are runs of bytes other than the space. It works with and
 //! without marks.
-ghost use Rattle.std.specs.Prelude.{◌≡◌, ◌∷◌, [], option_map, MatchOption, length, ◌≤◌, position, not, IfSome};
-ghost use Rattle.std.specs.List.{prefix_len, position_or_len};
+ghost use Rattle.std.specs.Prelude.{◌≡◌, ◌∷◌, [], option_map, MatchOption};
 ghost use Rattle.std.specs.Str.{bytes_eq};
-ghost use Rattle.line_core.specs.Marks.{HasMarks, MayHaveMarks};
-ghost use Rattle.line_core.specs.Words.{is_space, words_of, BeginsWithWord, are_none, one_of, two_of, three_of, four_of};
+ghost use Rattle.line_core.specs.Marks.{HasMarks};
+ghost use Rattle.line_core.specs.Words.{words_of, are_none, one_of, two_of, three_of, four_of};
 
-use crate::marks::{marked_end, marked_start, marks, marks_from};
+use crate::marks::marks;
+use crate::prefix::first_other_than_space;
 use memchr::memchr;
 use std::marker::Model;
 
@@ -56,106 +56,39 @@ impl<'a> Words<'a> {
     pub(crate) fn first(&self) -> Option<(&'a [u8], Words<'a>)>
         ensures words { MatchOption result (self.now ≡ []) (λ w. self.now ≡ w.0.now ∷ w.1) }
     {
-        let (word, bytes, marks) = first_word(self.bytes, self.marks)?;
-        Some((word, Words { bytes, marks }))
+        match self.marks {
+            Some(marks) => first_by_marks(self.bytes, marks),
+            None => first_by_bytes(self.bytes),
+        }
     }
 }
 
-/// The first word, the bytes after it, and their marks, if there are any.
+/// The zeros at the low end of the marks are the spaces before the first word, and the ones above them are the word.
 #[inline(always)]
-fn first_word(bytes: &[u8], marks: Option<u64>) -> Option<(&[u8], &[u8], Option<u64>)>
-    requires marks { MayHaveMarks bytes.now marks }
-    ensures words { MatchOption result
-        (words_of bytes.now ≡ [])
-        (λ w. words_of bytes.now ≡ w.0.now ∷ words_of w.1.now) }
-    ensures marks { IfSome result (λ w. MayHaveMarks w.1.now w.2) }
-{
-    match marks {
-        Some(marks) => first_by_marks(bytes, marks),
-        None => first_by_bytes(bytes),
-    }
-}
-
-#[inline(always)]
-fn first_by_bytes(bytes: &[u8]) -> Option<(&[u8], &[u8], Option<u64>)>
-    ensures words { MatchOption result
-        (words_of bytes.now ≡ [])
-        (λ w. words_of bytes.now ≡ w.0.now ∷ words_of w.1.now) }
-    ensures marks { IfSome result (λ w. MayHaveMarks w.1.now w.2) }
-{
-    let bytes = from_word(bytes)?;
-    let (word, rest) = part_word(bytes);
-    Some((word, rest, None))
-}
-
-#[inline(always)]
-fn first_by_marks(bytes: &[u8], marks: u64) -> Option<(&[u8], &[u8], Option<u64>)>
+fn first_by_marks<'a>(bytes: &'a [u8], marks: u64) -> Option<(&'a [u8], Words<'a>)>
     requires marks { HasMarks bytes.now marks }
-    ensures words { MatchOption result
-        (words_of bytes.now ≡ [])
-        (λ w. words_of bytes.now ≡ w.0.now ∷ words_of w.1.now) }
-    ensures marks { IfSome result (λ w. MayHaveMarks w.1.now w.2) }
+    ensures words { MatchOption result (words_of bytes.now ≡ []) (λ w. words_of bytes.now ≡ w.0.now ∷ w.1) }
 {
-    let (bytes, marks) = from_marked_word(bytes, marks)?;
-    let (word, rest, marks) = part_marked_word(bytes, marks);
-    Some((word, rest, Some(marks)))
+    if marks == 0 {
+        return None;
+    }
+    let start = marks.trailing_zeros() as usize;
+    let bytes = &bytes[start..];
+    let marks = marks >> start;
+    let end = marks.trailing_ones() as usize;
+    let (word, rest) = bytes.split_at(end);
+    Some((word, Words::marked(rest, marks >> end)))
 }
 
-/// The bytes from the first word on.
-fn from_word(bytes: &[u8]) -> Option<&[u8]>
-    ensures words { MatchOption result
-        (words_of bytes.now ≡ [])
-        (λ b. words_of bytes.now ≡ words_of b.now) }
-    ensures begins { IfSome result (λ b. BeginsWithWord b.now) }
+#[inline(always)]
+fn first_by_bytes<'a>(bytes: &'a [u8]) -> Option<(&'a [u8], Words<'a>)>
+    ensures words { MatchOption result (words_of bytes.now ≡ []) (λ w. words_of bytes.now ≡ w.0.now ∷ w.1) }
 {
     let start = first_other_than_space(bytes)?;
-    Some(&bytes[start..])
-}
-
-/// The bytes from the first word on, with their marks.
-fn from_marked_word(bytes: &[u8], marks: u64) -> Option<(&[u8], u64)>
-    requires marks { HasMarks bytes.now marks }
-    ensures words { MatchOption result
-        (words_of bytes.now ≡ [])
-        (λ b. words_of bytes.now ≡ words_of b.0.now) }
-    ensures begins { IfSome result (λ b. BeginsWithWord b.0.now) }
-    ensures marks { IfSome result (λ b. HasMarks b.0.now b.1) }
-{
-    let start = marked_start(bytes, marks)?;
-    Some((&bytes[start..], marks_from(bytes, marks, start)))
-}
-
-/// The word that the bytes begin with, and the bytes after it.
-fn part_word(bytes: &[u8]) -> (&[u8], &[u8])
-    requires begins { BeginsWithWord bytes.now }
-    ensures words { words_of bytes.now ≡ result.0.now ∷ words_of result.1.now }
-{
-    let end = first_space(bytes).unwrap_or(bytes.len());
-    bytes.split_at(end)
-}
-
-/// The word that the bytes begin with, the bytes after it, and their marks.
-fn part_marked_word(bytes: &[u8], marks: u64) -> (&[u8], &[u8], u64)
-    requires begins { BeginsWithWord bytes.now }
-    requires marks { HasMarks bytes.now marks }
-    ensures words { words_of bytes.now ≡ result.0.now ∷ words_of result.1.now }
-    ensures marks { HasMarks result.1.now result.2 }
-{
-    let end = marked_end(bytes, marks);
-    let (word, rest) = bytes.split_at(end);
-    (word, rest, marks_from(bytes, marks, end))
-}
-
-fn first_other_than_space(bytes: &[u8]) -> Option<usize>
-    ensures place { result ≡ position (λ b. not (is_space b)) bytes.now }
-{
-    bytes.iter().position(|byte| *byte != b' ')
-}
-
-fn first_space(bytes: &[u8]) -> Option<usize>
-    ensures place { result ≡ position is_space bytes.now }
-{
-    memchr(b' ', bytes)
+    let from_word = &bytes[start..];
+    let end = memchr(b' ', from_word).unwrap_or(from_word.len());
+    let (word, bytes) = from_word.split_at(end);
+    Some((word, Words { bytes, marks: None }))
 }
 
 /// Whether there is no word.
