@@ -39,23 +39,13 @@ pub(crate) fn scan_at(block: &[u8], start: usize, count: usize) -> Scan
     ensures scanned { IsScanOf (take count (drop start block.now)) result }
 {
     let known = count.min(MARKED_BYTES);
-    let feeds = low_bits(feeds_at(block, start), known);
-    let marks = low_bits(marks_at(block, start), known);
-    Scan { feeds, marks }
-}
-
-fn feeds_at(block: &[u8], start: usize) -> u64
-    requires within { start + SCAN_BYTES ≤ length block.now }
-    ensures feeds { result ≡ feeds_of (take SCAN_BYTES (drop start block.now)) }
-{
-    (wide_lane_feeds(block, start + WIDE_LANES) << WIDE_LANES) | wide_lane_feeds(block, start)
-}
-
-fn marks_at(block: &[u8], start: usize) -> u64
-    requires within { start + SCAN_BYTES ≤ length block.now }
-    ensures marks { result ≡ marks_of (take SCAN_BYTES (drop start block.now)) }
-{
-    (wide_lane_marks(block, start + WIDE_LANES) << WIDE_LANES) | wide_lane_marks(block, start)
+    let end = start + WIDE_LANES;
+    let feeds = (wide_lane_feeds(block, end) << WIDE_LANES) | wide_lane_feeds(block, start);
+    let marks = (wide_lane_marks(block, end) << WIDE_LANES) | wide_lane_marks(block, start);
+    Scan {
+        feeds: low_bits(feeds, known),
+        marks: low_bits(marks, known),
+    }
 }
 
 fn wide_lane_feeds(bytes: &[u8], start: usize) -> u64
@@ -67,7 +57,7 @@ fn wide_lane_feeds(bytes: &[u8], start: usize) -> u64
         .to_bitmask()
 }
 
-/// The first line, if its line feed is in the scan. Only the contract uses the bytes, here and below.
+/// The first line, if its line feed is in the scan. Only the contract uses the bytes.
 #[inline(always)]
 pub(crate) fn first_scanned(bytes: &[u8], scan: &Scan) -> Option<ScannedLine>
     requires scanned { IsScanOf bytes.now scan.now }
@@ -77,38 +67,16 @@ pub(crate) fn first_scanned(bytes: &[u8], scan: &Scan) -> Option<ScannedLine>
     ensures rest { IfSome result (λ line. IsScanOf (drop (line.end + 1) bytes.now) line.rest) }
     ensures some { IfSome result (λ _. 0 < scan.now.feeds) }
 {
-    let end = scanned_end(bytes, scan)?;
+    if scan.feeds == 0 {
+        return None;
+    }
+    let end = scan.feeds.trailing_zeros() as usize;
     let marks = low_bits(scan.marks, end);
-    let rest = scan_after(scan, end + 1);
+    let rest = Scan {
+        feeds: scan.feeds >> (end + 1),
+        marks: scan.marks >> (end + 1),
+    };
     Some(ScannedLine { end, marks, rest })
-}
-
-#[inline(always)]
-fn scanned_end(bytes: &[u8], scan: &Scan) -> Option<usize>
-    requires scanned { IsScanOf bytes.now scan.now }
-    ensures place { IfSome result (λ end. position is_line_feed bytes.now ≡ Some end) }
-    ensures few { IfSome result (λ end. end < MARKED_BYTES) }
-    ensures within { (is : IsScanOf bytes.now scan.now) → IfSome result (λ end. end < is.known) }
-    ensures some { IfSome result (λ _. 0 < scan.now.feeds) }
-{
-    let feeds = scan.feeds;
-    if feeds == 0 {
-        None
-    } else {
-        Some(feeds.trailing_zeros() as usize)
-    }
-}
-
-/// The scan without its first `count` bytes.
-fn scan_after(scan: &Scan, count: usize) -> Scan
-    requires few { count ≤ MARKED_BYTES }
-    ensures feeds { result.feeds ≡ scan.now.feeds / 2 ^ count }
-    ensures marks { result.marks ≡ scan.now.marks / 2 ^ count }
-{
-    Scan {
-        feeds: scan.feeds >> count,
-        marks: scan.marks >> count,
-    }
 }
 
 fn low_bits(bits: u64, count: usize) -> u64
