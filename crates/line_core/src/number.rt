@@ -16,6 +16,12 @@ const _: () = prove!(DIGITS == 20);
 /// The fewest digits that are read together. Fewer take less time one by one.
 const FEWEST_TOGETHER: usize = 4;
 
+/// The least number of more than four digits.
+const PAST_FOUR_DIGITS: u64 = 10_000;
+
+/// A number times this has, in each byte, the byte itself and ten times the byte below it.
+const TENS_ADDED: u32 = 10 * 256 + 1;
+
 /// The number that a word of 1 to `DIGITS` decimal digits spells, if it has at most 64 bits. Leading zeros are allowed.
 pub(crate) fn number(word: &[u8]) -> Option<u64>
     ensures value { result ≡ number_of word.now }
@@ -29,7 +35,7 @@ pub(crate) fn number(word: &[u8]) -> Option<u64>
     long_number(word)
 }
 
-/// As `number`, of any length; never inlined, so that the commands, each of which contains `number`, stay short.
+/// Reads a number of any length. It is never inlined, so that the commands, each of which contains `number`, stay short.
 #[inline(never)]
 fn long_number(word: &[u8]) -> Option<u64>
     ensures value { result ≡ number_of word.now }
@@ -89,7 +95,7 @@ fn number_by_lanes(word: &[u8]) -> Option<u64>
         return None;
     }
     let [first, last] = u32x2::from_le_bytes(digits).to_array();
-    Some(four_digits(first) * 10_000 + four_digits(last))
+    Some(four_digits(first) * PAST_FOUR_DIGITS + four_digits(last))
 }
 
 /// The digits of the word in the last lanes, and zeros in the lanes before them.
@@ -119,7 +125,7 @@ fn four_digits(digits: u32) -> u64
     ensures number { IsNumberOfFour digits result }
     ensures small { result < 2 ^ 16 }
 {
-    let [_, first, _, last] = digits.wrapping_mul(10 * 256 + 1).to_le_bytes();
+    let [_, first, _, last] = digits.wrapping_mul(TENS_ADDED).to_le_bytes();
     u64::from(first) * 100 + u64::from(last)
 }
 
