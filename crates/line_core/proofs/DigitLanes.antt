@@ -52,7 +52,18 @@ number-below : (xs : List ℕ) → AreBytes xs → number_l 256 xs < 2 ^ (8 * le
 number-below [] bytes = omega arith
 number-below (x ∷ xs) bytes = omega (arith, power-more (length xs), number-below xs (λ k. bytes (suc k)), bytes 0)
 
-digits-bytes : (word : List ℕ) → AreBytes (map digit_of word)
+-- what is in a byte's lane once 48 was subtracted
+abbrev lane_of : ℕ → ℕ
+lane_of byte = (byte + 208) % 256
+
+lane-digit : (c : ℕ) → c < 256 → lane_of c ≡ digit_of c
+lane-digit c h = grind (arith, nat_tests)
+
+word-lanes : (word : List ℕ) → AreBytes word → map lane_of word ≡ map digit_of word
+word-lanes [] bytes = refl
+word-lanes (c ∷ word) bytes = λ i. lane-digit c (bytes 0) i ∷ word-lanes word (λ k. bytes (suc k)) i
+
+digits-bytes : (word : List ℕ) → AreBytes (map lane_of word)
 digits-bytes [] k = omega arith
 digits-bytes (x ∷ word) zero = omega arith
 digits-bytes (x ∷ word) (suc k) = digits-bytes word k
@@ -75,35 +86,36 @@ shifted low high n k h e =
     mul-mod_first (low + 2 ^ (8 * n) * high) (2 ^ (8 * k)) (2 ^ 64) ∙ ap (λ m. m % 2 ^ 64) parts
     ∙ mod-mul-add high (2 ^ 64) (low * 2 ^ (8 * k)) fits
 
-pub length-lanes : (lanes word : List ℕ) → length word ≤ 8 → lanes ≡ replicate (8 - length word) 0 ++ map digit_of word → length lanes ≡ 8
-length-lanes lanes word few is =
+pub length-lanes : (f : ℕ → ℕ) (lanes word : List ℕ) → length word ≤ 8 → lanes ≡ replicate (8 - length word) 0 ++ map f word → length lanes ≡ 8
+length-lanes f lanes word few is =
     let zeros : List ℕ = replicate (8 - length word) 0 in
-    omega (arith, ap length is, length-append zeros (map digit_of word), length-replicate {A = ℕ} (8 - length word) 0, length-map word digit_of, few)
+    omega (arith, ap length is, length-append zeros (map f word), length-replicate {A = ℕ} (8 - length word) 0, length-map word f, few)
 
 pub last-digits : (word : List ℕ) (x : ℕ) → length word ≤ 8 → AreBytes word → x ≡ number_l 256 word
-    → digits_l 256 8 (number_l 256 (map digit_of (digits_l 256 8 (x + 0))) % 2 ^ 64 * 2 ^ (8 * (8 - length word)) % 2 ^ 64 + 0) ≡ replicate (8 - length word) 0 ++ map digit_of word
+    → digits_l 256 8 (number_l 256 (map lane_of (digits_l 256 8 (x + 0))) % 2 ^ 64 * 2 ^ (8 * (8 - length word)) % 2 ^ 64 + 0) ≡ replicate (8 - length word) 0 ++ map digit_of word
 last-digits word x few bytes is =
     let n = length word in
     let k = 8 - length word in
-    let digits = map digit_of word in
+    let digits = map lane_of word in
     let eight : 8 ≡ k + n = omega (arith, few) in
     let after = digits_l 256 k 0 in
     let whole : x + 0 ≡ number_l 256 word = omega (arith, is) in
     let lanes : digits_l 256 8 (x + 0) ≡ word ++ after =
     ap (digits_l 256 8) whole ∙ digits-front 8 word few bytes in
-    let same : length digits ≡ n = length-map word digit_of in
-    let parts : number_l 256 (map digit_of (digits_l 256 8 (x + 0))) ≡ number_l 256 digits + 2 ^ (8 * n) * number_l 256 (map digit_of after) =
-    ap (λ ys. number_l 256 (map digit_of ys)) lanes ∙ ap (number_l 256) (map-append digit_of word after)
-    ∙ number-append digits (map digit_of after) ∙ ap (λ m. number_l 256 digits + 2 ^ (8 * m) * number_l 256 (map digit_of after)) same in
+    let same : length digits ≡ n = length-map word lane_of in
+    let parts : number_l 256 (map lane_of (digits_l 256 8 (x + 0))) ≡ number_l 256 digits + 2 ^ (8 * n) * number_l 256 (map lane_of after) =
+    ap (λ ys. number_l 256 (map lane_of ys)) lanes ∙ ap (number_l 256) (map-append lane_of word after)
+    ∙ number-append digits (map lane_of after) ∙ ap (λ m. number_l 256 digits + 2 ^ (8 * m) * number_l 256 (map lane_of after)) same in
     let below : number_l 256 digits < 2 ^ (8 * n) = subst (λ m. number_l 256 digits < 2 ^ (8 * m)) same (number-below digits (digits-bytes word)) in
-    let number : number_l 256 (map digit_of (digits_l 256 8 (x + 0))) % 2 ^ 64 * 2 ^ (8 * k) % 2 ^ 64 ≡ number_l 256 (replicate k 0 ++ digits) =
+    let number : number_l 256 (map lane_of (digits_l 256 8 (x + 0))) % 2 ^ 64 * 2 ^ (8 * k) % 2 ^ 64 ≡ number_l 256 (replicate k 0 ++ digits) =
     ap (λ m. m % 2 ^ 64 * 2 ^ (8 * k) % 2 ^ 64) parts
-    ∙ shifted (number_l 256 digits) (number_l 256 (map digit_of after)) n k below (omega (arith, eight)) ∙ sym (number-zeros k digits) in
-    let long : 8 ≡ length (replicate k 0 ++ digits) = sym (length-lanes (replicate k 0 ++ digits) word few refl) in
+    ∙ shifted (number_l 256 digits) (number_l 256 (map lane_of after)) n k below (omega (arith, eight)) ∙ sym (number-zeros k digits) in
+    let long : 8 ≡ length (replicate k 0 ++ digits) = sym (length-lanes lane_of (replicate k 0 ++ digits) word few refl) in
     let exact : number_l 256 (replicate k 0 ++ digits) + 0 ≡ number_l 256 (replicate k 0 ++ digits) = omega arith in
     ap (λ m. digits_l 256 8 (m + 0)) number ∙ ap (digits_l 256 8) exact
     ∙ ap (λ m. digits_l 256 m (number_l 256 (replicate k 0 ++ digits))) long
     ∙ digits-same (replicate k 0 ++ digits) (zeros-bytes k digits (digits-bytes word))
+    ∙ ap (λ ds. replicate k 0 ++ ds) (word-lanes word bytes)
 
 zeros-all : (k : ℕ) (xs : List ℕ) → list_all is_digit (replicate k 0 ++ xs) ≡ list_all is_digit xs
 zeros-all zero xs = refl
