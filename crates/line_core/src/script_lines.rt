@@ -192,7 +192,7 @@ impl ScriptLines {
             → HasEnded before (R.remaining reader.new) self.new ending given) }
         ensures turns { result ≡ None → turns_to_come self.new < turns_to_come self.old }
     {
-        // What is tested is not the room: in some programs LLVM then took a read of no bytes for a read of some.
+        // What is tested is not the room: in some built programs, a read of no bytes was then taken for a read of some.
         if self.read > SCRIPT_BYTES {
             return Some(Ending::TooLong);
         }
