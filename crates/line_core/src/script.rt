@@ -1,7 +1,7 @@
 //! Reads a whole script from memory. `lines_of` and `script_of` in `specs/` say what the lines of a script are.
 ghost use Rattle.std.specs.Prelude.{◌≡◌, ◌+◌, ◌^◌, ◌<◌, ◌∷◌, ◌++◌, [], length, take, option_to_list, MatchOption, IfSome, position, IfOk, IfErr};
 ghost use Rattle.point_core.specs.declared.refusal.Refusal.TheVariants.{Memory};
-ghost use Rattle.line_core.specs.Script.{is_line_feed, lines_of, lines_until, script_of, ending_of, last_body, answered};
+ghost use Rattle.line_core.specs.Script.{is_line_feed, lines_of, script_of, ending_of, last_body, answered};
 
 use crate::line::{Body, Line};
 use crate::takes::body_of;
@@ -51,22 +51,15 @@ pub(crate) struct Lines<'a> {
 impl<'a> Lines<'a> {
     ghost use Rattle.line_core.specs.Lines.{lines_left, turns_left};
 
-    /// The lines of the first `SCRIPT_BYTES` bytes; `ending` says how the last one ends.
-    fn new(bytes: &'a [u8], ending: Ending) -> Self
-        ensures lines { lines_left result ≡ lines_until ending (take SCRIPT_BYTES bytes.now) }
+    /// The lines of a script, which are in its first `SCRIPT_BYTES` bytes.
+    fn of(bytes: &'a [u8]) -> Self
+        ensures lines { lines_left result ≡ script_of bytes.now }
     {
         Lines {
             rest: &bytes[..SCRIPT_BYTES.min(bytes.len())],
             number: 1,
-            ending: Some(ending),
+            ending: Some(ending_of(bytes)),
         }
-    }
-
-    /// The lines of a script.
-    fn of(bytes: &'a [u8]) -> Self
-        ensures lines { lines_left result ≡ script_of bytes.now }
-    {
-        Lines::new(bytes, ending_of(bytes))
     }
 
     /// Takes the next line, and returns it if it has an answer.
