@@ -115,13 +115,6 @@ impl ScriptLines {
         ensures drained { result ≡ false → IsDrained self.new }
         ensures turns { turns_to_come self.new + (if result then 1 else 0) ≤ turns_to_come self.old }
     {
-        self.advance_by_cases()
-    }
-
-    #[inline(always)]
-    fn advance_by_cases(&mut self) -> bool
-        ensures advanced { Advances self.old result self.new }
-    {
         if self.end_scanned() {
             return true;
         }
