@@ -40,13 +40,14 @@ pub(crate) fn number(word: &[u8]) -> Option<u64>
 fn long_number(word: &[u8]) -> Option<u64>
     ensures value { result ≡ number_of word.now }
 {
-    if word.len() > DIGITS {
+    // Std's `parse` takes a plus sign too.
+    if word.len() > DIGITS || word.starts_with(b"+") {
         return None;
     }
-    if word.len() == DIGITS {
-        return great_number(word);
+    match str::from_utf8(word) {
+        Ok(text) => text.parse().ok(),
+        Err(_) => None,
     }
-    number_by_digit(word)
 }
 
 /// The number that a word of fewer than `DIGITS` bytes spells, which can't overflow.
@@ -64,21 +65,6 @@ fn number_by_digit(word: &[u8]) -> Option<u64>
             return None;
         }
         value = value * 10 + u64::from(*byte - b'0');
-    }
-    Some(value)
-}
-
-/// The number that a word of `DIGITS` bytes spells, if it has at most 64 bits. The only number that can overflow.
-fn great_number(word: &[u8]) -> Option<u64>
-    requires length { length word.now ≡ DIGITS }
-    ensures value { result ≡ number_of word.now }
-{
-    let mut value: u64 = 0;
-    for byte in word {
-        if !byte.is_ascii_digit() {
-            return None;
-        }
-        value = value.checked_mul(10)?.checked_add(u64::from(*byte - b'0'))?;
     }
     Some(value)
 }
