@@ -1,7 +1,4 @@
 //! `Line` and `Body`: a parsed line of a script, which is a command or an error.
-ghost use Rattle.std.specs.Prelude.{◌≡◌, IsTrue, None};
-ghost use Rattle.line_core.specs.Line.{body_from};
-ghost use Rattle.line_core.specs.Words.{words_of};
 
 use command_core::Command;
 use point_core::Refusal;
@@ -26,11 +23,4 @@ pub enum Body {
     Cmd(Command),
     /// The line itself is in error.
     Bad(Refusal),
-}
-
-/// Whether the line begins with `#`, as most comments do. Then its words need not be found.
-pub(crate) fn begins_as_note(line: &[u8]) -> bool
-    ensures note { IsTrue result → body_from (words_of line.now) ≡ None }
-{
-    line.starts_with(b"#")
 }

@@ -5,7 +5,7 @@ ghost use Rattle.line_core.specs.Marks.{MayHaveMarks};
 ghost use Rattle.line_core.specs.Takes.{HasTaken, TakesIfSome};
 
 use crate::command::take_command;
-use crate::line::{Body, LINE_BYTES, begins_as_note};
+use crate::line::{Body, LINE_BYTES};
 use crate::raw_line::RawLine;
 use crate::words::Words;
 use point_core::Refusal;
@@ -48,7 +48,8 @@ fn take_by_cases<V: Takes>(line: &[u8], marks: Option<u64>, to: &mut V) -> Optio
             if line.len() > LINE_BYTES {
                 return Some(to.take(Body::Bad(Refusal::LongLine)));
             }
-            if begins_as_note(line) {
+            // Most comments begin their line, whose words then need not be found.
+            if line.starts_with(b"#") {
                 return None;
             }
             Words::of(line)
