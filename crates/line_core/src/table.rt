@@ -5,7 +5,6 @@ ghost use Rattle.line_core.specs.Table.{form_at, forms, matches, form_of};
 
 use crate::number::is_number;
 use crate::usages::{is_flags, is_usage};
-use crate::words::is;
 use point_core::Name;
 
 /// A row of the table: a command's word, and the words that follow it, in order.
@@ -68,7 +67,7 @@ pub fn command_form(word: &[u8]) -> Option<&'static CommandForm>
     ensures form { option_map (λ form. form_of form.now) result ≡ form_at forms word.now }
 {
     for form in commands() {
-        if is(word, form.word) {
+        if word == form.word.as_bytes() {
             return Some(form);
         }
     }

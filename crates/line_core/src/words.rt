@@ -1,7 +1,6 @@
 //! `Words`: an iterator over the words of a line, which are runs of bytes other than the space. It works with and
 //! without marks.
 ghost use Rattle.std.specs.Prelude.{◌≡◌, ◌∷◌, [], option_map, MatchOption};
-ghost use Rattle.std.specs.Str.{bytes_eq};
 ghost use Rattle.line_core.specs.Marks.{HasMarks};
 ghost use Rattle.line_core.specs.Words.{words_of, are_none, one_of, two_of, three_of, four_of};
 
@@ -138,11 +137,4 @@ pub(crate) fn four<'a>(words: &Words<'a>) -> Option<(&'a [u8], &'a [u8], &'a [u8
     let (first, rest) = words.first()?;
     let (second, third, fourth) = three(&rest)?;
     Some((first, second, third, fourth))
-}
-
-/// Whether the word is `text`.
-pub(crate) fn is(word: &[u8], text: &str) -> bool
-    ensures same { result ≡ bytes_eq word.now text.now }
-{
-    word == text.as_bytes()
 }
