@@ -15,7 +15,7 @@ use crate::number::number;
 use crate::spelling::Spelling;
 use crate::takes::Takes;
 use crate::usages::{flags, usage};
-use crate::words::{Words, are_none, four, one, three, two};
+use crate::words::{Words, four, one, three, two};
 use command_core::Command;
 use point_core::Name;
 
@@ -259,9 +259,8 @@ fn take_report<V: Takes>(rest: &Words<'_>, to: &mut V) -> Option<V::Given>
     ensures taken { TakesCommand V.takes to.old
         (if are_none rest.now then Some Command.Report else None) result to.new }
 {
-    if are_none(rest) {
-        Some(to.take(Body::Cmd(Command::Report)))
-    } else {
-        None
+    match rest.first() {
+        None => Some(to.take(Body::Cmd(Command::Report))),
+        Some(_) => None,
     }
 }

@@ -2,7 +2,7 @@
 //! without marks.
 ghost use Rattle.std.specs.Prelude.{◌≡◌, ◌∷◌, [], option_map, MatchOption};
 ghost use Rattle.line_core.specs.Marks.{HasMarks};
-ghost use Rattle.line_core.specs.Words.{words_of, are_none, one_of, two_of, three_of, four_of};
+ghost use Rattle.line_core.specs.Words.{words_of, one_of, two_of, three_of, four_of};
 
 use crate::marks::marks;
 use crate::prefix::first_other_than_space;
@@ -88,13 +88,6 @@ fn first_by_bytes<'a>(bytes: &'a [u8]) -> Option<(&'a [u8], Words<'a>)>
     let end = memchr(b' ', from_word).unwrap_or(from_word.len());
     let (word, bytes) = from_word.split_at(end);
     Some((word, Words { bytes, marks: None }))
-}
-
-/// Whether there is no word.
-pub(crate) fn are_none(words: &Words<'_>) -> bool
-    ensures words { result ≡ are_none words.now }
-{
-    words.first().is_none()
 }
 
 /// The word, if there is exactly one.
