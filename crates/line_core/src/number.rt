@@ -1,4 +1,4 @@
-//! Decimal numbers: 1 to `DIGITS` digits, of at most 64 bits. Few digits are read one by one, 4 to 8 together.
+//! Decimal numbers: 1 to `DIGITS` digits, of at most 64 bits. Few digits are read one by one, 4 to 8 together, and more by `parse`.
 ghost use Rattle.std.specs.Prelude.{◌≡◌, ◌≤◌, ◌<◌, ◌+◌, ◌-◌, ◌*◌, ◌^◌, ◌++◌, is_some, length, map, replicate};
 ghost use Rattle.std.specs.List.{list_all};
 ghost use Rattle.line_core.specs.declared.number.TheConstants.{DIGITS};
