@@ -8,4 +8,3 @@ pub mod Replacing
 pub mod RoundActs
 pub mod Rows
 pub mod Runs
-pub mod Weaker

@@ -8,7 +8,6 @@ mod laws;
 mod plan;
 mod resv;
 mod shared_table;
-mod table_rows;
 mod top_table;
 mod tops;
 

@@ -9,7 +9,6 @@ ghost use Rattle.resv_core.specs.declared.resv.TheConstants.{PLACES};
 ghost use Rattle.resv_core.specs.Resv.{IsTable, IsTrimmed, empty, entry_of, gives_way, rows_of};
 ghost use Rattle.resv_core.specs.Run.{Leaves, Reserve, Add, Trim};
 
-use crate::table_rows::rows_of;
 use crate::tops::{Tops, USAGES, compact, put_each};
 use point_core::{
     CONTEXTS, Entry, LatestPoints, Point, Reach, Refusal, TopRow, Usage, covers, is_signalled,
@@ -179,7 +178,7 @@ impl Resv {
         ensures rows { IfOk result (λ rows. rows.items ≡ rows_of self.now.entries reach.now) }
         ensures memory { IfErr result (λ e. e ≡ Refusal.Memory) }
     {
-        rows_of(self.alloc, self.entries.as_slice(), reach)
+        Tops::of(self.entries.as_slice(), reach).rows(self.alloc, reach)
     }
 
     /// Whether every entry of the usage or a stronger one is signalled, as Linux's `dma_resv_test_signaled`. Does not

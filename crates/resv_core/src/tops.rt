@@ -143,7 +143,7 @@ pub(crate) fn put_each(latest: &mut LatestPoints, usage: Usage, entries: &[Entry
 }
 
 /// Puts an entry into the table of a usage, if it is of that usage or a stronger one.
-pub(crate) fn put_at(latest: &mut LatestPoints, usage: Usage, entry: &Entry)
+fn put_at(latest: &mut LatestPoints, usage: Usage, entry: &Entry)
     ensures latest { (reach : List ℕ) (es : List Entry) →
         IsLatest latest.old reach es (usage_number usage) →
         IsLatest latest.new reach (es ++ entry.now ∷ []) (usage_number usage) }
@@ -209,7 +209,7 @@ fn keep_above(entries: &mut Vec<Entry>, stronger: u64, ctx: Context, value: u64,
 }
 
 /// Appends a row for each point of the table of latest points that is above the reach, by rising context.
-pub(crate) fn push_rows(rows: &mut Vec<TopRow>, usage: Usage, latest: &LatestPoints, reach: &Reach)
+fn push_rows(rows: &mut Vec<TopRow>, usage: Usage, latest: &LatestPoints, reach: &Reach)
     requires places { vec_len rows.old + used_of latest.now ≤ vec_capacity rows.old }
     ensures rows { rows.new.items ≡ rows.old.items ++ map (row_of usage) (points_above latest.now reach.now) }
     ensures few { vec_len rows.new ≤ vec_len rows.old + used_of latest.now }
