@@ -49,18 +49,10 @@ impl Tops {
         ensures contexts { HasContexts entries.now }
     {
         let mut tops = Tops::above(reach);
-        tops.put_entries(entries);
-        tops
-    }
-
-    /// Puts the entries into tables that have none yet.
-    fn put_entries(&mut self, entries: &[Entry])
-        ensures tops { (reach : List ℕ) → AreTops self.old reach [] → AreTops self.new reach entries.now }
-        ensures contexts { HasContexts entries.now }
-    {
         for entry in entries {
-            self.put(entry);
+            tops.put(entry);
         }
+        tops
     }
 
     /// The number of contexts up to the last that has a point or a value: the weakest usage has all of them.
@@ -163,15 +155,7 @@ pub(crate) fn compact(entries: &mut Vec<Entry>, reach: &Reach)
     ensures few { vec_len entries.new ≤ USAGES * CONTEXTS }
     ensures places { vec_capacity entries.new ≡ vec_capacity entries.old }
 {
-    // Made here, since a call that returned the tables would copy all of them.
-    let none = LatestPoints::above(reach);
-    let mut tops = Tops {
-        kernel: none,
-        write: none,
-        read: none,
-        bookkeep: none,
-    };
-    tops.put_entries(entries.as_slice());
+    let tops = Tops::of(entries.as_slice(), reach);
     entries.clear();
     for index in 0..tops.used() {
         keep(entries, Context::at(index), &tops, reach);

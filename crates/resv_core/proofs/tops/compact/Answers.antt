@@ -4,7 +4,7 @@ use Rattle.resv_core.proofs.tops.compact.Goals as goal
 
 pub loop-index-init : goal.loop-index-init
 loop-index-init c = record {
-  kept = rw c.clear.ensures.items (IsCompacted-none c.put_entries.new.self c.args.reach.now);
+  kept = rw c.clear.ensures.items (IsCompacted-none c.of-tops.result c.args.reach.now);
   few = omega arith;
   places = omega arith;
 }
@@ -12,14 +12,13 @@ loop-index-init c = record {
 pub loop-index-preserved : goal.loop-index-preserved
 loop-index-preserved c = record {
   kept =
-      let tell = c.put_entries.ensures.tops c.args.reach.now (record { kernel = c.above-none.ensures.empty 0; write = c.above-none.ensures.empty 1; read = c.above-none.ensures.empty 2; bookkeep = c.above-none.ensures.empty 3 }) in
-      rw c.keep.ensures.items (IsCompacted-more c.loop-index.invariant.kept c.at.result c.at.ensures (AreTops-IsRising tell c.at.result (omega arith) (omega (arith, c.loop-index-test.true, c.used-index-end.ensures.within))));
+      rw c.keep.ensures.items (IsCompacted-more c.loop-index.invariant.kept c.at.result c.at.ensures (AreTops-IsRising c.of-tops.ensures.tops c.at.result (omega arith) (omega (arith, c.loop-index-test.true, c.used-index-end.ensures.within))));
   few = omega arith;
   places = omega arith;
 }
 
 pub returns-clause-agrees : goal.returns-clause-agrees
 returns-clause-agrees c =
-    let tell = rw c.as_slice.ensures.value at (c.put_entries.ensures.tops c.args.reach.now (record { kernel = c.above-none.ensures.empty 0; write = c.above-none.ensures.empty 1; read = c.above-none.ensures.empty 2; bookkeep = c.above-none.ensures.empty 3 })) in
-    let within = rw c.as_slice.ensures.value at c.put_entries.ensures.contexts in
+    let tell = rw c.as_slice.ensures.value at c.of-tops.ensures.tops in
+    let within = rw c.as_slice.ensures.value at c.of-tops.ensures.contexts in
     AgreesAbove-IsCompacted tell within (omega arith) (λ ctx past few. c.used-index-end.ensures.past ctx (omega arith)) c.loop-index.invariant.kept
