@@ -55,15 +55,6 @@ impl Tops {
         tops
     }
 
-    /// The number of contexts up to the last that has a point or a value: the weakest usage has all of them.
-    fn used(&self) -> usize
-        ensures last { result ≡ used_of self.now.bookkeep }
-        ensures within { result ≤ CONTEXTS }
-        ensures past { (ctx : ℕ) → result < ctx → value_at self.now.bookkeep ctx ≡ 0 }
-    {
-        self.bookkeep.used()
-    }
-
     /// Whether both have equal tables.
     pub fn is_same(&self, other: &Tops) -> bool
         ensures same { IsTrue result ↔ AreSame self.now other.now }
@@ -106,20 +97,14 @@ impl Tops {
             IfOk result (λ rows. rows.items ≡ rows_of es reach.now) }
         ensures memory { IfErr result (λ e. e ≡ Refusal.Memory) }
     {
-        let mut rows = Vec::with_capacity(alloc, self.row_room())?;
+        // One row for each context in use, at each usage. Room for all contexts would take 16 KiB.
+        let room = self.kernel.used() + self.write.used() + self.read.used() + self.bookkeep.used();
+        let mut rows = Vec::with_capacity(alloc, room)?;
         push_rows(&mut rows, Usage::Kernel, &self.kernel, reach);
         push_rows(&mut rows, Usage::Write, &self.write, reach);
         push_rows(&mut rows, Usage::Read, &self.read, reach);
         push_rows(&mut rows, Usage::Bookkeep, &self.bookkeep, reach);
         Ok(rows)
-    }
-
-    /// The most rows that there can be: one for each context in use, at each usage. Room for all contexts would take 16 KiB.
-    fn row_room(&self) -> usize
-        ensures { result ≡
-            used_of self.now.kernel + used_of self.now.write + used_of self.now.read + used_of self.now.bookkeep }
-    {
-        self.kernel.used() + self.write.used() + self.read.used() + self.used()
     }
 }
 
@@ -157,7 +142,8 @@ pub(crate) fn compact(entries: &mut Vec<Entry>, reach: &Reach)
 {
     let tops = Tops::of(entries.as_slice(), reach);
     entries.clear();
-    for index in 0..tops.used() {
+    // The weakest usage's table has every context of an entry.
+    for index in 0..tops.bookkeep.used() {
         keep(entries, Context::at(index), &tops, reach);
     }
 }
