@@ -120,10 +120,8 @@ impl Resv {
         ensures places { length self.new.entries + self.new.room ≡ length self.old.entries + self.old.room }
     {
         let entry = Entry { point, usage };
-        match self
-            .entries
-            .iter()
-            .position(|old| gives_way(&entry, old, reach))
+        match self.entries.iter().position(|old| is_signalled(old.point, reach)
+            || covers(entry, *old))
         {
             Some(index) => self.entries[index] = entry,
             None => self.entries.push_reserved(entry),
@@ -199,11 +197,4 @@ impl Resv {
     {
         Tops::of(self.entries.as_slice(), reach).is_same(&Tops::of(entries, reach))
     }
-}
-
-/// Whether the old entry may be replaced by the new one: it is signalled, or the new one covers it.
-fn gives_way(new: &Entry, old: &Entry, reach: &Reach) -> bool
-    ensures { result ≡ gives_way reach.now new.now old.now }
-{
-    is_signalled(old.point, reach) || covers(*new, *old)
 }
