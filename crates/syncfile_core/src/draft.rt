@@ -62,25 +62,10 @@ impl Draft {
         ensures rising { OnOk result (HasRisingContexts self.new.points.items) }
         ensures memory { IfErr result (λ e. e ≡ Memory) }
     {
-        list_latest(&mut self.points, latest, reach)?;
-        self.floor.copy_from(reach)
-    }
-}
-
-/// Lists the latest points that are above the reach into a reused list; none if there is no table.
-fn list_latest(
-    points: &mut Vec<Point>,
-    latest: Option<&LatestPoints>,
-    reach: &Reach,
-) -> Result<(), Refusal>
-    ensures points { OnOk result (points.new.items ≡ pending_of (option_copied latest.entry) reach.now) }
-    ensures memory { IfErr result (λ e. e ≡ Memory) }
-{
-    match latest {
-        Some(latest) => latest.list(reach, points),
-        None => {
-            points.clear();
-            Ok(())
+        match latest {
+            Some(latest) => latest.list(reach, &mut self.points)?,
+            None => self.points.clear(),
         }
+        self.floor.copy_from(reach)
     }
 }
