@@ -1,5 +1,5 @@
 //! Merges: two files in one pass over their points, or any number by a table of latest points.
-ghost use Rattle.std.specs.Prelude.{◌≡◌, ℕ, List, [], ◌∷◌, ◌++◌, length, OnOk, IfErr};
+ghost use Rattle.std.specs.Prelude.{◌≡◌, ℕ, List, [], ◌∷◌, ◌++◌, OnOk, IfErr};
 ghost use Rattle.point_core.specs.declared.entry.Entry.{Entry};
 ghost use Rattle.point_core.specs.declared.refusal.Refusal.TheVariants.{Memory};
 ghost use Rattle.point_core.specs.Agreement.{HasRisingContexts};
@@ -11,7 +11,7 @@ ghost use Rattle.syncfile_core.specs.Merge.{IsGathered, IsGatheredAbove, StandsF
 
 use crate::draft::Draft;
 use crate::sync_file::SyncFile;
-use point_core::{Floor, LatestPoints, Reach, Refusal};
+use point_core::{LatestPoints, Reach, Refusal};
 
 impl Draft {
     /// Draws the merge of two files whose floors the reach has, in one pass over their points.
@@ -30,29 +30,14 @@ impl Draft {
         ensures floor { OnOk result (floor_of reach.now (left.now ∷ right.now ∷ []) ≡ reach.now) }
         ensures memory { IfErr result (λ e. e ≡ Memory) }
     {
+        // For the proof: floors and reach have a value of each context, so the greatest ones are the reach.
+        let _left = left.floor.used();
+        let _right = right.floor.used();
+        let _reach = reach.used();
         let (ps, qs) = (left.points.as_slice(), right.points.as_slice());
         point_core::merge_into(&mut self.points, ps, qs, reach)?;
-        draw_floor(&mut self.floor, left, right, reach)
+        self.floor.copy_from(reach)
     }
-}
-
-/// The maximum, for each context, of the reach and both files' floors, which is the reach.
-fn draw_floor(
-    floor: &mut Floor,
-    left: &SyncFile,
-    right: &SyncFile,
-    reach: &Reach,
-) -> Result<(), Refusal>
-    requires floors { IsAtLeast reach.now left.now.floor × IsAtLeast reach.now right.now.floor }
-    ensures floor { OnOk result (floor.new ≡ floor_of reach.now (left.now ∷ right.now ∷ [])) }
-    ensures floors { (length left.now.floor ≡ length reach.now) × (length right.now.floor ≡ length reach.now) }
-    ensures memory { IfErr result (λ e. e ≡ Memory) }
-{
-    // for the proof: floors and reach have a value of each context
-    let _left = left.floor.used();
-    let _right = right.floor.used();
-    let _reach = reach.used();
-    floor.copy_from(reach)
 }
 
 /// For each context, the latest point of a reach and the inputs so far, and the maximum of their floors.
