@@ -1,6 +1,6 @@
 //! Merges, polls and waits while timelines run: each loads the clocks by a seat, and refuses a file that other words
 //! must have made.
-ghost use Rattle.std.specs.Prelude.{◌≡◌, ◌≢◌, ℕ, ◌+◌, ◌<◌, ◌≤◌, ◌↔◌, ◌⊎◌, ◌&&◌, true, nat_le, List, [], ◌∷◌, ◌++◌, All, IsTrue, IfOk, IfErr, MatchOption, OnOk};
+ghost use Rattle.std.specs.Prelude.{◌≡◌, ◌≢◌, ℕ, ◌+◌, ◌<◌, ◌≤◌, ◌↔◌, ◌⊎◌, true, List, [], ◌∷◌, ◌++◌, All, IsTrue, IfOk, IfErr, MatchOption, OnOk};
 ghost use Rattle.point_core.specs.declared.entry.Entry.{Entry};
 ghost use Rattle.point_core.specs.declared.refusal.Refusal.TheVariants as refusal;
 ghost use Rattle.point_core.specs.declared.status.Status.TheVariants.{Active};
@@ -143,18 +143,8 @@ impl<'a> Found<'a> {
         ensures more { (clocks : List Clock) (n : ℕ) → ctx ≡ n + 1 → clock_at clocks ctx ≡ clock →
             HasFoundTo clocks file.now n self.old → HasFoundTo clocks file.now (n + 1) self.new }
     {
-        self.compare(file.floor.get(ctx), clock.reached());
+        self.borne_out &= file.floor.get(ctx) <= clock.reached();
         self.pass(ctx, clock);
-    }
-
-    /// Compares a value of the floor with the loaded one.
-    fn compare(&mut self, least: u64, reached: u64)
-        ensures compared { self.new.borne_out ≡ self.old.borne_out && nat_le least reached }
-        ensures others { (self.new.status ≡ self.old.status) × (self.new.rest.now ≡ self.old.rest.now) }
-    {
-        if least > reached {
-            self.borne_out = false;
-        }
     }
 
     /// Adds the status of the context's point, if there is one, and drops the point from the rest.
