@@ -91,7 +91,7 @@ impl Files {
             (λ f. result ≡ Ok (common_status clocks.now f.points)) }
         ensures stands { IfSome (file_at self.now name.now) (λ f. ReportsSetsOf f clocks.now) }
     {
-        let file = self.known(name)?;
+        let file = self.made.known(name)?;
         Ok(clocks.common_status(file.points.as_slice()))
     }
 
@@ -106,7 +106,7 @@ impl Files {
             (result ≡ Err NoEntry)
             (λ f. MatchResult result (λ info. info ≡ info_of f clocks.now) (λ e. e ≡ Memory)) }
     {
-        let file = self.known(name)?;
+        let file = self.made.known(name)?;
         let points = file.points.as_slice();
         let fences = status::fences_of(self.alloc, points, clocks)?;
         Ok(FileInfo {
@@ -192,7 +192,7 @@ impl Files {
     {
         let mut gathered = Gathered::above(reach);
         for input in inputs {
-            gathered.add(self.known(input)?);
+            gathered.add(self.made.known(input)?);
         }
         let drawn = gathered.draw(&mut self.draft, reach);
         self.made.make(self.alloc, name, &mut self.draft, drawn)
@@ -240,13 +240,5 @@ impl Files {
         ensures without { self.new ≡ without_file self.old name.now }
     {
         self.made.remove(name)
-    }
-
-    fn known(&self, name: &Name) -> Result<&SyncFile, Refusal>
-        ensures found { IfOk result (λ file. file_at self.now name.now ≡ Some file.now) }
-        ensures unknown { IfErr result (λ e. e ≡ NoEntry) }
-        ensures absent { OnErr result (file_at self.now name.now ≡ None) }
-    {
-        self.made.known(name)
     }
 }
