@@ -1,5 +1,5 @@
 //! `Buffers`: the buffers by name, each with its reservation. Each call changes only the buffer that it names.
-ghost use Rattle.std.specs.Prelude.{◌≡◌, ◌<◌, ℕ, false, ◌↔◌, ◌++◌, [], ◌∷◌, List, length, map, position, slice_get, IfErr, IfNone, IfOk, IfSome, IsOk, IsOkAnd, IsTrue, MatchBool, MatchOption, MatchResult, Ok, Err, OnErr, OnOk, None, Some};
+ghost use Rattle.std.specs.Prelude.{◌≡◌, ◌<◌, ℕ, false, ◌↔◌, ◌++◌, [], ◌∷◌, List, length, position, slice_get, IfErr, IfNone, IfOk, IfSome, IsOk, IsOkAnd, IsTrue, MatchBool, MatchOption, MatchResult, Ok, Err, OnErr, OnOk, None, Some};
 ghost use Rattle.std.specs.Map.{values_of};
 ghost use Rattle.point_core.specs.declared.refusal.Refusal.TheVariants.{Memory, NoEntry};
 ghost use Rattle.point_core.specs.Agreement.{AgreesAbove, as_entries, HasRisingContexts, IsReached, listing};
@@ -7,8 +7,8 @@ ghost use Rattle.point_core.specs.Latest.{points_above};
 ghost use Rattle.point_core.specs.Usage.{usage_number};
 ghost use Rattle.point_core.specs.Named.{same_name};
 ghost use Rattle.point_core.specs.Refusal.{IsRefusedFor};
-ghost use Rattle.resv_core.specs.Resv.{IsTable, IsTrimmed, empty, entry_of, rows_of};
-ghost use Rattle.dmabuf_core.specs.Flags.{export_usage, imported, with_usage};
+ghost use Rattle.resv_core.specs.Resv.{IsTrimmed, empty, entry_of, rows_of};
+ghost use Rattle.dmabuf_core.specs.Flags.{export_usage, imported};
 ghost use Rattle.dmabuf_core.specs.Buffers.{AreBuffers, OnlyChanges, cause_by_flags, cause_to_refuse, cause_without, entries_of, has_buffer, names_of, table_at};
 
 use crate::flags::SyncFlags;
@@ -140,12 +140,7 @@ impl Buffers {
             return Err(Refusal::NoEntry);
         };
         let usage = SyncFlags::of(flags)?.import_usage();
-        put_all(
-            &mut self.by_name[index],
-            file.points.as_slice(),
-            usage,
-            reach,
-        )
+        self.by_name[index].put_all(file.points.as_slice(), usage)
     }
 
     /// The fences that an access with these flags has to wait for, as a listing for a sync file, as Linux's
@@ -276,23 +271,4 @@ fn index_by_search(by_name: &IndexMap<Name, TopTable>, name: &Name) -> Option<us
     ensures index { result ≡ position (same_name name.now) (names_of by_name.now.entries) }
 {
     by_name.get_index_of(name)
-}
-
-/// Puts the points of a file into a table, with that usage.
-///
-/// Fails only with `Memory`, and leaves the table as it was.
-fn put_all(
-    table: &mut TopTable,
-    points: &[Point],
-    usage: Usage,
-    reach: &Reach,
-) -> Result<(), Refusal>
-    ensures table { IsTable table.new }
-    ensures agrees { OnOk result (AgreesAbove reach.now table.new.entries
-        (table.old.entries ++ map (with_usage usage) (as_entries points.now))) }
-    ensures nothing { points.now ≡ [] → table.new ≡ table.old }
-    ensures unchanged { OnErr result (table.new ≡ table.old) }
-    ensures memory { IfErr result (λ e. e ≡ Memory) }
-{
-    table.put_all(points, usage)
 }
