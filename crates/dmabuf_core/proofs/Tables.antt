@@ -1,6 +1,7 @@
 -- Buffers in a map by name, after a write to one of them.
-use Rattle.std.proofs.Common.{◌≡◌, ◌≢◌, ℕ, ◌<◌, ◌≤◌, Bool, true, false, cond, if◌then◌else◌, nat_eq, refl, sym, ap, ◌∙◌, subst, List, [], ◌∷◌, ◌++◌, length, slice_get, position, All, Option, None, Some, option_map, unwrap_or, is_some, Result, Ok, Err, OnErr, MatchBool, arith, inl, inr, length-append}
-use Rattle.std.specs.Prelude.{IfNone, IfSome}
+use Rattle.std.proofs.Common.{◌≡◌, ℕ, ◌<◌, ◌≤◌, Bool, true, false, cond, if◌then◌else◌, nat_eq, refl, sym, ap, ◌∙◌, subst, List, [], ◌∷◌, ◌++◌, length, slice_get, position, All, Option, None, Some, option_map, unwrap_or, is_some, Result, Ok, Err, OnErr, MatchBool, arith, inl, inr, length-append}
+use Rattle.std.specs.Prelude.{IfOk}
+use Rattle.std.specs.Option.{ok_or}
 use Rattle.std.specs.List.{IsDistinct}
 use Rattle.std.specs.Map.{values_of, lookup, set_value}
 use Rattle.std.proofs.lemmas.Bool.{cases_Bool, false≢true}
@@ -16,6 +17,7 @@ use lib.Pointwise.{pointwise}
 use Rattle.point_core.specs.declared.entry.Entry.{Entry}
 use Rattle.point_core.specs.Agreement.{AgreesAbove}
 use Rattle.point_core.specs.Named.{same_name}
+use Rattle.point_core.specs.declared.refusal.Refusal.{Refusal}
 use Rattle.resv_core.specs.Resv.{Reservation, IsTable, empty}
 use Rattle.point_core.specs.declared.context.TheConstants.{CONTEXTS}
 use Rattle.point_core.specs.declared.limits.TheConstants.{BUFFERS}
@@ -104,19 +106,24 @@ insert_entry-present name w (b ∷ bs) has = elim (cases_Bool (same_name name b.
 ]
 
 -- what the index of a name says
-module _ (bs : List Buffer) (name : List ℕ) where
-  pub index-within : (index : Option ℕ) → index ≡ position (same_name name) (names_of bs) → IfSome index (λ i. i < length bs)
+module _ (bs : List Buffer) (name : List ℕ) (e : Refusal) where
+  pub index-found : (index : Option ℕ) → index ≡ position (same_name name) (names_of bs) → IfOk (ok_or index e) (λ i. Some i ≡ position (same_name name) (names_of bs))
+  index-found None is = tt
+  index-found (Some i) is = is
+
+  pub index-within : (index : Option ℕ) → index ≡ position (same_name name) (names_of bs) → IfOk (ok_or index e) (λ i. i < length bs)
   index-within None is = tt
   index-within (Some i) is = (Found-position (same_name name) bs i (sym is)).within
 
-  pub index-table : (index : Option ℕ) → index ≡ position (same_name name) (names_of bs) → IfSome index (λ i. slice_get (values_of bs) i ≡ table_at bs name)
+  pub index-table : (index : Option ℕ) → index ≡ position (same_name name) (names_of bs) → IfOk (ok_or index e) (λ i. slice_get (values_of bs) i ≡ table_at bs name)
   index-table None is = tt
   index-table (Some i) is = sym (Found-position (same_name name) bs i (sym is)).value
 
-  pub index-missing : (index : Option ℕ) → index ≡ position (same_name name) (names_of bs) → IfNone index (table_at bs name ≡ None)
-  index-missing None is = (Missing-position (same_name name) bs (sym is)).value
-  index-missing (Some i) is = tt
+  pub index-absent : (index : Option ℕ) → index ≡ position (same_name name) (names_of bs) → OnErr (ok_or index e) (table_at bs name ≡ None)
+  index-absent None is = (Missing-position (same_name name) bs (sym is)).value
+  index-absent (Some i) is = tt
 
+module _ (bs : List Buffer) (name : List ℕ) where
   -- the table at the index of the name is written
   module _ (i : ℕ) (is : Some i ≡ position (same_name name) (names_of bs)) where
     pub set_value-index : (w : Reservation) → set_value_at bs i w ≡ set_value (same_name name) bs w

@@ -109,9 +109,7 @@ impl Buffers {
         ensures unchanged { OnErr result (self.new ≡ self.old) }
         ensures kept { AreBuffers self.new }
     {
-        let Some(index) = index_of(&self.by_name, &self.hints, name) else {
-            return Err(Refusal::NoEntry);
-        };
+        let index = index_of(&self.by_name, &self.hints, name)?;
         self.by_name[index].put(point, usage)
     }
 
@@ -136,9 +134,7 @@ impl Buffers {
         ensures unchanged { OnErr result (self.new ≡ self.old) }
         ensures kept { AreBuffers self.new }
     {
-        let Some(index) = index_of(&self.by_name, &self.hints, name) else {
-            return Err(Refusal::NoEntry);
-        };
+        let index = index_of(&self.by_name, &self.hints, name)?;
         let usage = SyncFlags::of(flags)?.import_usage();
         self.by_name[index].put_all(file.points.as_slice(), usage)
     }
@@ -207,9 +203,7 @@ impl Buffers {
         ensures unchanged { OnErr result (self.new ≡ self.old) }
         ensures kept { AreBuffers self.new }
     {
-        let Some(index) = index_of(&self.by_name, &self.hints, name) else {
-            return Err(Refusal::NoEntry);
-        };
+        let index = index_of(&self.by_name, &self.hints, name)?;
         self.by_name[index].trim(reach);
         Ok(())
     }
@@ -238,9 +232,7 @@ impl Buffers {
         ensures unknown { IfErr result (λ e. e ≡ NoEntry) }
         ensures absent { OnErr result (has_buffer self.now name.now ≡ false) }
     {
-        let Some(index) = index_of(&self.by_name, &self.hints, name) else {
-            return Err(Refusal::NoEntry);
-        };
+        let index = index_of(&self.by_name, &self.hints, name)?;
         Ok(&self.by_name[index])
     }
 
@@ -249,18 +241,19 @@ impl Buffers {
     }
 }
 
-/// The index of the buffer with that name, by its hint if that is right.
+/// The index of the buffer with that name, by its hint if that is right. Fails with `NoEntry`.
 #[inline(always)]
-fn index_of(by_name: &IndexMap<Name, TopTable>, hints: &Hints, name: &Name) -> Option<usize>
-    ensures index { result ≡ position (same_name name.now) (names_of by_name.now.entries) }
-    ensures within { IfSome result (λ index. index < length by_name.now.entries) }
-    ensures table { IfSome result (λ index.
-        slice_get (values_of by_name.now.entries) index ≡ table_at by_name.now.entries name.now) }
-    ensures missing { IfNone result (table_at by_name.now.entries name.now ≡ None) }
+fn index_of(map: &IndexMap<Name, TopTable>, hints: &Hints, name: &Name) -> Result<usize, Refusal>
+    ensures index { IfOk result (λ index. Some index ≡ position (same_name name.now) (names_of map.now.entries)) }
+    ensures within { IfOk result (λ index. index < length map.now.entries) }
+    ensures table { IfOk result (λ index.
+        slice_get (values_of map.now.entries) index ≡ table_at map.now.entries name.now) }
+    ensures unknown { IfErr result (λ e. e ≡ NoEntry) }
+    ensures absent { OnErr result (table_at map.now.entries name.now ≡ None) }
 {
-    match hints.find(name, by_name.keys().as_slice()) {
-        Some(index) => Some(index),
-        None => index_by_search(by_name, name),
+    match hints.find(name, map.keys().as_slice()) {
+        Some(index) => Ok(index),
+        None => index_by_search(map, name).ok_or(Refusal::NoEntry),
     }
 }
 

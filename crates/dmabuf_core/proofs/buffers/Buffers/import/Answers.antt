@@ -12,19 +12,19 @@ use Rattle.dmabuf_core.proofs.Tables.{AreBuffers-written, OnlyChanges-written, u
 use Rattle.dmabuf_core.proofs.buffers.Buffers.import.Goals as goal
 
 table : (c : goal.After-self-1) → table_at c.self.inside.by_name.entries c.args.name.now ≡ Some c.index_mut.result.now
-table c = sym c.in-Some.ensures.table ∙ c.index_mut.ensures.value
+table c = sym c.in_ok-index.ensures.table ∙ c.index_mut.ensures.value
 
-kept : (c : goal.After-self-1) → AreBuffers (set_value_at c.self.inside.by_name.entries c.in-Some.index c.put_all.new.self)
-kept c = AreBuffers-written c.self.inside.by_name.entries c.args.name.now c.in-Some.index c.in-Some.ensures.index c.put_all.new.self c.self.invariant c.put_all.ensures.table
+kept : (c : goal.After-self-1) → AreBuffers (set_value_at c.self.inside.by_name.entries c.in_ok-index.index c.put_all.new.self)
+kept c = AreBuffers-written c.self.inside.by_name.entries c.args.name.now c.in_ok-index.index c.in_ok-index.ensures.index c.put_all.new.self c.self.invariant c.put_all.ensures.table
 
-others : (c : goal.After-self-1) → OnlyChanges c.args.name.now c.args.self.now (set_value_at c.self.inside.by_name.entries c.in-Some.index c.put_all.new.self)
+others : (c : goal.After-self-1) → OnlyChanges c.args.name.now c.args.self.now (set_value_at c.self.inside.by_name.entries c.in_ok-index.index c.put_all.new.self)
 others c =
-    subst (λ bs. OnlyChanges c.args.name.now bs (set_value_at c.self.inside.by_name.entries c.in-Some.index c.put_all.new.self)) c.self.view_is
-    (OnlyChanges-written c.self.inside.by_name.entries c.args.name.now c.in-Some.index c.in-Some.ensures.index c.index_mut.result.now c.put_all.new.self (table c))
+    subst (λ bs. OnlyChanges c.args.name.now bs (set_value_at c.self.inside.by_name.entries c.in_ok-index.index c.put_all.new.self)) c.self.view_is
+    (OnlyChanges-written c.self.inside.by_name.entries c.args.name.now c.in_ok-index.index c.in_ok-index.ensures.index c.index_mut.result.now c.put_all.new.self (table c))
 
-same : (c : goal.After-self-1) → c.put_all.new.self ≡ c.index_mut.result.now → set_value_at c.self.inside.by_name.entries c.in-Some.index c.put_all.new.self ≡ c.args.self.now
+same : (c : goal.After-self-1) → c.put_all.new.self ≡ c.index_mut.result.now → set_value_at c.self.inside.by_name.entries c.in_ok-index.index c.put_all.new.self ≡ c.args.self.now
 same c is =
-    unwritten c.self.inside.by_name.entries c.args.name.now c.in-Some.index c.in-Some.ensures.index c.index_mut.result.now c.put_all.new.self (table c) is ∙ c.self.view_is
+    unwritten c.self.inside.by_name.entries c.args.name.now c.in_ok-index.index c.in_ok-index.ensures.index c.index_mut.result.now c.put_all.new.self (table c) is ∙ c.self.view_is
 
 pub invariant_of-self : goal.invariant_of-self
 invariant_of-self c = kept c
@@ -32,14 +32,14 @@ invariant_of-self c = kept c
 pub returns-clause-agrees : goal.returns-clause-agrees
 returns-clause-agrees c =
     let found = ap (λ bs. table_at bs c.args.name.now) (sym c.self.view_is) ∙ table c in
-    let written = set_value-index c.self.inside.by_name.entries c.args.name.now c.in-Some.index c.in-Some.ensures.index c.put_all.new.self ∙ ap (λ bs. set_value (same_name c.args.name.now) bs c.put_all.new.self) c.self.view_is in
+    let written = set_value-index c.self.inside.by_name.entries c.args.name.now c.in_ok-index.index c.in_ok-index.ensures.index c.put_all.new.self ∙ ap (λ bs. set_value (same_name c.args.name.now) bs c.put_all.new.self) c.self.view_is in
     let points : c.as_slice.result.now ≡ c.args.file.now.points = c.as_slice.ensures ∙ ap (λ (f : File). f.points) c.file.view_is in
     let usage : c.import_usage-usage.result ≡ import_usage c.args.flags = c.import_usage-usage.ensures ∙ ap import_usage c.in_ok-of.ensures.number in
     let added : entries_as c.import_usage-usage.result c.as_slice.result.now ≡ imported c.args.flags (as_entries c.args.file.now.points) =
     entries_as-with_usage c.import_usage-usage.result c.as_slice.result.now
     ∙ ap (λ u. map (with_usage u) (as_entries c.as_slice.result.now)) usage ∙ ap (λ ps. map (with_usage (import_usage c.args.flags)) (as_entries ps)) points in
     OnOk-weaker c.put_all.result _ _
-    (λ agrees. AgreesAbove-written (imported c.args.flags (as_entries c.args.file.now.points)) c.args.self.now (set_value_at c.self.inside.by_name.entries c.in-Some.index c.put_all.new.self) c.args.name.now c.index_mut.result.now c.put_all.new.self found written (subst (λ es. AgreesAbove c.args.reach.now c.put_all.new.self.entries (c.index_mut.result.now.entries ++ es)) added (agrees c.args.reach.now)))
+    (λ agrees. AgreesAbove-written (imported c.args.flags (as_entries c.args.file.now.points)) c.args.self.now (set_value_at c.self.inside.by_name.entries c.in_ok-index.index c.put_all.new.self) c.args.name.now c.index_mut.result.now c.put_all.new.self found written (subst (λ es. AgreesAbove c.args.reach.now c.put_all.new.self.entries (c.index_mut.result.now.entries ++ es)) added (agrees c.args.reach.now)))
     c.put_all.ensures.agrees
 
 pub returns-clause-others : goal.returns-clause-others

@@ -7,15 +7,15 @@ use Rattle.dmabuf_core.proofs.Tables.{AreBuffers-written, OnlyChanges-written, e
 use Rattle.dmabuf_core.proofs.buffers.Buffers.trim.Goals as goal
 
 table : (c : goal.After-self-1) → table_at c.self.inside.by_name.entries c.args.name.now ≡ Some c.index_mut.result.now
-table c = sym c.in-Some.ensures.table ∙ c.index_mut.ensures.value
+table c = sym c.in_ok-index.ensures.table ∙ c.index_mut.ensures.value
 
-kept : (c : goal.After-self-1) → AreBuffers (set_value_at c.self.inside.by_name.entries c.in-Some.index c.trim.new.self)
-kept c = AreBuffers-written c.self.inside.by_name.entries c.args.name.now c.in-Some.index c.in-Some.ensures.index c.trim.new.self c.self.invariant c.trim.ensures.table
+kept : (c : goal.After-self-1) → AreBuffers (set_value_at c.self.inside.by_name.entries c.in_ok-index.index c.trim.new.self)
+kept c = AreBuffers-written c.self.inside.by_name.entries c.args.name.now c.in_ok-index.index c.in_ok-index.ensures.index c.trim.new.self c.self.invariant c.trim.ensures.table
 
-others : (c : goal.After-self-1) → OnlyChanges c.args.name.now c.args.self.now (set_value_at c.self.inside.by_name.entries c.in-Some.index c.trim.new.self)
+others : (c : goal.After-self-1) → OnlyChanges c.args.name.now c.args.self.now (set_value_at c.self.inside.by_name.entries c.in_ok-index.index c.trim.new.self)
 others c =
-    subst (λ bs. OnlyChanges c.args.name.now bs (set_value_at c.self.inside.by_name.entries c.in-Some.index c.trim.new.self)) c.self.view_is
-    (OnlyChanges-written c.self.inside.by_name.entries c.args.name.now c.in-Some.index c.in-Some.ensures.index c.index_mut.result.now c.trim.new.self (table c))
+    subst (λ bs. OnlyChanges c.args.name.now bs (set_value_at c.self.inside.by_name.entries c.in_ok-index.index c.trim.new.self)) c.self.view_is
+    (OnlyChanges-written c.self.inside.by_name.entries c.args.name.now c.in_ok-index.index c.in_ok-index.ensures.index c.index_mut.result.now c.trim.new.self (table c))
 
 pub invariant_of-self : goal.invariant_of-self
 invariant_of-self c = kept c
@@ -25,12 +25,12 @@ before c =
     ap (λ bs. entries_of bs c.args.name.now) (sym c.self.view_is)
     ∙ entries_of-found c.self.inside.by_name.entries c.args.name.now c.index_mut.result.now (table c)
 
-after : (c : goal.After-self-1) → entries_of (set_value_at c.self.inside.by_name.entries c.in-Some.index c.trim.new.self) c.args.name.now ≡ c.trim.new.self.entries
-after c = entries_of-written c.self.inside.by_name.entries c.args.name.now c.in-Some.index c.in-Some.ensures.index c.index_mut.result.now c.trim.new.self (table c)
+after : (c : goal.After-self-1) → entries_of (set_value_at c.self.inside.by_name.entries c.in_ok-index.index c.trim.new.self) c.args.name.now ≡ c.trim.new.self.entries
+after c = entries_of-written c.self.inside.by_name.entries c.args.name.now c.in_ok-index.index c.in_ok-index.ensures.index c.index_mut.result.now c.trim.new.self (table c)
 
 pub returns-clause-agrees : goal.returns-clause-agrees
 returns-clause-agrees c =
-    subst (λ es. AgreesAbove c.args.reach.now es (entries_of (set_value_at c.self.inside.by_name.entries c.in-Some.index c.trim.new.self) c.args.name.now)) (sym (before c))
+    subst (λ es. AgreesAbove c.args.reach.now es (entries_of (set_value_at c.self.inside.by_name.entries c.in_ok-index.index c.trim.new.self) c.args.name.now)) (sym (before c))
     (subst (AgreesAbove c.args.reach.now c.index_mut.result.now.entries) (sym (after c)) c.trim.ensures.agrees)
 
 pub returns-clause-trimmed : goal.returns-clause-trimmed
