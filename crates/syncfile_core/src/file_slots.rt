@@ -125,19 +125,13 @@ impl FileSlots {
     pub(crate) fn free(&self, name: &Name) -> Result<(), Refusal>
         ensures free { MatchOption (cause_to_refuse self.now name.now) (IsOk result) (λ cause. result ≡ Err cause) }
     {
-        if self.has(name) {
+        if self.get(name).is_some() {
             return Err(Refusal::Exists);
         }
         if self.count() >= FILES {
             return Err(Refusal::Limit(LimitKind::Files));
         }
         Ok(())
-    }
-
-    fn has(&self, name: &Name) -> bool
-        ensures { result ≡ has_file self.now name.now }
-    {
-        self.get(name).is_some()
     }
 
     /// Makes a file of a draft, as the last one, if drawing the draft succeeded. The name is looked up once.
