@@ -5,16 +5,14 @@ ghost use Rattle.std.specs.List.{flat_map};
 ghost use Rattle.point_core.specs.declared.refusal.Refusal.TheVariants.{Write as WriteFault, Memory};
 ghost use Rattle.command_core.specs.Tables.{row_count};
 ghost use Rattle.report_core.specs.declared.writing.TheConstants.{WRITE_BYTES};
-ghost use Rattle.report_core.specs.Row.{file_row_text};
-ghost use Rattle.report_core.specs.Tables.{timeline_text, buffer_text};
+ghost use Rattle.report_core.specs.Tables.{timeline_text};
 ghost use Rattle.report_core.specs.Bytes.{AppendsFront, PassesOn};
 ghost use Rattle.report_core.specs.Answer.{value_line, report_text, text_of};
 
 use crate::answer::{push_owned, push_timelines};
-use crate::report::buffer_text;
-use crate::rows::file_row;
+use crate::table_item::TableItem;
 use crate::writing::write_many;
-use command_core::{Answer, BufferRows, FileRow, Report};
+use command_core::{Answer, Report};
 use point_core::Refusal;
 use std::io::Write;
 
@@ -72,8 +70,8 @@ fn pass_report<W: Write>(report: &Report, out: &mut Vec<u8>, writer: &mut W) -> 
     ensures refusals { IfErr result (λ refusal. (refusal ≡ WriteFault) ⊎ (refusal ≡ Memory)) }
 {
     pass_timelines(report, out, writer)?;
-    pass_files(report.files.as_slice(), out, writer)?;
-    pass_buffers(report.buffers.as_slice(), out, writer)?;
+    pass_each(report.files.as_slice(), out, writer)?;
+    pass_each(report.buffers.as_slice(), out, writer)?;
     Ok(())
 }
 
@@ -96,64 +94,38 @@ fn pass_timelines<W: Write>(
     Ok(())
 }
 
-fn pass_files<W: Write>(files: &[FileRow], out: &mut Vec<u8>, writer: &mut W) -> Result<(), Refusal>
-    ensures ok { OnOk result (PassesOn out.old.items out.new.items (flat_map file_row_text files.now)
+/// Passes the items on, one after another.
+fn pass_each<T: TableItem, W: Write>(
+    items: &[T],
+    out: &mut Vec<u8>,
+    writer: &mut W,
+) -> Result<(), Refusal>
+    ensures ok { OnOk result (PassesOn out.old.items out.new.items (flat_map T.text items.now)
         (W.contents writer.old) (W.contents writer.new)) }
     ensures few { OnOk result (length out.old.items < WRITE_BYTES → length out.new.items < WRITE_BYTES) }
     ensures err { OnErr result (AppendsFront (W.contents writer.old) (W.contents writer.new)
-        (out.old.items ++ flat_map file_row_text files.now)) }
+        (out.old.items ++ flat_map T.text items.now)) }
     ensures refusals { IfErr result (λ refusal. (refusal ≡ WriteFault) ⊎ (refusal ≡ Memory)) }
 {
-    for file in files {
-        pass_file(file, out, writer)?;
+    for item in items {
+        pass_item(item, out, writer)?;
     }
     Ok(())
 }
 
-fn pass_file<W: Write>(file: &FileRow, out: &mut Vec<u8>, writer: &mut W) -> Result<(), Refusal>
-    ensures ok { OnOk result (PassesOn out.old.items out.new.items (file_row_text file.now)
-        (W.contents writer.old) (W.contents writer.new)) }
-    ensures few { OnOk result (length out.new.items < WRITE_BYTES) }
-    ensures err { OnErr result (AppendsFront (W.contents writer.old) (W.contents writer.new)
-        (out.old.items ++ file_row_text file.now)) }
-    ensures refusals { IfErr result (λ refusal. (refusal ≡ WriteFault) ⊎ (refusal ≡ Memory)) }
-{
-    file_row(file, out)?;
-    write_many(writer, out)?;
-    Ok(())
-}
-
-fn pass_buffers<W: Write>(
-    buffers: &[BufferRows],
+fn pass_item<T: TableItem, W: Write>(
+    item: &T,
     out: &mut Vec<u8>,
     writer: &mut W,
 ) -> Result<(), Refusal>
-    ensures ok { OnOk result (PassesOn out.old.items out.new.items (flat_map buffer_text buffers.now)
-        (W.contents writer.old) (W.contents writer.new)) }
-    ensures few { OnOk result (length out.old.items < WRITE_BYTES → length out.new.items < WRITE_BYTES) }
-    ensures err { OnErr result (AppendsFront (W.contents writer.old) (W.contents writer.new)
-        (out.old.items ++ flat_map buffer_text buffers.now)) }
-    ensures refusals { IfErr result (λ refusal. (refusal ≡ WriteFault) ⊎ (refusal ≡ Memory)) }
-{
-    for buffer in buffers {
-        pass_buffer(buffer, out, writer)?;
-    }
-    Ok(())
-}
-
-fn pass_buffer<W: Write>(
-    buffer: &BufferRows,
-    out: &mut Vec<u8>,
-    writer: &mut W,
-) -> Result<(), Refusal>
-    ensures ok { OnOk result (PassesOn out.old.items out.new.items (buffer_text buffer.now)
+    ensures ok { OnOk result (PassesOn out.old.items out.new.items (T.text item.now)
         (W.contents writer.old) (W.contents writer.new)) }
     ensures few { OnOk result (length out.new.items < WRITE_BYTES) }
     ensures err { OnErr result (AppendsFront (W.contents writer.old) (W.contents writer.new)
-        (out.old.items ++ buffer_text buffer.now)) }
+        (out.old.items ++ T.text item.now)) }
     ensures refusals { IfErr result (λ refusal. (refusal ≡ WriteFault) ⊎ (refusal ≡ Memory)) }
 {
-    buffer_text(buffer, out)?;
+    item.push(out)?;
     write_many(writer, out)?;
     Ok(())
 }

@@ -28,9 +28,9 @@ returns-in_err-pass_timelines-clause-err g c =
     ∙ sym (append_assoc out (count ++ timelines) (files ++ buffers)) in
     rw q.1 (Front-more (out ++ (count ++ timelines)) (files ++ buffers) (out ++ report_text report) _ _ all c.in_err-pass_timelines.ensures.err)
 
-pub returns-in_err-pass_files-clause-err : goal.returns-in_err-pass_files-clause-err
-returns-in_err-pass_files-clause-err g c =
-    let q = err_from_is_err_and c.from_residual-in_err-pass_files.result c.from_residual-in_err-pass_files.ensures.1 in
+pub returns-in_err-pass_each-clause-err : goal.returns-in_err-pass_each-clause-err
+returns-in_err-pass_each-clause-err g c =
+    let q = err_from_is_err_and c.from_residual-in_err-pass_each.result c.from_residual-in_err-pass_each.ensures.1 in
     let report = c.args.report.now in
     let first = value_line (row_count report) ++ flat_map timeline_text report.timelines in
     let files = flat_map file_row_text c.as_slice.result.now in
@@ -41,11 +41,11 @@ returns-in_err-pass_files-clause-err g c =
     ∙ ap (λ xs. out ++ ((first ++ flat_map file_row_text xs) ++ buffers)) (sym (c.as_slice.ensures ∙ ap (λ (t : Tables). t.files) c.report.view_is))
     ∙ sym (append_assoc out (first ++ files) buffers) in
     rw q.1 (Front-more (out ++ (first ++ files)) buffers (out ++ report_text report) _ _ all
-    (Front-passed out c.pass_timelines.new.out.items first files _ _ _ c.in_ok-pass_timelines.ensures.ok c.in_err-pass_files.ensures.err))
+    (Front-passed out c.pass_timelines.new.out.items first files _ _ _ c.in_ok-pass_timelines.ensures.ok c.in_err-pass_each.ensures.err))
 
-pub returns-in_err-pass_buffers-clause-err : goal.returns-in_err-pass_buffers-clause-err
-returns-in_err-pass_buffers-clause-err g c =
-    let q = err_from_is_err_and c.from_residual-in_err-pass_buffers.result c.from_residual-in_err-pass_buffers.ensures.1 in
+pub returns-in_err-pass_each-2-clause-err : goal.returns-in_err-pass_each-2-clause-err
+returns-in_err-pass_each-2-clause-err g c =
+    let q = err_from_is_err_and c.from_residual-in_err-pass_each-2.result c.from_residual-in_err-pass_each-2.ensures.1 in
     let report = c.args.report.now in
     let first = value_line (row_count report) ++ flat_map timeline_text report.timelines in
     let files = flat_map file_row_text c.as_slice.result.now in
@@ -55,9 +55,9 @@ returns-in_err-pass_buffers-clause-err g c =
     ap (λ xs. out ++ ((first ++ flat_map file_row_text xs) ++ buffers)) (c.as_slice.ensures ∙ ap (λ (t : Tables). t.files) c.report.view_is)
     ∙ ap (λ xs. out ++ ((first ++ flat_map file_row_text report.files) ++ flat_map buffer_text xs)) (c.as_slice-2.ensures ∙ ap (λ (t : Tables). t.buffers) c.report.view_is)
     ∙ ap (λ text. out ++ text) (parts (value_line (row_count report)) (flat_map timeline_text report.timelines) (flat_map file_row_text report.files) (flat_map buffer_text report.buffers)) in
-    let passed = Passes-trans out c.pass_timelines.new.out.items c.pass_files.new.out.items first files _ _ _ c.in_ok-pass_timelines.ensures.ok c.in_ok-pass_files.ensures.ok in
-    rw q.1 (subst (λ text. AppendsFront (g.W.Write.contents c.args.writer.now) (g.W.Write.contents c.pass_buffers.new.writer) text) all
-    (Front-passed out c.pass_files.new.out.items (first ++ files) buffers _ _ _ passed c.in_err-pass_buffers.ensures.err))
+    let passed = Passes-trans out c.pass_timelines.new.out.items c.pass_each.new.out.items first files _ _ _ c.in_ok-pass_timelines.ensures.ok c.in_ok-pass_each.ensures.ok in
+    rw q.1 (subst (λ text. AppendsFront (g.W.Write.contents c.args.writer.now) (g.W.Write.contents c.pass_each-2.new.writer) text) all
+    (Front-passed out c.pass_each.new.out.items (first ++ files) buffers _ _ _ passed c.in_err-pass_each-2.ensures.err))
 
 pub returns-clause-ok : goal.returns-clause-ok
 returns-clause-ok g c =
@@ -70,9 +70,9 @@ returns-clause-ok g c =
     ap (λ xs. (first ++ flat_map file_row_text xs) ++ buffers) (c.as_slice.ensures ∙ ap (λ (t : Tables). t.files) c.report.view_is)
     ∙ ap (λ xs. (first ++ flat_map file_row_text report.files) ++ flat_map buffer_text xs) (c.as_slice-2.ensures ∙ ap (λ (t : Tables). t.buffers) c.report.view_is)
     ∙ parts (value_line (row_count report)) (flat_map timeline_text report.timelines) (flat_map file_row_text report.files) (flat_map buffer_text report.buffers) in
-    let passed = Passes-trans out c.pass_timelines.new.out.items c.pass_files.new.out.items first files _ _ _ c.in_ok-pass_timelines.ensures.ok c.in_ok-pass_files.ensures.ok in
-    subst (λ text. PassesOn out c.pass_buffers.new.out.items text (g.W.Write.contents c.args.writer.now) (g.W.Write.contents c.pass_buffers.new.writer)) all
-    (Passes-trans out c.pass_files.new.out.items c.pass_buffers.new.out.items (first ++ files) buffers _ _ _ passed c.in_ok-pass_buffers.ensures.ok)
+    let passed = Passes-trans out c.pass_timelines.new.out.items c.pass_each.new.out.items first files _ _ _ c.in_ok-pass_timelines.ensures.ok c.in_ok-pass_each.ensures.ok in
+    subst (λ text. PassesOn out c.pass_each-2.new.out.items text (g.W.Write.contents c.args.writer.now) (g.W.Write.contents c.pass_each-2.new.writer)) all
+    (Passes-trans out c.pass_each.new.out.items c.pass_each-2.new.out.items (first ++ files) buffers _ _ _ passed c.in_ok-pass_each-2.ensures.ok)
 
 pub returns-clause-few : goal.returns-clause-few
-returns-clause-few g c = c.in_ok-pass_buffers.ensures.few (c.in_ok-pass_files.ensures.few c.in_ok-pass_timelines.ensures.few)
+returns-clause-few g c = c.in_ok-pass_each-2.ensures.few (c.in_ok-pass_each.ensures.few c.in_ok-pass_timelines.ensures.few)
