@@ -37,27 +37,12 @@ pub fn pass_answer<W: Write>(
 {
     match answer {
         Answer::Report(report) => pass_report(&report, out, writer),
-        answer => pass_whole(line, answer, out, writer),
+        answer => {
+            push_owned(line, answer, out)?;
+            write_many(writer, out)?;
+            Ok(())
+        }
     }
-}
-
-#[inline(always)]
-fn pass_whole<W: Write>(
-    line: u32,
-    answer: Answer,
-    out: &mut Vec<u8>,
-    writer: &mut W,
-) -> Result<(), Refusal>
-    ensures ok { OnOk result (PassesOn out.old.items out.new.items (text_of line answer)
-        (W.contents writer.old) (W.contents writer.new)) }
-    ensures few { OnOk result (length out.new.items < WRITE_BYTES) }
-    ensures err { OnErr result (AppendsFront (W.contents writer.old) (W.contents writer.new)
-        (out.old.items ++ text_of line answer)) }
-    ensures refusals { IfErr result (λ refusal. (refusal ≡ WriteFault) ⊎ (refusal ≡ Memory)) }
-{
-    push_owned(line, answer, out)?;
-    write_many(writer, out)?;
-    Ok(())
 }
 
 #[inline(never)]
