@@ -1,9 +1,18 @@
 -- Bytes that are appended to the pending ones, and written in part.
 use Rattle.std.proofs.Common.{◌≡◌, ℕ, ◌+◌, ◌<◌, List, [], ◌∷◌, ◌++◌, length, take, drop, get_or, Option, sym, ap, ◌∙◌, append_assoc, take-append-drop, refl}
 use Rattle.std.specs.List.{flat_map}
+use Rattle.std.specs.Io.KnownBytes.{Appends}
 use Rattle.std.proofs.KnownBytes.{Appends-nil, Appends-trans}
 use Rattle.std.proofs.lemmas.List.{flat_map_more, take_more}
 use Rattle.report_core.specs.Bytes.{AppendsFront, PassesOn}
+
+-- bytes that were appended, and then written in part
+pub Passes-pushed : (waiting pushed left bytes : List ℕ) (old new : Option (List ℕ)) → pushed ≡ waiting ++ bytes → ((written : List ℕ) × (pushed ≡ written ++ left) × Appends old new written) → PassesOn waiting left bytes old new
+Passes-pushed waiting pushed left bytes old new is w = record {
+  written = w.0;
+  whole = sym is ∙ w.1;
+  appended = w.2;
+}
 
 -- one after the other
 pub Passes-trans : (waiting middle left one two : List ℕ) (old between new : Option (List ℕ)) → PassesOn waiting middle one old between → PassesOn middle left two between new → PassesOn waiting left (one ++ two) old new

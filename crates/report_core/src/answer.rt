@@ -1,11 +1,9 @@
 //! The text of each answer, as `specs/Answer.antt` defines it.
 ghost use Rattle.std.specs.Prelude.{◌≡◌, ◌+◌, ◌≤◌, ◌∷◌, ◌++◌, [], OnOk, OnErr, Err, codes, decimal, length};
-ghost use Rattle.std.specs.List.{flat_map};
 ghost use Rattle.std.specs.Io.{StartsWith};
 ghost use Rattle.point_core.specs.declared.refusal.Refusal.TheVariants.{Memory};
 ghost use Rattle.command_core.specs.Tables.{row_count};
 ghost use Rattle.report_core.specs.Status.{status_text};
-ghost use Rattle.report_core.specs.Tables.{timeline_text};
 ghost use Rattle.report_core.specs.Answer.{line_text, fired_text, raised_text, fence_text, info_line, info_text, show_text};
 ghost use Rattle.report_core.specs.Answer.{report_text, refusal_text, details, value_line, text_of};
 ghost use Rattle.report_core.specs.LineEnd.{line_end};
@@ -13,7 +11,7 @@ ghost use Rattle.report_core.specs.LineEnd.{line_end};
 use crate::fence_line::push_fence;
 use crate::line::{TEXT_LINE_BYTES, TextLine};
 use crate::number_line::push_numbered;
-use crate::report::{report_text, show_text, timelines_text};
+use crate::report::{report_text, show_text};
 use crate::rows::{NUMBER_WIDTH, STATUS_BYTES, status_text};
 use command_core::{Answer, Info, Report, ShowRow};
 use itoa::Buffer;
@@ -206,32 +204,24 @@ fn push_report(report: &Report, out: &mut Vec<u8>) -> Result<(), Refusal>
     ensures ok { OnOk result (out.new.items ≡ out.old.items ++ report_text report.now) }
     ensures err { OnErr result ((result ≡ Err Memory) × StartsWith out.new.items out.old.items) }
 {
-    push_count(report.row_count(), out)?;
+    push_row_count(report, out)?;
     report_text(report, out)?;
     Ok(())
 }
 
-/// Appends the number of a report's rows, and its rows of timelines, to `out`.
+/// Appends the line with the number of a report's rows to `out`.
 ///
 /// Fails only with Memory. `out` then begins with its old bytes.
 #[inline(never)]
-pub(crate) fn push_timelines(report: &Report, out: &mut Vec<u8>) -> Result<(), Refusal>
-    ensures ok { OnOk result (out.new.items
-        ≡ out.old.items ++ (value_line (row_count report.now) ++ flat_map timeline_text report.now.timelines)) }
-    ensures err { OnErr result ((result ≡ Err Memory) × StartsWith out.new.items out.old.items) }
-{
-    push_count(report.row_count(), out)?;
-    timelines_text(report.timelines.as_slice(), out)?;
-    Ok(())
-}
-
-#[inline(never)]
-fn push_count(count: u128, out: &mut Vec<u8>) -> Result<(), Refusal>
-    ensures ok { OnOk result (out.new.items ≡ out.old.items ++ value_line count) }
+pub(crate) fn push_row_count(report: &Report, out: &mut Vec<u8>) -> Result<(), Refusal>
+    ensures ok { OnOk result (out.new.items ≡ out.old.items ++ value_line (row_count report.now)) }
     ensures err { OnErr result ((result ≡ Err Memory) × StartsWith out.new.items out.old.items) }
 {
     let mut line = TextLine::new();
-    put_word(&mut line, Buffer::new().format(count).as_bytes());
+    put_word(
+        &mut line,
+        Buffer::new().format(report.row_count()).as_bytes(),
+    );
     line.put_text(b"ok");
     line.push_to(out)
 }

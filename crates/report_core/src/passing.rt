@@ -3,14 +3,12 @@
 ghost use Rattle.std.specs.Prelude.{◌≡◌, ◌⊎◌, ◌++◌, ◌<◌, OnOk, OnErr, IfErr, length};
 ghost use Rattle.std.specs.List.{flat_map};
 ghost use Rattle.point_core.specs.declared.refusal.Refusal.TheVariants.{Write as WriteFault, Memory};
-ghost use Rattle.command_core.specs.Tables.{row_count};
 ghost use Rattle.report_core.specs.declared.writing.TheConstants.{WRITE_BYTES};
-ghost use Rattle.report_core.specs.Tables.{timeline_text};
 ghost use Rattle.report_core.specs.Bytes.{AppendsFront, PassesOn};
-ghost use Rattle.report_core.specs.Answer.{value_line, report_text, text_of};
+ghost use Rattle.report_core.specs.Answer.{report_text, text_of};
 
-use crate::answer::{push_owned, push_timelines};
-use crate::table_item::TableItem;
+use crate::answer::{push_owned, push_row_count};
+use crate::table_item::{TableItem, push_each};
 use crate::writing::write_many;
 use command_core::{Answer, Report};
 use point_core::Refusal;
@@ -54,28 +52,11 @@ fn pass_report<W: Write>(report: &Report, out: &mut Vec<u8>, writer: &mut W) -> 
         (out.old.items ++ report_text report.now)) }
     ensures refusals { IfErr result (λ refusal. (refusal ≡ WriteFault) ⊎ (refusal ≡ Memory)) }
 {
-    pass_timelines(report, out, writer)?;
+    push_row_count(report, out)?;
+    push_each(report.timelines.as_slice(), out)?;
+    write_many(writer, out)?;
     pass_each(report.files.as_slice(), out, writer)?;
     pass_each(report.buffers.as_slice(), out, writer)?;
-    Ok(())
-}
-
-/// The number of the report's rows, and its rows of timelines.
-fn pass_timelines<W: Write>(
-    report: &Report,
-    out: &mut Vec<u8>,
-    writer: &mut W,
-) -> Result<(), Refusal>
-    ensures ok { OnOk result (PassesOn out.old.items out.new.items
-        (value_line (row_count report.now) ++ flat_map timeline_text report.now.timelines)
-        (W.contents writer.old) (W.contents writer.new)) }
-    ensures few { OnOk result (length out.new.items < WRITE_BYTES) }
-    ensures err { OnErr result (AppendsFront (W.contents writer.old) (W.contents writer.new)
-        (out.old.items ++ (value_line (row_count report.now) ++ flat_map timeline_text report.now.timelines))) }
-    ensures refusals { IfErr result (λ refusal. (refusal ≡ WriteFault) ⊎ (refusal ≡ Memory)) }
-{
-    push_timelines(report, out)?;
-    write_many(writer, out)?;
     Ok(())
 }
 
