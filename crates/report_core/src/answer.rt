@@ -49,7 +49,8 @@ pub fn value_line(value: u64) -> TextLine
     ensures { result ≡ value_line value }
 {
     let mut line = TextLine::new();
-    put_value(&mut line, value);
+    put_number(&mut line, value);
+    line.put_text(b"ok");
     line
 }
 
@@ -118,15 +119,6 @@ fn push_value(value: u64, out: &mut Vec<u8>) -> Result<(), Refusal>
     ensures err { OnErr result ((result ≡ Err Memory) × StartsWith out.new.items out.old.items) }
 {
     push_numbered(b"ok", value, out)
-}
-
-#[inline(always)]
-fn put_value(line: &mut TextLine, value: u64)
-    requires { line.old ≡ 10 ∷ [] }
-    ensures { line.new ≡ value_line value }
-{
-    put_number(line, value);
-    line.put_text(b"ok");
 }
 
 #[inline(always)]
