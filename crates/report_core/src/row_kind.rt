@@ -1,7 +1,7 @@
 //! `RowKind`: the kind of a row, which is its first column.
 ghost use Rattle.std.specs.Prelude.{◌≡◌};
 ghost use Rattle.report_core.specs.Columns.{column};
-ghost use Rattle.report_core.specs.RowKind.{usage_word, kind_word};
+ghost use Rattle.report_core.specs.RowKind.{kind_word};
 
 use crate::rows::{KIND_BYTES, KIND_WIDTH};
 use point_core::Usage;
@@ -28,7 +28,10 @@ impl RowKind {
             RowKind::Closed => "closed",
             RowKind::File => "file",
             RowKind::Buffer => "buffer",
-            RowKind::Level(usage) => usage_word(usage),
+            RowKind::Level(Usage::Kernel) => "kernel",
+            RowKind::Level(Usage::Write) => "write",
+            RowKind::Level(Usage::Read) => "read",
+            RowKind::Level(Usage::Bookkeep) => "bookkeep",
         }
     }
 
@@ -47,16 +50,5 @@ impl RowKind {
             RowKind::Level(Usage::Read) => b"read     ",
             RowKind::Level(Usage::Bookkeep) => b"bookkeep ",
         }
-    }
-}
-
-fn usage_word(usage: Usage) -> &'static str
-    ensures { result.now ≡ usage_word usage }
-{
-    match usage {
-        Usage::Kernel => "kernel",
-        Usage::Write => "write",
-        Usage::Read => "read",
-        Usage::Bookkeep => "bookkeep",
     }
 }
