@@ -5,7 +5,7 @@ ghost use Rattle.std.specs.Io.{StartsWith};
 ghost use Rattle.point_core.specs.declared.refusal.Refusal.TheVariants.{Memory};
 ghost use Rattle.report_core.specs.Row.{file_row_text};
 ghost use Rattle.report_core.specs.Settled.{top_text};
-ghost use Rattle.report_core.specs.Tables.{buffer_text, show_row_text, timeline_kind, timeline_text};
+ghost use Rattle.report_core.specs.Tables.{buffer_text, show_row_text, timeline_text};
 
 use crate::report::buffer_text;
 use crate::row_kind::RowKind;
@@ -56,17 +56,12 @@ impl TableItem for TimelineRow {
     ghost text = { timeline_text };
 
     fn push(&self, out: &mut Vec<u8>) -> Result<(), Refusal> {
-        row(kind_of(self), &self.name, self.value, out)
-    }
-}
-
-fn kind_of(timeline: &TimelineRow) -> RowKind
-    ensures { result ≡ timeline_kind timeline.now }
-{
-    if timeline.closed {
-        RowKind::Closed
-    } else {
-        RowKind::Timeline
+        let kind = if self.closed {
+            RowKind::Closed
+        } else {
+            RowKind::Timeline
+        };
+        row(kind, &self.name, self.value, out)
     }
 }
 
