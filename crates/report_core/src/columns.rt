@@ -1,10 +1,11 @@
 //! The columns of a row. Numbers and texts are written at their final place, in a row of spaces.
 ghost use Rattle.std.specs.Prelude.{◌≡◌, ◌++◌, ◌∷◌, [], ◌+◌, ◌<◌, ◌≤◌, OnOk, OnErr, Err, decimal, length, take, drop};
 ghost use Rattle.std.specs.Prelude.{vec_len, vec_capacity};
+ghost use Rattle.std.specs.Io.{StartsWith};
 ghost use Rattle.point_core.specs.declared.refusal.Refusal.TheVariants.{Memory};
 ghost use Rattle.report_core.specs.Columns.{spaces, left, right};
 ghost use Rattle.report_core.specs.Subject.{subject_text};
-ghost use Rattle.report_core.specs.Row.{columns};
+ghost use Rattle.report_core.specs.Row.{columns, row_text};
 
 use crate::number_line::push_bytes;
 use crate::row_kind::RowKind;
@@ -22,26 +23,24 @@ pub(crate) enum Subject<'a> {
     Numbered(u8, u64),
 }
 
-/// Appends to `out` the three columns with which each row begins, and one more byte.
+/// Appends a row to `out`.
 ///
-/// Fails only with Memory, and then leaves `out` as it was. They are written in place: a copy would stall on the
-/// columns, which are stored in smaller pieces (store forwarding).
+/// Fails only with Memory. `out` then begins with its old bytes. The columns are written in place: a copy would stall on
+/// them, since they are stored in smaller pieces (store forwarding).
 #[inline(always)]
-pub(crate) fn push_columns(
+pub(crate) fn push_row(
     out: &mut Vec<u8>,
     kind: RowKind,
     subject: Subject<'_>,
     number: u64,
-    last: u8,
 ) -> Result<(), Refusal>
-    ensures ok { OnOk result (out.new.items ≡
-        out.old.items ++ (columns kind (subject_text subject.entry) (decimal number) ++ last ∷ [])) }
-    ensures err { OnErr result ((result ≡ Err Memory) × (out.new.items ≡ out.old.items)) }
+    ensures ok { OnOk result (out.new.items ≡ out.old.items ++ row_text kind (subject_text subject.entry) number) }
+    ensures err { OnErr result ((result ≡ Err Memory) × StartsWith out.new.items out.old.items) }
 {
     let start = out.len();
     out.extend_from_slice(&[b' '; ROW_BYTES])?;
     let row = &mut out.as_mut_slice()[start..];
-    write_columns(row, kind, subject, number, last);
+    write_row(row, kind, subject, number);
     Ok(())
 }
 
@@ -67,13 +66,13 @@ pub(crate) fn push_text_columns(
     Ok(())
 }
 
-/// Writes the columns of a number, and one more byte, into a row of spaces.
+/// Writes a row into a row of spaces.
 #[inline(always)]
-fn write_columns(row: &mut [u8], kind: RowKind, subject: Subject<'_>, number: u64, last: u8)
+fn write_row(row: &mut [u8], kind: RowKind, subject: Subject<'_>, number: u64)
     requires blank { row.old ≡ spaces ROW_BYTES }
-    ensures { row.new ≡ columns kind (subject_text subject.entry) (decimal number) ++ last ∷ [] }
+    ensures { row.new ≡ row_text kind (subject_text subject.entry) number }
 {
-    row[ROW_BYTES - 1] = last;
+    row[ROW_BYTES - 1] = b'\n';
     write_digits(number, row, ROW_BYTES - 1);
     put_subject(row, subject);
     put_at(row, 0, kind.column());

@@ -2,11 +2,10 @@
 ghost use Rattle.std.specs.Prelude.{◌≡◌, ◌++◌, ◌+◌, ◌<◌, ◌≤◌, ◌^◌, OnOk, OnErr, Err, length};
 ghost use Rattle.std.specs.Io.{StartsWith};
 ghost use Rattle.point_core.specs.declared.refusal.Refusal.TheVariants.{Memory};
-ghost use Rattle.report_core.specs.Subject.{subject_text};
 ghost use Rattle.report_core.specs.Row.{row_text, file_row_text};
 ghost use Rattle.report_core.specs.Status.{status_text};
 
-use crate::columns::{Subject, push_columns, push_count, push_text_columns};
+use crate::columns::{Subject, push_count, push_row, push_text_columns};
 use crate::row_kind::RowKind;
 use command_core::FileRow;
 use point_core::{NAME_BYTES, Name, Refusal, Status};
@@ -88,19 +87,6 @@ fn push_file_row(out: &mut Vec<u8>, file: &FileRow) -> Result<(), Refusal>
     let status = status_text(file.status);
     push_text_columns(out, RowKind::File, Subject::Named(&file.name), status, b' ')?;
     push_count(out, file.count)
-}
-
-#[inline(always)]
-pub(crate) fn push_row(
-    out: &mut Vec<u8>,
-    kind: RowKind,
-    subject: Subject<'_>,
-    number: u64,
-) -> Result<(), Refusal>
-    ensures ok { OnOk result (out.new.items ≡ out.old.items ++ row_text kind (subject_text subject.entry) number) }
-    ensures err { OnErr result ((result ≡ Err Memory) × StartsWith out.new.items out.old.items) }
-{
-    push_columns(out, kind, subject, number, b'\n')
 }
 
 /// A status in decimal, as file information and rows show it: 0, 1 or -2.

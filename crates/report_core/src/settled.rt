@@ -5,9 +5,8 @@ ghost use Rattle.std.specs.Io.{StartsWith};
 ghost use Rattle.point_core.specs.declared.refusal.Refusal.TheVariants.{Memory};
 ghost use Rattle.report_core.specs.Settled.{client_text, table_text, settled_text};
 
-use crate::columns::Subject;
+use crate::columns::{Subject, push_row};
 use crate::row_kind::RowKind;
-use crate::rows::push_row;
 use crate::table_item::push_each;
 use point_core::{Items, Refusal, TopRow};
 use resv_core::Settled;

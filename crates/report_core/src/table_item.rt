@@ -7,9 +7,10 @@ ghost use Rattle.report_core.specs.Row.{file_row_text};
 ghost use Rattle.report_core.specs.Settled.{top_text};
 ghost use Rattle.report_core.specs.Tables.{buffer_text, show_row_text, timeline_text};
 
+use crate::columns::push_row;
 use crate::report::buffer_text;
 use crate::row_kind::RowKind;
-use crate::rows::{file_row, push_row, row};
+use crate::rows::{file_row, row};
 use crate::settled::client;
 use command_core::{BufferRows, FileRow, ShowRow};
 use point_core::{Refusal, TimelineRow, TopRow};

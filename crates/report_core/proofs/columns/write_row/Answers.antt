@@ -4,22 +4,22 @@ use Rattle.report_core.specs.Columns.{column, right}
 use Rattle.report_core.specs.Subject.{subject_text}
 use Rattle.report_core.proofs.Placed.{set-last, row-columns}
 use Rattle.report_core.proofs.Widths.{length-decimal, length-kind_column}
-use Rattle.report_core.proofs.columns.write_columns.Goals as goal
+use Rattle.report_core.proofs.columns.write_row.Goals as goal
 
 pub write_digits-requires : goal.write_digits-requires
 write_digits-requires c =
     let few : length (decimal c.args.number) ≤ NUMBER_WIDTH = length-decimal c.args.number (omega (arith, c.ranges.number)) in
-    let size : length (slice_set c.args.row.now 61 c.args.last) ≡ ROW_BYTES = ap length (set-last c.args.row.now c.args.last c.requires.blank) in
+    let size : length (slice_set c.args.row.now 61 10) ≡ ROW_BYTES = ap length (set-last c.args.row.now 10 c.requires.blank) in
     (omega (arith, few), omega (arith, size))
 
 pub returns : goal.returns
 returns c =
     let digits = decimal c.args.number in
     let few : length digits ≤ NUMBER_WIDTH = length-decimal c.args.number (omega (arith, c.ranges.number)) in
-    let blank = set-last c.args.row.now c.args.last c.requires.blank in
+    let blank = set-last c.args.row.now 10 c.requires.blank in
     let word = ap length c.column.ensures ∙ length-kind_column c.args.kind in
     let size : length c.write_digits.new.buf ≡ ROW_BYTES = c.write_digits.auto.buf ∙ ap length blank in
-    let text = row-columns c.column.result.now (subject_text c.args.subject) digits _ c.write_digits.new.buf c.put_subject.new.row c.put_at.new.row c.write_digits.result c.args.last
+    let text = row-columns c.column.result.now (subject_text c.args.subject) digits _ c.write_digits.new.buf c.put_subject.new.row c.put_at.new.row c.write_digits.result 10
     word c.put_subject.ensures.len few size c.write_digits.ensures.start blank c.write_digits.ensures.written c.write_digits.ensures.before c.put_subject.ensures.text c.put_at.ensures in
     let rest = column SUBJECT_WIDTH (subject_text c.args.subject) in
-    text ∙ ap (λ kind. kind ++ rest ++ right NUMBER_WIDTH digits ++ c.args.last ∷ []) c.column.ensures
+    text ∙ ap (λ kind. kind ++ rest ++ right NUMBER_WIDTH digits ++ 10 ∷ []) c.column.ensures
