@@ -1,5 +1,5 @@
 -- The lengths of rows.
-use Rattle.std.proofs.Common.{◌≡◌, ℕ, ◌+◌, ◌-◌, ◌≤◌, ◌<◌, ◌^◌, List, [], ◌∷◌, ◌++◌, length, arith, sym, ap, replicate, decimal, length-append}
+use Rattle.std.proofs.Common.{◌≡◌, ℕ, ◌+◌, ◌-◌, ◌≤◌, ◌<◌, ◌^◌, List, [], ◌∷◌, ◌++◌, length, arith, sym, ap, replicate, decimal, ◌∙◌, append_assoc, length-append}
 use Rattle.std.proofs.lemmas.List.{length-replicate}
 use Rattle.std.proofs.lemmas.Fmt.{length-decimal-le}
 use Rattle.report_core.specs.Status.{status_text}
@@ -62,6 +62,10 @@ length-status : (status : Status) → length (status_text status) ≤ NUMBER_WID
 length-status Active = omega (arith, sym (ap length text-Active))
 length-status Signalled = omega (arith, sym (ap length text-Signalled))
 length-status Cancelled = omega (arith, sym (ap length text-Cancelled))
+
+-- a file's row, by what is written at once
+pub file_row-parts : (front last : List ℕ) → (front ++ 32 ∷ []) ++ (last ++ 10 ∷ []) ≡ (front ++ 32 ∷ last) ++ 10 ∷ []
+file_row-parts front last = append_assoc front (32 ∷ []) (last ++ 10 ∷ []) ∙ sym (append_assoc front (32 ∷ last) (10 ∷ []))
 
 pub length-file_row : (old new : List ℕ) (file : FileRow) → length file.name ≤ SUBJECT_WIDTH → file.count < 1000 → new ≡ old ++ file_row_text file → length new ≡ length old + FILE_ROW_BYTES
 length-file_row old new file s few e =

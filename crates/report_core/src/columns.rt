@@ -4,12 +4,15 @@ ghost use Rattle.std.specs.Prelude.{vec_len, vec_capacity};
 ghost use Rattle.std.specs.Io.{StartsWith};
 ghost use Rattle.point_core.specs.declared.refusal.Refusal.TheVariants.{Memory};
 ghost use Rattle.report_core.specs.Columns.{spaces, left, right};
+ghost use Rattle.report_core.specs.Status.{status_text};
 ghost use Rattle.report_core.specs.Subject.{subject_text};
+ghost use Rattle.report_core.specs.declared.row_kind.RowKind.TheVariants.{File};
 ghost use Rattle.report_core.specs.Row.{columns, row_text};
 
 use crate::number_line::push_bytes;
 use crate::row_kind::RowKind;
-use crate::rows::{COUNT_WIDTH, KIND_BYTES, NUMBER_WIDTH, ROW_BYTES, SUBJECT_WIDTH};
+use crate::rows::{COUNT_WIDTH, KIND_BYTES, NUMBER_WIDTH, ROW_BYTES, SUBJECT_WIDTH, status_text};
+use command_core::FileRow;
 use itoa::{Buffer, write_digits};
 use point_core::{Name, Refusal};
 
@@ -44,25 +47,16 @@ pub(crate) fn push_row(
     Ok(())
 }
 
-/// Appends the columns to `out`, with a right-aligned text as the third.
-///
-/// Fails only with Memory, and then leaves `out` as it was.
-pub(crate) fn push_text_columns(
-    out: &mut Vec<u8>,
-    kind: RowKind,
-    subject: Subject<'_>,
-    text: &[u8],
-    last: u8,
-) -> Result<(), Refusal>
-    requires narrow { length text.now ≤ NUMBER_WIDTH }
-    ensures ok { OnOk result (out.new.items ≡
-        out.old.items ++ (columns kind (subject_text subject.entry) text.now ++ last ∷ [])) }
-    ensures err { OnErr result ((result ≡ Err Memory) × (out.new.items ≡ out.old.items)) }
+/// Appends a file's row up to its count to `out`, as `push_row` does.
+pub(crate) fn push_file_columns(out: &mut Vec<u8>, file: &FileRow) -> Result<(), Refusal>
+    ensures ok { OnOk result (out.new.items
+        ≡ out.old.items ++ (columns File file.now.name (status_text file.now.status) ++ 32 ∷ [])) }
+    ensures err { OnErr result ((result ≡ Err Memory) × StartsWith out.new.items out.old.items) }
 {
     let start = out.len();
     out.extend_from_slice(&[b' '; ROW_BYTES])?;
     let row = &mut out.as_mut_slice()[start..];
-    write_text_columns(row, kind, subject, text, last);
+    write_file_columns(row, file);
     Ok(())
 }
 
@@ -78,18 +72,16 @@ fn write_row(row: &mut [u8], kind: RowKind, subject: Subject<'_>, number: u64)
     put_at(row, 0, kind.column());
 }
 
-/// Writes the columns of a text, and one more byte, into a row of spaces.
+/// Writes a file's row up to its count into a row of spaces.
 #[inline(always)]
-fn write_text_columns(row: &mut [u8], kind: RowKind, subject: Subject<'_>, text: &[u8], last: u8)
+fn write_file_columns(row: &mut [u8], file: &FileRow)
     requires blank { row.old ≡ spaces ROW_BYTES }
-    requires narrow { length text.now ≤ NUMBER_WIDTH }
-    ensures { row.new ≡ columns kind (subject_text subject.entry) text.now ++ last ∷ [] }
+    ensures { row.new ≡ columns File file.now.name (status_text file.now.status) ++ 32 ∷ [] }
 {
-    row[ROW_BYTES - 1] = last;
-    let word = kind.column();
-    put_at(row, ROW_BYTES - 1 - text.len(), text);
-    put_subject(row, subject);
-    put_at(row, 0, word);
+    let status = status_text(file.status);
+    put_at(row, ROW_BYTES - 1 - status.len(), status);
+    put_subject(row, Subject::Named(&file.name));
+    put_at(row, 0, RowKind::File.column());
 }
 
 /// Writes the subject left-aligned into the second column, with spaces after it.

@@ -5,7 +5,7 @@ ghost use Rattle.point_core.specs.declared.refusal.Refusal.TheVariants.{Memory};
 ghost use Rattle.report_core.specs.Row.{row_text, file_row_text};
 ghost use Rattle.report_core.specs.Status.{status_text};
 
-use crate::columns::{Subject, push_count, push_row, push_text_columns};
+use crate::columns::{Subject, push_count, push_file_columns, push_row};
 use crate::row_kind::RowKind;
 use command_core::FileRow;
 use point_core::{NAME_BYTES, Name, Refusal, Status};
@@ -76,17 +76,9 @@ pub fn file_row(file: &FileRow, out: &mut Vec<u8>) -> Result<(), Refusal>
 {
     // for the proof: the invariant of a name
     prove!(file.name.as_bytes().len() <= NAME_BYTES);
-    push_file_row(out, file)?;
+    push_file_columns(out, file)?;
+    push_count(out, file.count)?;
     Ok(())
-}
-
-fn push_file_row(out: &mut Vec<u8>, file: &FileRow) -> Result<(), Refusal>
-    ensures ok { OnOk result (out.new.items ≡ out.old.items ++ file_row_text file.now) }
-    ensures err { OnErr result ((result ≡ Err Memory) × StartsWith out.new.items out.old.items) }
-{
-    let status = status_text(file.status);
-    push_text_columns(out, RowKind::File, Subject::Named(&file.name), status, b' ')?;
-    push_count(out, file.count)
 }
 
 /// A status in decimal, as file information and rows show it: 0, 1 or -2.
