@@ -1,6 +1,5 @@
 //! The columns of a row. Numbers and texts are written at their final place, in a row of spaces.
 ghost use Rattle.std.specs.Prelude.{◌≡◌, ◌++◌, ◌∷◌, [], ◌+◌, ◌<◌, ◌≤◌, OnOk, OnErr, Err, decimal, length, take, drop};
-ghost use Rattle.std.specs.Prelude.{vec_len, vec_capacity};
 ghost use Rattle.std.specs.Io.{StartsWith};
 ghost use Rattle.point_core.specs.declared.refusal.Refusal.TheVariants.{Memory};
 ghost use Rattle.report_core.specs.Columns.{spaces, left, right};
@@ -132,19 +131,10 @@ pub(crate) fn push_count(out: &mut Vec<u8>, count: u64) -> Result<(), Refusal>
     if out.capacity() - out.len() < COUNT_BYTES {
         out.reserve(COUNT_BYTES)?;
     }
-    push_count_in_room(out, count);
-    Ok(())
-}
-
-/// Appends the count column to `out`, which has room for it.
-#[inline(always)]
-fn push_count_in_room(out: &mut Vec<u8>, count: u64)
-    requires room { vec_len out.old + COUNT_BYTES ≤ vec_capacity out.old }
-    ensures items { out.new.items ≡ out.old.items ++ (right COUNT_WIDTH (decimal count) ++ 10 ∷ []) }
-{
     let mut text = [b' '; COUNT_BYTES];
     text[NUMBER_WIDTH] = b'\n';
     let digits = write_digits(count, &mut text, NUMBER_WIDTH);
     let start = digits.min(NUMBER_WIDTH - COUNT_WIDTH);
     push_bytes(&text[start..], out);
+    Ok(())
 }
