@@ -74,24 +74,8 @@ fn pass_each<T: TableItem, W: Write>(
     ensures refusals { IfErr result (λ refusal. (refusal ≡ WriteFault) ⊎ (refusal ≡ Memory)) }
 {
     for item in items {
-        pass_item(item, out, writer)?;
+        item.push(out)?;
+        write_many(writer, out)?;
     }
-    Ok(())
-}
-
-fn pass_item<T: TableItem, W: Write>(
-    item: &T,
-    out: &mut Vec<u8>,
-    writer: &mut W,
-) -> Result<(), Refusal>
-    ensures ok { OnOk result (PassesOn out.old.items out.new.items (T.text item.now)
-        (W.contents writer.old) (W.contents writer.new)) }
-    ensures few { OnOk result (length out.new.items < WRITE_BYTES) }
-    ensures err { OnErr result (AppendsFront (W.contents writer.old) (W.contents writer.new)
-        (out.old.items ++ T.text item.now)) }
-    ensures refusals { IfErr result (λ refusal. (refusal ≡ WriteFault) ⊎ (refusal ≡ Memory)) }
-{
-    item.push(out)?;
-    write_many(writer, out)?;
     Ok(())
 }
