@@ -6,3 +6,4 @@ pub mod Placed
 pub mod Statuses
 pub mod Widths
 pub mod Written
+pub mod Yielded

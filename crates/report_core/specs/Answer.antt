@@ -4,6 +4,7 @@ use Rattle.std.specs.List.{join_with_byte, flat_map}
 use Rattle.point_core.specs.Refusal as refusal
 use Rattle.report_core.specs.Status.{status_text}
 use Rattle.point_core.specs.declared.refusal.Refusal.{Refusal}
+use Rattle.point_core.specs.declared.status.Status.{Status}
 use Rattle.point_core.specs.declared.refusal.Refusal.TheVariants.{Syntax, NoEntry, Exists, Overflow, Flags, Limit, Signalled, TimedOut, Foreign, Torn, NotAll, LongLine, Read, Write, Cancelled, Memory}
 use Rattle.command_core.specs.declared.answer.Answer.{Answer}
 use Rattle.command_core.specs.declared.answer.Answer.TheVariants as answer
@@ -27,12 +28,11 @@ abbrev pub fence_text : FenceRow → List ℕ
 fence_text row = line_text
     (codes "fence" ∷ row.timeline ∷ driver_of row.driver ∷ decimal row.point ∷ status_text row.status ∷ [])
 
-abbrev pub info_line : Info → List ℕ
-info_line info = line_text
-    (codes "ok" ∷ info.name ∷ status_text info.status ∷ decimal (length info.fences) ∷ [])
+abbrev pub info_line : List ℕ → Status → ℕ → List ℕ
+info_line name status count = line_text (codes "ok" ∷ name ∷ status_text status ∷ decimal count ∷ [])
 
 abbrev pub info_text : Info → List ℕ
-info_text info = info_line info ++ flat_map fence_text info.fences
+info_text info = info_line info.name info.status (length info.fences) ++ flat_map fence_text info.fences
 
 abbrev pub fired_text : ℕ → List ℕ
 fired_text cookie = line_text (codes "fired" ∷ decimal cookie ∷ [])

@@ -1,7 +1,10 @@
 //! The text of each answer, as `specs/Answer.antt` defines it.
-ghost use Rattle.std.specs.Prelude.{◌≡◌, ◌+◌, ◌≤◌, ◌∷◌, ◌++◌, [], OnOk, OnErr, Err, codes, decimal, length};
+ghost use Rattle.std.specs.Prelude.{◌≡◌, ◌+◌, ◌≤◌, ◌∷◌, ◌++◌, [], List, OnOk, OnErr, Err, codes, decimal, length};
+ghost use Rattle.std.specs.List.{flat_map};
 ghost use Rattle.std.specs.Io.{StartsWith};
+ghost use Rattle.std.specs.Iterator.{Drains, IsFinite};
 ghost use Rattle.point_core.specs.declared.refusal.Refusal.TheVariants.{Memory};
+ghost use Rattle.command_core.specs.declared.answer.FenceRow.{FenceRow as FenceRowModel};
 ghost use Rattle.command_core.specs.Tables.{row_count};
 ghost use Rattle.report_core.specs.Status.{status_text};
 ghost use Rattle.report_core.specs.Answer.{line_text, fired_text, raised_text, fence_text, info_line, info_text, show_text};
@@ -12,10 +15,10 @@ use crate::fence_line::push_fence;
 use crate::line::{TEXT_LINE_BYTES, TextLine};
 use crate::number_line::push_numbered;
 use crate::report::{report_text, show_text};
-use crate::rows::{NUMBER_WIDTH, STATUS_BYTES, status_text};
-use command_core::{Answer, Info, Report, ShowRow};
+use crate::rows::{NUMBER_WIDTH, status_text};
+use command_core::{Answer, FenceRow, Info, Report, ShowRow};
 use itoa::Buffer;
-use point_core::{Refusal, Status};
+use point_core::{Name, Refusal, Status};
 
 /// The bytes of the answer `ok`, with its line feed.
 const DONE_BYTES: usize = 3;
@@ -147,38 +150,45 @@ fn push_info(info: &Info, out: &mut Vec<u8>) -> Result<(), Refusal>
     ensures err { OnErr result ((result ≡ Err Memory) × StartsWith out.new.items out.old.items) }
 {
     let fences = info.fences.as_slice();
-    push_info_line(info, out)?;
+    let rows = fences.iter().copied();
+    info_text(&info.name, info.status, fences.len(), rows, out)
+}
+
+/// Appends the information on a file to `out`: a line for the file, with the number of its fences, and a line for each of them.
+///
+/// Fails only with Memory. `out` then begins with its old bytes.
+#[inline(always)]
+pub fn info_text<I: Iterator<Item = FenceRow> + Drop>(
+    name: &Name,
+    status: Status,
+    count: usize,
+    fences: I,
+    out: &mut Vec<u8>,
+) -> Result<(), Refusal>
+    requires can { I.can_next fences }
+    requires ends { IsFinite (I.remaining fences) }
+    ensures ok { OnOk result ((rows : List FenceRowModel) × Drains I.next_gives fences rows
+        × (out.new.items ≡ out.old.items ++ (info_line name.now status count ++ flat_map fence_text rows))) }
+    ensures err { OnErr result ((result ≡ Err Memory) × StartsWith out.new.items out.old.items) }
+{
+    push_file(name, status, count, out)?;
     for fence in fences {
-        push_fence(fence, out)?;
+        push_fence(&fence, out)?;
     }
     Ok(())
 }
 
 #[inline(never)]
-fn push_info_line(info: &Info, out: &mut Vec<u8>) -> Result<(), Refusal>
-    ensures ok { OnOk result (out.new.items ≡ out.old.items ++ info_line info.now) }
+fn push_file(name: &Name, status: Status, count: usize, out: &mut Vec<u8>) -> Result<(), Refusal>
+    ensures ok { OnOk result (out.new.items ≡ out.old.items ++ info_line name.now status count) }
     ensures err { OnErr result ((result ≡ Err Memory) × StartsWith out.new.items out.old.items) }
 {
     let mut line = TextLine::new();
-    put_number(&mut line, info.fences.as_slice().len() as u64);
-    put_status(&mut line, info.status);
-    put_word(&mut line, info.name.as_bytes());
+    put_number(&mut line, count as u64);
+    put_word(&mut line, status_text(status));
+    put_word(&mut line, name.as_bytes());
     line.put_text(b"ok");
     line.push_to(out)
-}
-
-/// Puts a space and the status before the line. Each arm copies a text whose length the compiler knows.
-#[inline(always)]
-fn put_status(line: &mut TextLine, status: Status)
-    requires { length line.old + 1 + STATUS_BYTES ≤ TEXT_LINE_BYTES }
-    ensures text { line.new ≡ 32 ∷ status_text status ++ line.old }
-    ensures len { length line.new ≤ length line.old + 1 + STATUS_BYTES }
-{
-    match status {
-        Status::Active => put_word(line, status_text(Status::Active)),
-        Status::Signalled => put_word(line, status_text(Status::Signalled)),
-        Status::Cancelled => put_word(line, status_text(Status::Cancelled)),
-    }
 }
 
 #[inline(never)]

@@ -1,5 +1,5 @@
 //! A line of `info` for one fence: its timeline, driver, point and status. It is written from its start, at its final place.
-ghost use Rattle.std.specs.Prelude.{◌≡◌, ◌++◌, ◌∷◌, [], ◌+◌, ◌≤◌, IfOk, OnOk, OnErr, Err, decimal, length, take};
+ghost use Rattle.std.specs.Prelude.{◌≡◌, ◌++◌, ◌∷◌, [], ◌+◌, ◌≤◌, OnOk, OnErr, Err, decimal, length, take};
 ghost use Rattle.std.specs.Io.{StartsWith};
 ghost use Rattle.point_core.specs.declared.refusal.Refusal.TheVariants.{Memory};
 ghost use Rattle.report_core.specs.Answer.{driver_of, fence_text};
@@ -32,22 +32,12 @@ pub(crate) fn push_fence(fence: &FenceRow, out: &mut Vec<u8>) -> Result<(), Refu
     ensures ok { OnOk result (out.new.items ≡ out.old.items ++ fence_text fence.now) }
     ensures err { OnErr result ((result ≡ Err Memory) × StartsWith out.new.items out.old.items) }
 {
-    let end = push_fence_row(fence, out)?;
-    out.truncate(end);
-    Ok(())
-}
-
-/// Appends a row that begins with the line of a fence, and answers where in `out` the line ends.
-#[inline(always)]
-fn push_fence_row(fence: &FenceRow, out: &mut Vec<u8>) -> Result<usize, Refusal>
-    ensures ok { IfOk result (λ end. take end out.new.items ≡ out.old.items ++ fence_text fence.now) }
-    ensures err { OnErr result ((result ≡ Err Memory) × (out.new.items ≡ out.old.items)) }
-{
     let start = out.len();
     out.extend_from_slice(&[b' '; FENCE_BYTES])?;
     let row = &mut out.as_mut_slice()[start..];
     let end = write_fence(row, fence);
-    Ok(start + end)
+    out.truncate(start + end);
+    Ok(())
 }
 
 /// Writes the line of a fence, and answers where it ends.

@@ -17,7 +17,7 @@ mod settled;
 mod table_item;
 mod writing;
 
-pub use answer::{done_line, print, refusal_line, value_line};
+pub use answer::{done_line, info_text, print, refusal_line, value_line};
 pub use line::{TEXT_LINE_BYTES, TextLine};
 pub use number_line::push_numbered;
 pub use passing::pass_answer;

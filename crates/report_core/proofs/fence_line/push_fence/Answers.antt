@@ -2,7 +2,7 @@ use Rattle.std.proofs.Common.{◌≡◌, ◌-◌, ◌++◌, length, ap, ◌∙�
 use Rattle.std.proofs.lemmas.List.{with_items_is}
 use borrow.Rule.Slice.PartMut.{put_mid}
 use Rattle.report_core.proofs.Written.{put-row, take-row}
-use Rattle.report_core.proofs.fence_line.push_fence_row.Goals as goal
+use Rattle.report_core.proofs.fence_line.push_fence.Goals as goal
 
 pub returns-clause-ok : goal.returns-clause-ok
 returns-clause-ok c =
@@ -15,5 +15,6 @@ returns-clause-ok c =
     let put = put-row xs old _ row start at (c.as_mut_slice.ensures.value ∙ c.in_ok-extend_from_slice.ensures.items) in
     let size = c.write_fence-end.ensures.len in
     let full : length (put_mid start (length xs - start) xs row) ≡ vec.len = omega (arith, ap length put, length-append old row, size, c.in_ok-extend_from_slice.ensures.len, c.as_mut_slice.ensures.len, c.args.out.now.ok.0) in
-    take-row _ old row start c.write_fence-end.result at (with_items_is vec (put_mid start (length xs - start) xs row) full ∙ put)
+    c.truncate.ensures.items
+    ∙ take-row _ old row start c.write_fence-end.result at (with_items_is vec (put_mid start (length xs - start) xs row) full ∙ put)
     ∙ ap (λ line. old ++ line) c.write_fence-end.ensures.text
