@@ -170,7 +170,7 @@ IsDone-unwatch desk cookie removed watches is without = record {
 
 -- what is reported of a file
 
-abbrev info_with : List ℕ → Status → List FenceRow → Info
+abbrev pub info_with : List ℕ → Status → List FenceRow → Info
 info_with name status rows = record { name = name; status = status; fences = rows }
 
 info-found : {desk : DeskState} {world : World} → Keeps desk world → (name : List ℕ) (f : File) (o : Option MadeFile) → file_named world.files name ≡ o → sync_file_at desk.files name ≡ Some f → answer.Info (info_at desk.timelines name f.points) ≡ info_reported world name o

@@ -1,5 +1,5 @@
 -- The contracts of the functions of single commands, for the proof of `step`.
-use Rattle.std.specs.Prelude.{◌≡◌, ℕ, ◌≤◌, ◌<◌, Bool, false, nat_lt, if◌then◌else◌, List, [], ◌∷◌, map, length, All, Option, None, Some, option_map, unwrap_or, Result, Ok, Err}
+use Rattle.std.specs.Prelude.{◌≡◌, ℕ, ◌≤◌, ◌<◌, Bool, false, nat_lt, if◌then◌else◌, List, [], ◌∷◌, ◌++◌, map, length, All, Option, None, Some, option_map, unwrap_or, Result, Ok, Err}
 use Rattle.point_core.specs.declared.entry.Point.{Point}
 use Rattle.point_core.specs.declared.context.TheConstants.{CONTEXTS}
 use Rattle.point_core.specs.declared.refusal.Refusal.{Refusal}
@@ -10,6 +10,7 @@ use Rattle.point_core.specs.Latest.{raised_to}
 use Rattle.point_core.specs.Reach.{value_at, IsAtLeast}
 use Rattle.point_core.specs.declared.entry.Entry.{Entry}
 use Rattle.point_core.specs.declared.clocks.Clock.{Clock}
+use Rattle.point_core.specs.declared.status.Status.{Status}
 use Rattle.point_core.specs.Clocks.{common_status}
 use Rattle.std.specs.List.{list_any}
 use Rattle.std.specs.Option.{option_map_or}
@@ -21,6 +22,7 @@ use Rattle.dmabuf_core.specs.Flags.{is_sync_flags}
 use Rattle.dmabuf_core.specs.Buffers.{Buffer, entries_of, names_of, has_buffer, cause_to_refuse as cause_to_refuse_buffer, cause_without, cause_by_flags}
 use Rattle.fence_core.specs.Watches.{fires, cause_to_refuse_watch}
 use Rattle.command_core.specs.declared.answer.Info.{Info}
+use Rattle.command_core.specs.declared.answer.FenceRow.{FenceRow}
 use Rattle.command_core.specs.declared.answer.FileRow.{FileRow}
 use Rattle.command_core.specs.declared.answer.BufferRows.{BufferRows}
 use Rattle.command_core.specs.Tables.{Tables}
@@ -30,7 +32,7 @@ use Rattle.command_core.specs.declared.answer.Answer.TheVariants as answer
 use Rattle.command_core.specs.declared.command.Command.{Command}
 use Rattle.command_core.specs.declared.command.Command.TheVariants as command
 use Rattle.desk_core.specs.theorem.World.{World, after, reach_by}
-use Rattle.desk_core.specs.theorem.Answer.{reported, is_refused, fence_row, or_stub, show_rows, fence_count}
+use Rattle.desk_core.specs.theorem.Answer.{reported, is_refused, fence_row, stub_row, or_stub, show_rows, fence_count}
 use Rattle.desk_core.specs.theorem.Desk.{DeskState, Holds}
 use Rattle.desk_core.specs.Sound.{IsSound}
 
@@ -61,6 +63,14 @@ info_at ts name ps = record {
   status = common_status (clocks_of ts) ps;
   fences = or_stub (map (fence_row ts) ps);
 }
+
+-- the rows of points, and after them the stub's if it is still to come
+abbrev pub fence_rows : List Timeline → List Point → Bool → List FenceRow
+fence_rows ts ps has_stub = map (fence_row ts) ps ++ (if has_stub then stub_row ∷ [] else [])
+
+-- the answer of `info`
+abbrev pub info_answer : List ℕ → Status → List FenceRow → Answer
+info_answer name status fences = answer.Info (record { name = name; status = status; fences = fences })
 
 -- the desk holds what a sound world has
 pub record Keeps (desk : DeskState) (world : World) : Type 0 where

@@ -3,7 +3,8 @@
 ghost use Rattle.std.specs.Prelude.{◌≡◌, ◌≢◌, ◌↔◌, false, List, [], option_copied, option_map, IsTrue, IsSome, IfSome, IsOk, IfOk, IfErr, OnErr, OnOk};
 ghost use Rattle.command_core.specs.declared.command.Command.{Command};
 
-use crate::{info, report};
+use crate::info::FenceRows;
+use crate::report;
 use command_core::{Answer, Command, Info, Report, ShowRow};
 use dmabuf_core::Buffers;
 use fence_core::Watches;
@@ -49,7 +50,7 @@ impl Desk {
     ghost use Rattle.fence_core.specs.Watches.{has_watch};
     ghost use Rattle.desk_core.specs.theorem.History.{history_after};
     ghost use Rattle.desk_core.specs.theorem.Desk.{HasHistory, Answers};
-    ghost use Rattle.desk_core.specs.Keeping.{cause_of, fires_kept, IsDone};
+    ghost use Rattle.desk_core.specs.Keeping.{cause_of, fires_kept, info_answer, IsDone};
 
     /// A desk without timelines, files, buffers and watches. It takes no memory yet, so it is never refused.
     pub fn new(alloc: Global) -> Result<Desk, Refusal>
@@ -185,6 +186,22 @@ impl Desk {
     {
         let file = self.files.get(file)?;
         Some(file.points.as_slice())
+    }
+
+    /// The answer of `info` for the file of that name: its status, and its fences one after another, without a list.
+    ///
+    /// Fails with `NoEntry`. Does not allocate.
+    #[inline(always)]
+    pub fn file_info(&self, name: &Name) -> Result<(Status, FenceRows<'_>), Refusal>
+        ensures refused { IsRefusedFor (cause_of self.now (Command.Info name.now)) result }
+        ensures sure { IfErr result (λ e. e ≢ Refusal.Memory) }
+        ensures done { IfOk result (λ (status, fences).
+            IsDone self.now (Command.Info name.now) (info_answer name.now status fences) self.now) }
+    {
+        let file = self.files.get(name).ok_or(Refusal::NoEntry)?;
+        let points = file.points.as_slice();
+        let status = self.timelines.as_clocks().common_status(points);
+        Ok((status, FenceRows::of(points, &self.timelines)))
     }
 
     /// Whether there is a buffer of that name.
@@ -361,9 +378,14 @@ impl Desk {
         ensures refused { IsRefusedFor (cause_of self.now (Command.Info name)) result }
         ensures done { IfOk result (λ given. IsDone self.now (Command.Info name) (Answer.Info given) self.now) }
     {
-        let file = self.files.get(&name).ok_or(Refusal::NoEntry)?;
-        let info = info::of_points(self.alloc, name, file.points.as_slice(), &self.timelines)?;
-        Ok(info)
+        let (status, rows) = self.file_info(&name)?;
+        let mut fences = Vec::with_capacity(self.alloc, rows.len())?;
+        fences.extend(rows)?;
+        Ok(Info {
+            name,
+            status,
+            fences: Items::of(fences),
+        })
     }
 
     #[inline(never)]

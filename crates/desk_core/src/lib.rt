@@ -15,4 +15,5 @@ pub use command_core::{
     Answer, BufferRows, Command, FenceRow, FileRow, Info, Maker, Report, ShowRow,
 };
 pub use desk::Desk;
+pub use info::FenceRows;
 pub use runs::run;
