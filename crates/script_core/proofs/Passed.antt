@@ -1,5 +1,5 @@
 -- Lines whose answers were passed on.
-use Rattle.std.proofs.Common.{◌≡◌, ℕ, List, [], ◌∷◌, ◌++◌, Option, refl, sym, subst}
+use Rattle.std.proofs.Common.{◌≡◌, ℕ, List, [], ◌∷◌, ◌++◌, Option, refl, sym, subst, arith}
 use Rattle.std.specs.Prelude.{Result, Ok, Err, OnOk, OnErr, IfOk}
 use Rattle.point_core.specs.declared.refusal.Refusal.{Refusal}
 use Rattle.command_core.specs.declared.command.Command.{Command}
@@ -10,7 +10,7 @@ use Rattle.line_core.specs.declared.line.Line.{Line}
 use Rattle.line_core.proofs.Handling.{on-ok}
 use Rattle.report_core.specs.Answer.{text_of}
 use Rattle.report_core.specs.Bytes.{AppendsFront, PassesOn}
-use Rattle.script_core.specs.Answering.{AnswersState, AnswersLine, HasAnswered, Passes}
+use Rattle.script_core.specs.Answering.{AnswersState, AnswersLine, HasAnswered, IsAnswered, Passes}
 use Rattle.script_core.specs.Output.{Grows, IsLineAnswer, WritesPrefix, history_after_line, refusal_of}
 use Rattle.script_core.proofs.Progress.{Grows-front, Progress-line, Progress-write, Progress-unwritten}
 
@@ -61,3 +61,14 @@ module _ (number : ℕ) (body : Body) (given : Answer) (passed : Result (Option 
 
   pub Passed-grows : Grows old new
   Passed-grows = on-either passed (λ (w : PassesOn before.out after.out (text_of number given) old new). (w.written, w.appended)) (λ (f : AppendsFront old new (before.out ++ text_of number given)). Grows-front old new _ f) p.ok p.err
+
+  -- all that is promised of the line
+  pub Passed-all : IsAnswered number body passed before after old new
+  Passed-all = record {
+    ok = Passed-ok;
+    refused = Passed-refused;
+    err = Passed-err;
+    grows = Passed-grows;
+    lines = omega (arith, p.lines);
+    refusals = p.refusals;
+  }

@@ -10,11 +10,11 @@ ghost use Rattle.line_core.specs.Script.{answered};
 ghost use Rattle.script_core.specs.Output.{Grows, IsLineAnswer, history_after_line, refusal_of, WritesPrefix};
 
 use crate::totals::Totals;
-use command_core::Answer;
+use command_core::{Answer, Command};
 use desk_core::Desk;
 use line_core::Body;
-use point_core::Refusal;
-use report_core::{pass_answer, write_out};
+use point_core::{Name, Refusal};
+use report_core::{info_text, pass_answer, write_many, write_out};
 use std::alloc::Global;
 use std::io::Write;
 use std::marker::Model;
@@ -37,7 +37,7 @@ impl Model for Answers {
 }
 
 impl Answers {
-    ghost use Rattle.script_core.specs.Answering.{HasAnswered, AnswersFront, AnswersLine, AnswersLines, AnswersMore, Passes};
+    ghost use Rattle.script_core.specs.Answering.{HasAnswered, AnswersFront, AnswersLine, AnswersLines, AnswersMore, IsAnswered, Passes};
 
     /// No line has been answered.
     ///
@@ -103,20 +103,39 @@ impl Answers {
         writer: &mut W,
     ) -> Result<Option<Refusal>, Refusal>
         requires few { self.old.totals.lines < number }
-        ensures ok { OnOk result (AnswersMore (record { number = number; body = body } ∷ [])
-            self.old self.new (W.contents writer.old) (W.contents writer.new)) }
-        ensures refused { IfOk result (λ refused. AnswersLine (record { number = number; body = body }) refused
-            self.old self.new (W.contents writer.old) (W.contents writer.new)) }
-        ensures err { OnErr result (AnswersFront (record { number = number; body = body } ∷ [])
-            self.old (W.contents writer.old) (W.contents writer.new)) }
-        ensures grows { Grows (W.contents writer.old) (W.contents writer.new) }
-        ensures lines { self.new.totals.lines ≤ self.old.totals.lines + 1 }
-        ensures refusals { IfErr result (λ refusal. (refusal ≡ WriteFault) ⊎ (refusal ≡ Memory)) }
+        ensures answered { IsAnswered number body result self.old self.new
+            (W.contents writer.old) (W.contents writer.new) }
     {
+        if let Body::Cmd(Command::Info(name)) = &body {
+            return self.answer_info(number, name, writer);
+        }
         let answer = answer_line(&mut self.desk, body);
         match answer {
             Answer::Refused(refusal) => self.pass_refusal(number, refusal, writer),
             answer => self.pass(number, answer, writer),
+        }
+    }
+
+    /// As `answer_body`, of `info`: the fences become text one by one, and no list is made of them.
+    #[inline(never)]
+    fn answer_info<W: Write>(
+        &mut self,
+        number: u32,
+        name: &Name,
+        writer: &mut W,
+    ) -> Result<Option<Refusal>, Refusal>
+        requires few { self.old.totals.lines < number }
+        ensures answered { IsAnswered number (Body.Cmd (Command.Info name.now)) result self.old self.new
+            (W.contents writer.old) (W.contents writer.new) }
+    {
+        match self.desk.file_info(name) {
+            Ok((status, fences)) => {
+                self.totals = self.totals.with(&Answer::Done);
+                info_text(name, status, fences.len(), fences, &mut self.out)?;
+                write_many(writer, &mut self.out)?;
+                Ok(None)
+            }
+            Err(refusal) => self.pass_refusal(number, refusal, writer),
         }
     }
 
