@@ -1,5 +1,5 @@
 -- The lowest bits of marks, and how marks are joined.
-use Rattle.std.proofs.Common.{◌≡◌, ℕ, ◌+◌, ◌-◌, ◌*◌, ◌/◌, ◌%◌, ◌^◌, ◌<◌, ◌≤◌, Bool, true, false, not, cond, nat_lt, List, length, get_or, take, drop, map, None, Some, unwrap_or, inl, inr, refl, sym, ap, subst, ◌∙◌, arith, w64, pow_mono, length-take, length-drop, take_all, drop-drop}
+use Rattle.std.proofs.Common.{◌≡◌, ℕ, ◌+◌, ◌-◌, ◌*◌, ◌/◌, ◌%◌, ◌^◌, ◌<◌, ◌≤◌, Bool, true, false, not, cond, nat_lt, List, length, get_or, take, drop, map, Option, None, Some, unwrap_or, inl, inr, refl, sym, ap, subst, ◌∙◌, arith, w64, pow_mono, length-take, length-drop, take_all, drop-drop}
 use Rattle.std.specs.Int.{bit_at, trailing_zeros, trailing_ones}
 use Rattle.std.specs.List.{position, position_or_len}
 use Rattle.std.proofs.lemmas.Bool.{cases_lt, lt-ltb, le-ltb}
@@ -11,7 +11,7 @@ use Rattle.std.proofs.lemmas.Simd.{bit_mask_l, leading_from_mask_l}
 use lib.Bits.{bit_or}
 use Rattle.line_core.specs.Marks.{HasMarks, marks_of}
 use Rattle.line_core.specs.Words.{is_space}
-use Rattle.line_core.proofs.Masks.{mask-below, mask-below_lanes, mask-drop, mask-split, first_set, first_set-within}
+use Rattle.line_core.proofs.Masks.{mask-below, mask-below_lanes, mask-drop, mask-split, first_set, first_set-within, position-front}
 
 abbrev pub is_of_word : ℕ → Bool
 is_of_word b = not (is_space b)
@@ -99,6 +99,18 @@ module _ (xs : List ℕ) (m : ℕ) (has : HasMarks xs m) where
 
   pub end-within : trailing_ones w64 m ≤ length xs
   end-within = subst (λ n. n ≤ length xs) (ap (trailing_ones w64) (sym has.marked)) (marked-end_within xs has.few)
+
+front-case : (n k : ℕ) (xs : List ℕ) (place : Option ℕ) → position is_space (take n xs) ≡ place → unwrap_or place (length (take n xs)) ≡ k → k < n → n < length xs → unwrap_or (position is_space xs) (length xs) ≡ k
+front-case n k xs (Some i) at e below less = ap (λ p. unwrap_or p (length xs)) (position-front is_space n xs i at) ∙ e
+front-case n k xs None at e below less = absurd (omega (arith, e, below, less, length-take n xs))
+
+-- the end of the word with which the bytes begin, by the marks of the first n bytes, if it is among these
+pub end-marked_front : (n m : ℕ) (xs : List ℕ) → HasMarks (take n xs) m → (n < length xs → trailing_ones w64 m < n) → unwrap_or (position is_space xs) (length xs) ≡ trailing_ones w64 m
+end-marked_front n m xs has before =
+    elim (cases_lt n (length xs)) [
+      | inl less ↦ front-case n (trailing_ones w64 m) xs (position is_space (take n xs)) refl (end-marked (take n xs) m has) (before less) less
+      | inr whole ↦ subst (λ ys. unwrap_or (position is_space ys) (length ys) ≡ trailing_ones w64 m) (take_all n xs whole) (end-marked (take n xs) m has)
+    ]
 
 pub HasMarks-drop : (n m : ℕ) (xs : List ℕ) → HasMarks xs m → HasMarks (drop n xs) (m / 2 ^ n)
 HasMarks-drop n m xs has = record {

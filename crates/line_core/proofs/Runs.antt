@@ -34,7 +34,7 @@ module _ (p : ℕ → Bool) where
   chosen : (a b i : ℕ) → cond (nat_lt a b) (Some a) None ≡ Some i → (a < b) × (a ≡ i)
   chosen a b i e = let both = cond_some (nat_lt a b) a i e in (grind (arith, nat_tests), both.1)
 
-  unchosen : (a b : ℕ) → cond (nat_lt a b) (Some a) None ≡ None → b ≤ a
+  pub unchosen : (a b : ℕ) → cond (nat_lt a b) (Some a) None ≡ None → b ≤ a
   unchosen a b e = grind (arith, nat_tests)
 
   pub runs-none : (xs : List ℕ) → position (λ x. not (p x)) xs ≡ None → runs xs ≡ []

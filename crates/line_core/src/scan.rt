@@ -33,7 +33,7 @@ pub(crate) fn no_scan() -> Scan
     Scan { feeds: 0, marks: 0 }
 }
 
-/// The scan of the first of `count` bytes, from `start` on.
+/// The scan of the first of `count` bytes, from `start` on. Marks are only of use with a line feed, so none are made without one.
 pub(crate) fn scan_at(block: &[u8], start: usize, count: usize) -> Scan
     requires within { start + SCAN_BYTES ≤ length block.now }
     ensures scanned { IsScanOf (take count (drop start block.now)) result }
@@ -41,14 +41,18 @@ pub(crate) fn scan_at(block: &[u8], start: usize, count: usize) -> Scan
     let known = count.min(MARKED_BYTES);
     let end = start + WIDE_LANES;
     let feeds = (wide_lane_feeds(block, end) << WIDE_LANES) | wide_lane_feeds(block, start);
+    let known_feeds = low_bits(feeds, known);
+    if known_feeds == 0 {
+        return no_scan();
+    }
     let marks = (wide_lane_marks(block, end) << WIDE_LANES) | wide_lane_marks(block, start);
     Scan {
-        feeds: low_bits(feeds, known),
+        feeds: known_feeds,
         marks: low_bits(marks, known),
     }
 }
 
-fn wide_lane_feeds(bytes: &[u8], start: usize) -> u64
+pub(crate) fn wide_lane_feeds(bytes: &[u8], start: usize) -> u64
     requires within { start + WIDE_LANES ≤ length bytes.now }
     ensures feeds { result ≡ feeds_of (take WIDE_LANES (drop start bytes.now)) }
 {

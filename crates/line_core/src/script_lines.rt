@@ -5,7 +5,6 @@ ghost use Rattle.line_core.specs.Cutting.{with_bytes};
 ghost use Rattle.line_core.specs.declared.script.TheConstants.{SCRIPT_BYTES};
 
 use crate::cutter::{HELD_BYTES, LineCutter};
-use crate::marks::MARKED_BYTES;
 use crate::raw_line::RawLine;
 use crate::scan::{SCAN_BYTES, Scan, first_scanned, no_scan, scan_at};
 use crate::script::{Ending, SCRIPT_BYTES, first_line_feed};
@@ -162,13 +161,13 @@ impl ScriptLines {
         }
     }
 
-    /// Scans the bytes that are ready, if the line before has ended and was short, since the next line is then likely
-    /// to be short too. It is not inlined, so that its registers are not the loop's.
+    /// Scans the bytes that are ready, if the line before has ended. It is not inlined, so that its registers are not the
+    /// loop's.
     #[inline(never)]
     fn scan_on(&mut self)
         ensures same { self.new ≡ self.old }
     {
-        if self.ended && self.length < MARKED_BYTES && self.next + SCAN_BYTES <= BLOCK_BYTES {
+        if self.ended && self.next + SCAN_BYTES <= BLOCK_BYTES {
             self.scan = scan_at(&self.block, self.next, self.filled - self.next);
         }
     }

@@ -1,10 +1,10 @@
 //! `Words`: an iterator over the words of a line, which are runs of bytes other than the space. It works with and
 //! without marks.
-ghost use Rattle.std.specs.Prelude.{◌≡◌, ◌∷◌, [], option_map, MatchOption};
+ghost use Rattle.std.specs.Prelude.{◌≡◌, ◌∷◌, ◌≤◌, [], option_map, length, position, unwrap_or, MatchOption};
 ghost use Rattle.line_core.specs.Marks.{HasMarks};
-ghost use Rattle.line_core.specs.Words.{words_of, one_of, two_of, three_of, four_of};
+ghost use Rattle.line_core.specs.Words.{is_space, words_of, one_of, two_of, three_of, four_of};
 
-use crate::marks::marks;
+use crate::marks::{WIDE_LANES, marks, wide_lane_marks};
 use crate::prefix::first_other_than_space;
 use memchr::memchr;
 use std::marker::Model;
@@ -85,9 +85,37 @@ fn first_by_bytes<'a>(bytes: &'a [u8]) -> Option<(&'a [u8], Words<'a>)>
 {
     let start = first_other_than_space(bytes)?;
     let from_word = &bytes[start..];
-    let end = memchr(b' ', from_word).unwrap_or(from_word.len());
+    let end = word_length(from_word);
     let (word, bytes) = from_word.split_at(end);
     Some((word, Words { bytes, marks: None }))
+}
+
+/// The number of bytes before the first space. Most words are shorter than a wide vector, and one comparison finds their end.
+#[inline(always)]
+fn word_length(bytes: &[u8]) -> usize
+    ensures length { result ≡ unwrap_or (position is_space bytes.now) (length bytes.now) }
+    ensures within { result ≤ length bytes.now }
+{
+    if bytes.len() >= WIDE_LANES {
+        let end = wide_lane_marks(bytes, 0).trailing_ones() as usize;
+        if end < WIDE_LANES {
+            return end;
+        }
+    }
+    rare_word_length(bytes)
+}
+
+/// As `word_length`, for a word at the end of its line, or one of many bytes. It is never inlined, so that lines with marks don't
+/// pay for it.
+#[inline(never)]
+fn rare_word_length(bytes: &[u8]) -> usize
+    ensures length { result ≡ unwrap_or (position is_space bytes.now) (length bytes.now) }
+    ensures within { result ≤ length bytes.now }
+{
+    match marks(bytes) {
+        Some(known) => known.trailing_ones() as usize,
+        None => memchr(b' ', bytes).unwrap_or(bytes.len()),
+    }
 }
 
 /// The word, if there is exactly one.

@@ -22,7 +22,7 @@ returns c =
       scanned = record {
         known = known;
         few = omega (arith, c.min-known.ensures);
-        fed = mask-known is_line_feed known 64 count bytes _ c.low_bits.result (omega (arith, c.min-known.ensures)) (omega (arith, c.min-known.ensures)) feeds c.low_bits.ensures.low;
-        marked = mask-known is_of_word known 64 count bytes _ c.low_bits-2.result (omega (arith, c.min-known.ensures)) (omega (arith, c.min-known.ensures)) marks c.low_bits-2.ensures.low;
+        fed = mask-known is_line_feed known 64 count bytes _ c.low_bits-known_feeds.result (omega (arith, c.min-known.ensures)) (omega (arith, c.min-known.ensures)) feeds c.low_bits-known_feeds.ensures.low;
+        marked = mask-known is_of_word known 64 count bytes _ c.low_bits.result (omega (arith, c.min-known.ensures)) (omega (arith, c.min-known.ensures)) marks c.low_bits.ensures.low;
       };
     }

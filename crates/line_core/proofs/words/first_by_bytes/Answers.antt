@@ -2,7 +2,6 @@ use Rattle.std.proofs.Common.{◌≡◌, ◌-◌, length, take, drop, unwrap_or,
 use Rattle.std.specs.List.{position}
 use Rattle.std.proofs.lemmas.List.{take_rest}
 use Rattle.line_core.specs.Words.{is_space}
-use Rattle.line_core.proofs.FirstByte.{first_byte}
 use Rattle.line_core.proofs.Runs.{runs-none, runs-from, runs-from_begins, runs-front}
 use Rattle.line_core.proofs.words.first_by_bytes.Goals as goal
 
@@ -15,12 +14,11 @@ returns c =
     let start = c.in_ok-start.start in
     let rest = drop start bytes in
     let part = take (length bytes - start) rest in
-    let end = c.unwrap_or-end.result in
+    let end = c.word_length-end.result in
     let at = sym c.in_ok-start.ensures.place in
     let begins = runs-from_begins is_space bytes start at in
-    let place : c.memchr.result ≡ position is_space part = first_byte 32 part c.memchr.result c.memchr.ensures in
     let whole : part ≡ rest = simp take_rest refl in
     let ends : unwrap_or (position is_space rest) (length rest) ≡ end =
-    ap (λ xs. unwrap_or (position is_space xs) (length xs)) (sym whole) ∙ sym (rw place at c.unwrap_or-end.ensures) in
+    ap (λ xs. unwrap_or (position is_space xs) (length xs)) (sym whole) ∙ sym c.word_length-end.ensures.length in
     let words = runs-from is_space bytes start at ∙ runs-front is_space rest end begins.0 begins.1 ends in
     rw (c.split_at.ensures.front, c.split_at.ensures.back) (simp take_rest (record { words = words }))
