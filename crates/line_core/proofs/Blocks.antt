@@ -1,16 +1,13 @@
 -- Lines in a block of bytes.
-use Rattle.std.proofs.Common.{◌≡◌, ℕ, ◌+◌, ◌-◌, ◌<◌, ◌≤◌, ◌==◌, min, Bool, true, false, cond, inl, inr, List, [], ◌∷◌, ◌++◌, length, take, drop, Option, Some, refl, sym, ap, ◌∙◌, subst, append-nil, length-append, length-take, arith}
+use Rattle.std.proofs.Common.{◌≡◌, ℕ, ◌+◌, ◌-◌, ◌<◌, ◌≤◌, ◌==◌, min, Bool, true, false, cond, inl, inr, List, [], ◌∷◌, ◌++◌, length, take, drop, Option, refl, sym, ap, ◌∙◌, subst, append-nil, length-append, length-take, arith}
 use Rattle.std.specs.Io.KnownBytes.{Consumes}
 use Rattle.std.proofs.KnownBytes.{Consumes-trans}
-use Rattle.std.proofs.lemmas.Bool.{cases_lt, false≢true}
+use Rattle.std.proofs.lemmas.Bool.{cases_lt}
 use Rattle.std.proofs.lemmas.Bool.Decides.{nat_tests}
 use Rattle.std.proofs.lemmas.List.{take_all, take-take, take-append-le, drop-drop, drop-take}
 use Rattle.line_core.specs.declared.cutter.TheConstants.{HELD_BYTES}
-use Rattle.line_core.specs.declared.scan.Scan.{Scan}
 use Rattle.line_core.specs.Cutting.{cut}
-use Rattle.line_core.specs.Marks.{HasMarks}
-use Rattle.line_core.specs.Scan.{IsScanOf}
-use Rattle.line_core.specs.ScriptLines.{LinesState, line_bytes, gone_on, ended_at, IsLaidOut, IsScanned}
+use Rattle.line_core.specs.ScriptLines.{LinesState, line_bytes, skipped_to}
 
 -- the smaller of two bounds counts
 pub take-both : (m n : ℕ) (xs : List ℕ) → take m (take n xs) ≡ take (min n m) xs
@@ -58,12 +55,11 @@ line-held held held' block piece piece' start start' len len' none e same none' 
     is_held : (xs : List ℕ) (s l : ℕ) → (length xs ≡ 0 → l ≡ 0) → line_bytes xs block s l ≡ xs
     is_held xs s l h = either xs s l h (length xs == 0) refl
 
--- the bytes after a line feed
-pub ready-behind : (block : List ℕ) (next filled place : ℕ) → next + (place + 1) ≤ filled
-    → take (filled - (next + (place + 1))) (drop (next + (place + 1)) block) ≡ drop (place + 1) (take (filled - next) (drop next block))
-ready-behind block next filled place within =
-    let whole : filled - next ≡ place + 1 + (filled - (next + (place + 1))) = omega arith in
-    ap (λ xs. take (filled - (next + (place + 1))) xs) (sym (drop-drop (place + 1) next block)) ∙ sym (drop-take (place + 1) (filled - (next + (place + 1))) (drop next block)) ∙ ap (λ n. drop (place + 1) (take n (drop next block))) (sym whole)
+-- the bytes after the first n
+pub ready-behind : (block : List ℕ) (next filled n : ℕ) → next + n ≤ filled → take (filled - (next + n)) (drop (next + n) block) ≡ drop n (take (filled - next) (drop next block))
+ready-behind block next filled n within =
+    let whole : filled - next ≡ n + (filled - (next + n)) = omega arith in
+    ap (λ xs. take (filled - (next + n)) xs) (sym (drop-drop n next block)) ∙ sym (drop-take n (filled - (next + n)) (drop next block)) ∙ ap (λ k. drop n (take k (drop next block))) (sym whole)
 
 -- the first bytes of a block that was read into
 pub ready-read : (buf rest : List ℕ) (count limit : ℕ) → count ≤ length buf → take (min count limit) (buf ++ rest) ≡ take limit (take count buf)
@@ -84,52 +80,27 @@ some_from n e = grind (arith, nat_tests)
 pub held-some : (held piece : List ℕ) → 0 < length held → 0 < length (cut (held ++ piece))
 held-some held piece some = omega (arith, length-take HELD_BYTES (held ++ piece), length-append held piece)
 
--- ---- a line whose end was known
-
-line-known : (block : List ℕ) (next filled end : ℕ) → end ≤ HELD_BYTES → end ≤ filled - next → line_bytes [] block next end ≡ take end (take (filled - next) (drop next block))
-line-known block next filled end few within =
-    let least : min end HELD_BYTES ≡ end = omega arith in
-    ap (λ n. take n (drop next block)) least ∙ sym (take-take end (filled - next) (drop next block) within)
-
--- the places after it
-pub laid-known : (next filled start len read num end : ℕ) (ended : Bool) (held held' : List ℕ) → IsLaidOut next filled start len read num ended held → ended ≡ true → end < filled - next
-    → IsLaidOut (next + (end + 1)) filled next end read (num + 1) ended held'
-laid-known next filled start len read num end ended held held' kept is within = record {
-  within = omega (arith, kept.within, within);
-  block = kept.block;
-  few = kept.few;
-  start_in = omega (arith, kept.within, kept.block);
-  line = λ _. omega (arith, kept.within, kept.block, within);
-  begun = λ e. absurd (false≢true (sym e ∙ is));
-  long = omega (arith, kept.long, within);
-  numbers = omega (arith, kept.numbers, within);
-}
-
-pub scanned-known : (block : List ℕ) (next filled end m : ℕ) (ended : Bool) (s : Scan) → end < 63 → end < filled - next → ended ≡ true
-    → HasMarks (take end (take (filled - next) (drop next block))) m → IsScanOf (drop (end + 1) (take (filled - next) (drop next block))) s
-    → IsScanned (line_bytes [] block next end) (take (filled - (next + (end + 1))) (drop (next + (end + 1)) block)) ended (Some m) s
-scanned-known block next filled end m ended s few within is marks rest = record {
-  of_line = subst (λ xs. HasMarks xs m) (sym (line-known block next filled end (omega (arith, few)) (omega (arith, within)))) marks;
-  of_ready = subst (λ xs. IsScanOf xs s) (sym (ready-behind block next filled end (omega (arith, within)))) rest;
-  whole = λ _. is;
-}
+-- ---- lines that were skipped
 
 abbrev state_of : ℕ → ℕ → Bool → List ℕ → ℕ → List ℕ → LinesState
 state_of read num ended line len ready = record { read = read; number = num; ended = ended; line = line; length = len; ready = ready }
 
--- the state with it
-pub state-known : (block line : List ℕ) (next filled len read num end : ℕ) (ended : Bool) → end ≤ filled - next → next + (end + 1) ≤ filled → ended ≡ true
-    → state_of read (num + 1) ended (line_bytes [] block next end) end (take (filled - (next + (end + 1))) (drop (next + (end + 1)) block))
-    ≡ ended_at (gone_on (state_of read num ended line len (take (filled - next) (drop next block)))) end
-state-known block line next filled len read num end ended within inside is =
+-- the state after them
+pub state-skipped : (block line held : List ℕ) (next filled start len read num num' left : ℕ) (ended : Bool) → held ≡ [] → ended ≡ true → next ≤ filled → length (take (filled - next) (drop next block)) ≡ filled - next → left ≤ filled - next
+    → state_of read num' ended (line_bytes held block start 0) 0 (take (filled - (filled - left)) (drop (filled - left) block))
+    ≡ skipped_to (state_of read num ended line len (take (filled - next) (drop next block))) num' left
+state-skipped block line held next filled start len read num num' left ended none is inside many within =
     let ready = take (filled - next) (drop next block) in
-    let whole : end ≡ 0 + end = omega arith in
-    let bytes : line_bytes [] block next end ≡ cut ([] ++ take end ready) = sym (take-both HELD_BYTES end (drop next block)) ∙ ap cut (sym (take-take end (filled - next) (drop next block) within)) in
+    let nothing : min 0 HELD_BYTES ≡ 0 = omega arith in
+    let at : filled - left ≡ next + (length ready - left) = omega (arith, many, inside, within) in
+    let few : next + (length ready - left) ≤ filled = omega (arith, many, inside, within) in
+    let bytes : line_bytes held block start 0 ≡ [] = ap (λ xs. line_bytes xs block start 0) none ∙ ap (λ n. take n (drop start block)) nothing in
+    let rest : take (filled - (filled - left)) (drop (filled - left) block) ≡ drop (length ready - left) ready = ap (λ n. take (filled - n) (drop n block)) at ∙ ready-behind block next filled (length ready - left) few in
     λ i. record {
       read = read;
-      number = sym (ap (λ b. cond b (num + 1) num) is) i;
+      number = num';
       ended = is i;
-      line = (bytes ∙ sym (ap (λ b. cut (cond b [] line ++ take end ready)) is)) i;
-      length = (whole ∙ sym (ap (λ b. cond b 0 len + end) is)) i;
-      ready = ready-behind block next filled end inside i;
+      line = bytes i;
+      length = 0;
+      ready = rest i;
     }

@@ -6,7 +6,6 @@ use Rattle.point_core.specs.declared.refusal.Refusal.TheVariants.{LongLine}
 use Rattle.line_core.specs.declared.cutter.TheConstants.{HELD_BYTES}
 use Rattle.line_core.specs.declared.line.Body.{Body}
 use Rattle.line_core.specs.declared.line.Body.TheVariants.{Bad}
-use Rattle.line_core.specs.declared.line.Line.{Line}
 use Rattle.line_core.specs.declared.line.TheConstants.{LINE_BYTES}
 use Rattle.line_core.specs.declared.script.Ending.{Ending}
 use Rattle.line_core.specs.declared.script.Ending.TheVariants as ending
@@ -15,6 +14,7 @@ use Rattle.line_core.specs.Reading.{EndsSo, ConsumesAtMost}
 use Rattle.line_core.specs.Cutting.{cut}
 use Rattle.line_core.specs.Line.{body_from, body_of}
 use Rattle.line_core.specs.Script.{last_body, answered, numbered, lines_until}
+pub use Rattle.line_core.specs.Script.{ended_lines}
 use Rattle.line_core.specs.ScriptLines.{LinesState, HasGiven, HasEnded}
 use Rattle.line_core.specs.Words.{words_of}
 use Rattle.line_core.proofs.Fronts.{answered-append}
@@ -31,11 +31,6 @@ pub last_body-cut : (end : Ending) (line : List ℕ) → last_body end (cut line
 last_body-cut ending.Whole line = body_of-cut line
 last_body-cut ending.TooLong line = refl
 last_body-cut ending.Failed line = refl
-
--- lines whose line feed was read
-abbrev pub ended_lines : ℕ → List (List ℕ) → List Line
-ended_lines number [] = []
-ended_lines number (line ∷ more) = answered number (body_of line) (ended_lines (number + 1) more)
 
 ended_lines-push : (number : ℕ) (given : List (List ℕ)) (line : List ℕ) → ended_lines number (given ++ line ∷ []) ≡ ended_lines number given ++ answered (number + length given) (body_of line) []
 ended_lines-push number [] line =

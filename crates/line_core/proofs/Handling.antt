@@ -9,10 +9,10 @@ use Rattle.line_core.specs.Cutting.{cut}
 use Rattle.line_core.specs.Handling.{BeginsScript, FailsLast, Handled, HandlesLast, HandlesLine, HandlesScript, StopsAmong}
 use Rattle.line_core.specs.Line.{body_of}
 use Rattle.line_core.specs.Reading.{EndsSo, WasRead}
-use Rattle.line_core.specs.Script.{answered, ending_of, last_body, lines_of, lines_until, numbered, script_of}
+use Rattle.line_core.specs.Script.{answered, ended_lines, ending_of, last_body, lines_of, lines_until, numbered, script_of}
 use Rattle.line_core.specs.ScriptLines.{HasEnded, HasGiven, LinesState}
 use Rattle.line_core.proofs.Cutting.{take-append}
-use Rattle.line_core.proofs.EndedLines.{ended_lines, last-answered, line-answered, numbered-given}
+use Rattle.line_core.proofs.EndedLines.{last-answered, line-answered, numbered-given}
 use Rattle.line_core.proofs.Fronts.{some_lines}
 use Rattle.line_core.proofs.Inputs.{input_from, script_of-too_long, script_of-whole}
 

@@ -6,6 +6,7 @@ pub mod FirstByte
 pub mod Fitting
 pub mod Fronts
 pub mod GivenLines
+pub mod HandledLines
 pub mod Handling
 pub mod Inputs
 pub mod LineLemmas

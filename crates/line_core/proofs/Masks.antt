@@ -67,11 +67,10 @@ module _ (p : ℕ → Bool) where
       ∙ ap (λ ys. mask (drop n both) * 2 ^ n + mask ys) first
       ∙ mask-split n both
 
-  -- the first n of `count` bytes, from the mask of the first `most`
-  pub mask-known : (n most count : ℕ) (xs : List ℕ) (all m : ℕ) → n ≤ most → n ≤ count → all ≡ mask (take most xs) → m ≡ all % 2 ^ n → m ≡ mask (take n (take count xs))
-  mask-known n most count xs all m in_most in_count whole low =
-      low ∙ ap (λ a. a % 2 ^ n) whole ∙ sym (mask-take n (take most xs))
-      ∙ ap mask (take-take n most xs in_most ∙ sym (take-take n count xs in_count))
+  -- the first n bytes, from the mask of the first `most`
+  pub mask-known : (n most : ℕ) (xs : List ℕ) (all m : ℕ) → n ≤ most → all ≡ mask (take most xs) → m ≡ all % 2 ^ n → m ≡ mask (take n xs)
+  mask-known n most xs all m within whole low =
+      low ∙ ap (λ a. a % 2 ^ n) whole ∙ sym (mask-take n (take most xs)) ∙ ap mask (take-take n most xs within)
 
   set_within : (xs : List ℕ) (k : ℕ) → bit_at (mask xs) k ≡ 1 → k < length xs
   set_within xs k e =

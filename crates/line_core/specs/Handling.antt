@@ -7,7 +7,8 @@ use Rattle.line_core.specs.declared.script.Ending.TheVariants as ending
 use Rattle.line_core.specs.declared.script.TheConstants.{SCRIPT_BYTES}
 use Rattle.line_core.specs.Cutting.{cut}
 use Rattle.line_core.specs.Reading.{IsInput, WasRead}
-use Rattle.line_core.specs.Script.{answered, last_body, lines_of, lines_until, script_of}
+use Rattle.line_core.specs.Script.{answered, ended_lines, last_body, lines_of, lines_until, script_of}
+use Rattle.line_core.specs.ScriptLines.{GivesLine, HasGiven, LinesState}
 
 -- How lines were handled: relates the state before the first line, the lines, the ones of them that have an answer, and
 -- the state after the last.
@@ -62,6 +63,37 @@ pub record StopsAmong {S : Type 0} (failed : Handled S) (input : Option (List �
   pub said : List Line
   pub begins : BeginsScript input lines said
   pub at : failed start lines said now
+
+-- ---- the lines that were returned
+
+-- they were handled
+pub record HandlesGiven {S : Type 0} (handled : Handled S) (before now : Option (List ℕ)) (s : LinesState) (start at : S) : Type 0 where
+  pub given : List (List ℕ)
+  pub has : HasGiven before now s given
+  pub so_far : handled start given (ended_lines 1 given) at
+
+-- they were handled, but for the last
+pub record HandlesBefore {S : Type 0} (handled : Handled S) (before now : Option (List ℕ)) (s : LinesState) (start at : S) : Type 0 where
+  pub given : List (List ℕ)
+  pub gives : GivesLine before now given s
+  pub so_far : handled start given (ended_lines 1 given) at
+
+-- the line that was returned last is to be handled
+pub record IsDue {S : Type 0} (handled : Handled S) (s : LinesState) (at : S) : Type 0 where
+  pub before : Option (List ℕ)
+  pub now : Option (List ℕ)
+  pub start : S
+  pub is : HandlesBefore handled before now s start at
+
+-- that line was handled, and the lines that were returned after it
+abbrev pub HandlesOn : {S : Type 0} → Handled S → LinesState → LinesState → S → S → Type 0
+HandlesOn {S} handled s t old new = (before now : Option (List ℕ)) (start : S) → HandlesBefore handled before now s start old → HandlesGiven handled before now t start new
+
+-- a call failed in that line, or in one of the lines after it
+abbrev pub StopsOn : {S : Type 0} → Handled S → Handled S → LinesState → S → S → Type 0
+StopsOn {S} handled failed s old new = (before now : Option (List ℕ)) (start : S) → HandlesBefore handled before now s start old → StopsAmong failed before start new
+
+-- ---- the whole script
 
 -- The bytes of a script were read to the ending `end`, and their lines were handled: all of them, or, if a read failed, all
 -- but the line in which it failed (`unread`).

@@ -36,6 +36,11 @@ numbered end number [] = []
 numbered end number (last ∷ []) = answered number (last_body end last) []
 numbered end number (line ∷ next ∷ more) = answered number (body_of line) (numbered end (number + 1) (next ∷ more))
 
+-- the lines that have an answer, of lines that all end with a line feed
+abbrev pub ended_lines : ℕ → List (List ℕ) → List Line
+ended_lines number [] = []
+ended_lines number (line ∷ more) = answered number (body_of line) (ended_lines (number + 1) more)
+
 -- the lines that have an answer, of a script that ends so
 abbrev pub lines_until : Ending → List ℕ → List Line
 lines_until end bytes = numbered end 1 (lines_of bytes)

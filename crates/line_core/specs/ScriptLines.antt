@@ -1,15 +1,12 @@
 -- The lines of a script that a reader gives.
-use Rattle.std.specs.Prelude.{◌≡◌, ℕ, ◌+◌, ◌-◌, ◌*◌, ◌==◌, ◌<◌, ◌≤◌, min, Bool, true, false, if◌then◌else◌, List, [], ◌∷◌, ◌++◌, length, take, drop, position, Option, None, Some}
+use Rattle.std.specs.Prelude.{◌≡◌, ℕ, ◌+◌, ◌-◌, ◌*◌, ◌==◌, ◌≤◌, min, Bool, true, false, if◌then◌else◌, List, [], ◌∷◌, ◌++◌, length, take, drop, position, Option, None, Some}
 use Rattle.std.specs.Io.KnownBytes.{Consumes}
 use Rattle.line_core.specs.declared.cutter.TheConstants.{HELD_BYTES}
-use Rattle.line_core.specs.declared.scan.Scan.{Scan}
 use Rattle.line_core.specs.declared.script_lines.TheConstants.{BLOCK_BYTES}
 use Rattle.line_core.specs.declared.script.Ending.{Ending}
 use Rattle.line_core.specs.declared.script.TheConstants.{SCRIPT_BYTES}
 use Rattle.line_core.specs.Reading.{WasRead}
 use Rattle.line_core.specs.Cutting.{cut}
-use Rattle.line_core.specs.Marks.{MayHaveMarks}
-use Rattle.line_core.specs.Scan.{IsScanOf}
 use Rattle.line_core.specs.Script.{is_line_feed, lines_of}
 
 -- how far a script was read, and the line that was returned last
@@ -127,6 +124,17 @@ filled_with s bytes = record {
   ready = take (SCRIPT_BYTES - s.read) bytes;
 }
 
+-- the lines up to that number were returned, and `left` of the ready bytes are left
+abbrev pub skipped_to : LinesState → ℕ → ℕ → LinesState
+skipped_to s num left = record {
+  read = s.read;
+  number = num;
+  ended = true;
+  line = [];
+  length = 0;
+  ready = drop (length s.ready - left) s.ready;
+}
+
 -- the next line ends at its line feed, the first among the ready bytes
 pub record EndsLine (old new : LinesState) : Type 0 where
   pub place : ℕ
@@ -137,6 +145,20 @@ pub record EndsLine (old new : LinesState) : Type 0 where
 abbrev pub Advances : LinesState → Bool → LinesState → Type 0
 Advances old true new = EndsLine old new
 Advances old false new = (position is_line_feed old.ready ≡ None) × (new ≡ all_held (gone_on old))
+
+-- ---- lines that scans find
+
+-- the number of the line that was returned last, and the bytes after it
+pub record Place : Type 0 where
+  pub number : ℕ
+  pub ready : List ℕ
+
+-- the next line, by its number, length and bytes, ends at the first line feed
+pub record IsNextLine (old new : Place) (num len : ℕ) (bytes : List ℕ) : Type 0 where
+  pub found : position is_line_feed old.ready ≡ Some len
+  pub number : num ≡ old.number + 1
+  pub held : bytes ≡ cut (take len old.ready)
+  pub is : new ≡ record { number = old.number + 1; ready = drop (len + 1) old.ready }
 
 -- ---- how they are stored
 
@@ -154,9 +176,3 @@ pub record IsLaidOut (next filled start len read num : ℕ) (ended : Bool) (held
   pub begun : ended ≡ false → length held ≡ 0 → len ≡ 0
   pub long : len + (filled - next) ≤ read
   pub numbers : num + (if ended then 1 else 0) + (filled - next) ≤ read + 1
-
--- The marks are the line's, if they are known, and the scan is of the bytes after the line, once it has ended.
-pub record IsScanned (line ready : List ℕ) (ended : Bool) (marks : Option ℕ) (s : Scan) : Type 0 where
-  pub of_line : MayHaveMarks line marks
-  pub of_ready : IsScanOf ready s
-  pub whole : 0 < s.feeds → ended ≡ true

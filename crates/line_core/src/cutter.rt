@@ -1,6 +1,6 @@
 //! `LineCutter`: cuts a script into lines as its bytes arrive, in constant memory. `ScriptLines` keeps in it the line
 //! that spans two blocks, which it adds in parts. Users of the library feed it byte by byte; no program here does.
-ghost use Rattle.std.specs.Prelude.{◌≡◌, ◌+◌, ◌^◌, ◌<◌, ◌≤◌, ◌==◌, [], length};
+ghost use Rattle.std.specs.Prelude.{◌≡◌, ◌≤◌, ◌==◌, [], length};
 
 use crate::line::{LINE_BYTES, Line};
 use crate::takes::body_of;
@@ -32,7 +32,7 @@ impl Model for LineCutter {
 
 impl LineCutter {
     ghost use Rattle.line_core.specs.declared.script.TheConstants.{SCRIPT_BYTES};
-    ghost use Rattle.line_core.specs.Cutting.{line_of, line_at, line_after, next_line, with_bytes};
+    ghost use Rattle.line_core.specs.Cutting.{line_of, line_at, line_after, with_bytes};
 
     /// A cutter at the start of line 1.
     pub fn new() -> LineCutter
@@ -67,7 +67,7 @@ impl LineCutter {
             return None;
         }
         let line = self.line();
-        self.next_line();
+        self.begin_line(self.number + 1);
         line
     }
 
@@ -110,12 +110,11 @@ impl LineCutter {
         self.length += count;
     }
 
-    /// Begins the next line.
-    pub(crate) fn next_line(&mut self)
-        requires few { self.old.number + 1 < 2 ^ 32 }
-        ensures next { self.new ≡ next_line self.old }
+    /// Begins the line of this number.
+    pub(crate) fn begin_line(&mut self, number: u32)
+        ensures begun { self.new ≡ record { number = number; bytes = [] } }
     {
-        self.number += 1;
+        self.number = number;
         self.length = 0;
     }
 }

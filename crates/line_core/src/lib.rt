@@ -13,6 +13,7 @@ mod number;
 mod prefix;
 mod raw_line;
 mod scan;
+mod scanned_lines;
 mod script;
 mod script_lines;
 mod spelling;

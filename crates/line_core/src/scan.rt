@@ -13,7 +13,7 @@ pub(crate) const SCAN_BYTES: usize = 2 * WIDE_LANES;
 /// Two bit masks with one bit for each byte: set at a line feed, and set at a byte of a word.
 #[derive(Clone, Copy)]
 pub(crate) struct Scan {
-    feeds: u64,
+    pub(crate) feeds: u64,
     marks: u64,
 }
 
@@ -28,28 +28,27 @@ pub(crate) struct ScannedLine {
 /// The scan of no bytes.
 pub(crate) fn no_scan() -> Scan
     ensures none { (bytes : List ℕ) → IsScanOf bytes result }
-    ensures feeds { result.feeds ≡ 0 }
 {
     Scan { feeds: 0, marks: 0 }
 }
 
-/// The scan of the first of `count` bytes, from `start` on. Marks are only of use with a line feed, so none are made without one.
-pub(crate) fn scan_at(block: &[u8], start: usize, count: usize) -> Scan
-    requires within { start + SCAN_BYTES ≤ length block.now }
-    ensures scanned { IsScanOf (take count (drop start block.now)) result }
+/// The scan of the first bytes, if they are enough. Marks are only of use with a line feed, so none are made without one. It is not
+/// inlined, so that its registers are not the loop's.
+#[inline(never)]
+pub(crate) fn scan_front(bytes: &[u8]) -> Scan
+    ensures scanned { IsScanOf bytes.now result }
 {
-    let known = count.min(MARKED_BYTES);
-    let end = start + WIDE_LANES;
-    let feeds = (wide_lane_feeds(block, end) << WIDE_LANES) | wide_lane_feeds(block, start);
-    let known_feeds = low_bits(feeds, known);
-    if known_feeds == 0 {
+    if bytes.len() < SCAN_BYTES {
         return no_scan();
     }
-    let marks = (wide_lane_marks(block, end) << WIDE_LANES) | wide_lane_marks(block, start);
-    Scan {
-        feeds: known_feeds,
-        marks: low_bits(marks, known),
+    let feeds = (wide_lane_feeds(bytes, WIDE_LANES) << WIDE_LANES) | wide_lane_feeds(bytes, 0);
+    let feeds = low_bits(feeds, MARKED_BYTES);
+    if feeds == 0 {
+        return no_scan();
     }
+    let marks = (wide_lane_marks(bytes, WIDE_LANES) << WIDE_LANES) | wide_lane_marks(bytes, 0);
+    let marks = low_bits(marks, MARKED_BYTES);
+    Scan { feeds, marks }
 }
 
 pub(crate) fn wide_lane_feeds(bytes: &[u8], start: usize) -> u64
@@ -69,7 +68,6 @@ pub(crate) fn first_scanned(bytes: &[u8], scan: &Scan) -> Option<ScannedLine>
     ensures few { IfSome result (λ line. line.end < MARKED_BYTES) }
     ensures marks { IfSome result (λ line. HasMarks (take line.end bytes.now) line.marks) }
     ensures rest { IfSome result (λ line. IsScanOf (drop (line.end + 1) bytes.now) line.rest) }
-    ensures some { IfSome result (λ _. 0 < scan.now.feeds) }
 {
     if scan.feeds == 0 {
         return None;

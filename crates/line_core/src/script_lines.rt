@@ -1,12 +1,11 @@
 //! `ScriptLines`: the lines of a script from a reader. It keeps one block, and lines that lie within the block are not
 //! copied.
-ghost use Rattle.std.specs.Prelude.{◌≡◌, ◌+◌, ◌<◌, ◌≤◌, true, false, List, ℕ, [], length, take, drop, Option, None, IfSome, if◌then◌else◌};
+ghost use Rattle.std.specs.Prelude.{◌≡◌, ◌+◌, ◌^◌, ◌<◌, ◌≤◌, true, false, List, ℕ, [], length, take, drop, Option, None, IfSome, if◌then◌else◌};
 ghost use Rattle.line_core.specs.Cutting.{with_bytes};
 ghost use Rattle.line_core.specs.declared.script.TheConstants.{SCRIPT_BYTES};
 
 use crate::cutter::{HELD_BYTES, LineCutter};
 use crate::raw_line::RawLine;
-use crate::scan::{SCAN_BYTES, Scan, first_scanned, no_scan, scan_at};
 use crate::script::{Ending, SCRIPT_BYTES, first_line_feed};
 use std::io::Read;
 use std::marker::Model;
@@ -30,14 +29,11 @@ pub struct ScriptLines {
     length: usize,
     // whether the line's line feed was read
     ended: bool,
-    // the marks of the line's bytes, if they are known, and the scan of the bytes after it
-    marks: Option<u64>,
-    scan: Scan,
 }
 
 impl Model for ScriptLines {
     ghost use Rattle.std.specs.Prelude.{◌-◌, take, drop};
-    ghost use Rattle.line_core.specs.ScriptLines.{LinesState, line_bytes, IsLaidOut, IsScanned};
+    ghost use Rattle.line_core.specs.ScriptLines.{LinesState, line_bytes, IsLaidOut};
 
     ghost Value = { LinesState };
 
@@ -51,14 +47,12 @@ impl Model for ScriptLines {
     } };
 
     ghost invariant = { λ s.
-        IsLaidOut s.next s.filled s.start s.length s.read s.cutter.number s.ended s.cutter.bytes
-        × IsScanned (line_bytes s.cutter.bytes s.block s.start s.length)
-        (take (s.filled - s.next) (drop s.next s.block)) s.ended s.marks s.scan };
+        IsLaidOut s.next s.filled s.start s.length s.read s.cutter.number s.ended s.cutter.bytes };
 }
 
 impl ScriptLines {
     ghost use Rattle.line_core.specs.ScriptLines.{HasGiven, GoesOn, HasEnded, IsDrained, turns_to_come};
-    ghost use Rattle.line_core.specs.ScriptLines.{gone_on, ended_at, all_held, filled_with, Advances, EndsLine};
+    ghost use Rattle.line_core.specs.ScriptLines.{gone_on, ended_at, all_held, filled_with, skipped_to};
 
     /// No read was made, and no line returned.
     pub fn new() -> ScriptLines
@@ -74,8 +68,6 @@ impl ScriptLines {
             start: 0,
             length: 0,
             ended: false,
-            marks: None,
-            scan: no_scan(),
         }
     }
 
@@ -86,12 +78,7 @@ impl ScriptLines {
         ensures bytes { result.bytes.now ≡ self.now.line }
         ensures length { result.length ≡ self.now.length }
     {
-        RawLine {
-            number: self.cutter.number(),
-            bytes: self.line_bytes(),
-            length: self.length,
-            marks: self.marks,
-        }
+        RawLine::new(self.cutter.number(), self.line_bytes(), self.length)
     }
 
     fn line_bytes(&self) -> &[u8]
@@ -105,48 +92,13 @@ impl ScriptLines {
         }
     }
 
-    /// Advances to the next line, if its line feed was read; else returns false. It is inlined: a loop over lines then has the
-    /// line's place and marks in registers.
-    #[inline(always)]
+    /// Advances to the next line, if its line feed was read; else returns false. It searches for the line feed.
+    #[inline(never)]
     pub fn advance(&mut self) -> bool
         ensures next { (before now : Option (List ℕ)) → (given : List (List ℕ)) →
             HasGiven before now self.old given → GoesOn before now given result self.new }
         ensures drained { result ≡ false → IsDrained self.new }
         ensures turns { turns_to_come self.new + (if result then 1 else 0) ≤ turns_to_come self.old }
-    {
-        if self.end_scanned() {
-            return true;
-        }
-        self.scan_on();
-        if self.end_scanned() {
-            return true;
-        }
-        self.advance_unscanned()
-    }
-
-    /// Advances to the next line, if its line feed is in the scan.
-    #[inline(always)]
-    fn end_scanned(&mut self) -> bool
-        ensures ended { result ≡ true → EndsLine self.old self.new }
-        ensures same { result ≡ false → self.new ≡ self.old }
-    {
-        let scan = self.scan;
-        let Some(line) = first_scanned(&self.block[self.next..self.filled], &scan) else {
-            return false;
-        };
-        self.cutter.next_line();
-        self.start = self.next;
-        self.length = line.end;
-        self.next += line.end + 1;
-        self.marks = Some(line.marks);
-        self.scan = line.rest;
-        true
-    }
-
-    /// Advances to the next line by a search of the bytes that were read.
-    #[inline(never)]
-    fn advance_unscanned(&mut self) -> bool
-        ensures advanced { Advances self.old result self.new }
     {
         self.go_on();
         match first_line_feed(self.ready()) {
@@ -161,15 +113,16 @@ impl ScriptLines {
         }
     }
 
-    /// Scans the bytes that are ready, if the line before has ended. It is not inlined, so that its registers are not the
-    /// loop's.
-    #[inline(never)]
-    fn scan_on(&mut self)
-        ensures same { self.new ≡ self.old }
+    /// Skips the lines up to line `number`, and all ready bytes but the last `left`.
+    pub(crate) fn skip_to(&mut self, number: u32, left: usize)
+        requires ended { self.old.ended ≡ true }
+        requires within { left ≤ length self.old.ready }
+        requires few { number + left ≤ self.old.number + length self.old.ready }
+        ensures skipped { self.new ≡ skipped_to self.old number left }
     {
-        if self.ended && self.next + SCAN_BYTES <= BLOCK_BYTES {
-            self.scan = scan_at(&self.block, self.next, self.filled - self.next);
-        }
+        self.cutter.begin_line(number);
+        self.length = 0;
+        self.next = self.filled - left;
     }
 
     /// Reads once, at most a block; returns none if bytes were read, else how the script ends. An interrupted read
@@ -189,8 +142,6 @@ impl ScriptLines {
             return Some(Ending::TooLong);
         }
         let room = (SCRIPT_BYTES + 1 - self.read).min(BLOCK_BYTES);
-        self.marks = None;
-        self.scan = no_scan();
         match reader.read(&mut self.block[..room]) {
             Ok(0) => Some(Ending::Whole),
             Ok(count) => {
@@ -203,8 +154,10 @@ impl ScriptLines {
         }
     }
 
-    fn ready(&self) -> &[u8]
+    /// The bytes that were read after the present line.
+    pub(crate) fn ready(&self) -> &[u8]
         ensures bytes { result.now ≡ self.now.ready }
+        ensures few { self.now.number + length result.now < 2 ^ 32 }
     {
         &self.block[self.next..self.filled]
     }
@@ -214,11 +167,9 @@ impl ScriptLines {
         ensures gone { self.new ≡ gone_on self.old }
     {
         if self.ended {
-            self.cutter.next_line();
+            self.cutter.begin_line(self.cutter.number() + 1);
             self.length = 0;
             self.ended = false;
-            self.marks = None;
-            self.scan = no_scan();
         }
     }
 
@@ -235,8 +186,6 @@ impl ScriptLines {
         self.length += place;
         self.next += place + 1;
         self.ended = true;
-        self.marks = None;
-        self.scan = no_scan();
     }
 
     fn hold_all(&mut self)
@@ -247,8 +196,6 @@ impl ScriptLines {
         add_part(&mut self.cutter, &self.block, self.next, count);
         self.length += count;
         self.next = self.filled;
-        self.marks = None;
-        self.scan = no_scan();
     }
 }
 

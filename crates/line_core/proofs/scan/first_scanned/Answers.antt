@@ -28,5 +28,4 @@ returns c =
       few = omega (arith, within, is.few);
       marks = scanned-marks bytes scan is end c.low_bits-marks.result within c.low_bits-marks.ensures.low;
       rest = scanned-rest bytes scan is (end + 1) _ (omega (arith, within)) refl refl;
-      some = some;
     }

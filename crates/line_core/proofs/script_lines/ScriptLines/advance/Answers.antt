@@ -1,39 +1,36 @@
-use Rattle.std.proofs.Common.{◌≡◌, true, refl, subst, ◌∙◌}
-use Rattle.line_core.specs.ScriptLines.{Advances, EndsLine}
+use Rattle.std.proofs.Common.{true, false, ap, sym, ◌∙◌}
+use Rattle.line_core.specs.ScriptLines.{Advances, ended_at, all_held}
 use Rattle.line_core.proofs.GivenLines.{Advances-next, Advances-drained, Advances-turns}
 use Rattle.line_core.proofs.script_lines.ScriptLines.advance.Goals as goal
 
-pub returns-then-end_scanned : goal.returns-then-end_scanned
-returns-then-end_scanned c =
+pub returns-in-Some : goal.returns-in-Some
+returns-in-Some c =
     let old = c.args.self.now in
-    let new = c.end_scanned.new.self in
-    let went : Advances old true new = c.if-end_scanned.ensures.ended refl in
+    let new = c.end_at.new.self in
+    let place = c.in-Some.place in
+    let gone = c.go_on.ensures.gone in
+    let went : Advances old true new = record {
+      place = place;
+      found = sym (rw (c.ready.ensures.bytes ∙ ap (λ s. s.ready) gone) at c.in-Some.ensures.place);
+      is = c.end_at.ensures.ended ∙ ap (λ s. ended_at s place) gone;
+    } in
     record {
       next = λ before now given p. Advances-next before now old new given p true went;
       drained = λ e. Advances-drained old new true e went;
       turns = Advances-turns old new true went;
     }
 
-pub returns-then-end_scanned-2 : goal.returns-then-end_scanned-2
-returns-then-end_scanned-2 c =
+pub returns-in-None : goal.returns-in-None
+returns-in-None c =
     let old = c.args.self.now in
-    let new = c.end_scanned-2.new.self in
-    let same : c.scan_on.new.self ≡ old = c.scan_on.ensures.same ∙ c.if-end_scanned.ensures.same refl in
-    let went : Advances old true new = subst (λ s. EndsLine s new) same (c.if-end_scanned-2.ensures.ended refl) in
+    let new = c.hold_all.new.self in
+    let gone = c.go_on.ensures.gone in
+    let went : Advances old false new = (
+      sym (rw (c.ready.ensures.bytes ∙ ap (λ s. s.ready) gone) at c.in-None.ensures.place),
+      c.hold_all.ensures.held ∙ ap all_held gone,
+    ) in
     record {
-      next = λ before now given p. Advances-next before now old new given p true went;
-      drained = λ e. Advances-drained old new true e went;
-      turns = Advances-turns old new true went;
-    }
-
-pub returns : goal.returns
-returns c =
-    let old = c.args.self.now in
-    let new = c.advance_unscanned.new.self in
-    let same : c.end_scanned-2.new.self ≡ old = c.if-end_scanned-2.ensures.same refl ∙ c.scan_on.ensures.same ∙ c.if-end_scanned.ensures.same refl in
-    let went : Advances old c.advance_unscanned.result new = subst (λ s. Advances s c.advance_unscanned.result new) same c.advance_unscanned.ensures.advanced in
-    record {
-      next = λ before now given p. Advances-next before now old new given p c.advance_unscanned.result went;
-      drained = λ e. Advances-drained old new c.advance_unscanned.result e went;
-      turns = Advances-turns old new c.advance_unscanned.result went;
+      next = λ before now given p. Advances-next before now old new given p false went;
+      drained = λ e. Advances-drained old new false e went;
+      turns = Advances-turns old new false went;
     }

@@ -3,20 +3,14 @@ use Rattle.line_core.proofs.script_lines.ScriptLines.go_on.Goals as goal
 
 pub invariant_of-self : goal.invariant_of-self
 invariant_of-self c =
-    let kept = c.self.invariant.0 in (
-      record {
-        within = kept.within;
-        block = kept.block;
-        few = kept.few;
-        start_in = kept.start_in;
-        line = λ _. omega (arith, kept.start_in);
-        begun = λ _ _. omega arith;
-        long = omega (arith, kept.long);
-        numbers = omega (arith, ap (λ l. l.number) c.next_line.ensures.next, rw c.if-self.true at kept.numbers);
-      },
-      record {
-        of_line = tt;
-        of_ready = c.no_scan-self-inside.ensures.none _;
-        whole = λ some. absurd (omega (arith, some, c.no_scan-self-inside.ensures.feeds));
-      },
-    )
+    let kept = c.self.invariant in
+    record {
+      within = kept.within;
+      block = kept.block;
+      few = kept.few;
+      start_in = kept.start_in;
+      line = λ _. omega (arith, kept.start_in);
+      begun = λ _ _. omega arith;
+      long = omega (arith, kept.long);
+      numbers = omega (arith, ap (λ l. l.number) c.begin_line.ensures.begun, rw c.if-self.true at kept.numbers);
+    }
