@@ -1,8 +1,8 @@
 -- Marks of bytes: a number with a bit for each byte, from the lowest on, that is set if the byte is of a word.
-use Rattle.std.specs.Prelude.{◌≡◌, ℕ, ◌≤◌, not, List, length, map, Option, IfSome}
+use Rattle.std.specs.Prelude.{◌≡◌, ℕ, ◌<◌, ◌≤◌, not, List, length, map, Option, IfSome}
 use Rattle.std.specs.Simd.Lanes.{mask_l}
 use Rattle.std.proofs.Props.{props}
-use Rattle.line_core.specs.declared.marks.TheConstants.{MARKED_BYTES}
+use Rattle.line_core.specs.declared.marks.TheConstants.{MARKED_BYTES, UNMARKED}
 use Rattle.line_core.specs.Words.{is_space}
 
 abbrev pub marks_of : List ℕ → ℕ
@@ -23,3 +23,7 @@ HasMarks-prop bytes marks p q =
 -- if there are marks, they are the marks of the bytes
 abbrev pub MayHaveMarks : List ℕ → Option ℕ → Type 0
 MayHaveMarks bytes marks = IfSome marks (λ m. HasMarks bytes m)
+
+-- a number below UNMARKED, as all marks are, is the marks of the bytes
+abbrev pub HasMarksIfKnown : List ℕ → ℕ → Type 0
+HasMarksIfKnown bytes marks = marks < UNMARKED → HasMarks bytes marks

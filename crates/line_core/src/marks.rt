@@ -15,6 +15,10 @@ pub(crate) const WIDE_LANES: usize = 32;
 /// The most bytes that have marks: one bit of 64 stays clear, and ends the last word.
 pub(crate) const MARKED_BYTES: usize = 63;
 
+/// The bit above all marks, which says that the marks of some bytes aren't known. It is not 0, since these are the marks of bytes
+/// without words: the end of a line with marks is then one test.
+pub(crate) const UNMARKED: u64 = 1 << MARKED_BYTES;
+
 /// The marks of the bytes, unless these are fewer than half the lanes or more than `MARKED_BYTES`.
 pub(crate) fn marks(bytes: &[u8]) -> Option<u64>
     ensures marks { MayHaveMarks bytes.now result }

@@ -67,7 +67,8 @@ fn take_words<V: Takes>(words: &Words<'_>, to: &mut V) -> Option<V::Given>
     if word.starts_with(b"#") {
         return None;
     }
-    match take_command(word, &rest, to) {
+    let (rest, marks) = rest.parts();
+    match take_command(word, rest, marks, to) {
         Some(given) => Some(given),
         None => Some(to.take(Body::Bad(Refusal::Syntax))),
     }

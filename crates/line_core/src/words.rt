@@ -1,10 +1,10 @@
 //! `Words`: an iterator over the words of a line, which are runs of bytes other than the space. It works with and
 //! without marks.
 ghost use Rattle.std.specs.Prelude.{◌≡◌, ◌∷◌, ◌≤◌, [], option_map, length, position, unwrap_or, MatchOption};
-ghost use Rattle.line_core.specs.Marks.{HasMarks};
+ghost use Rattle.line_core.specs.Marks.{HasMarks, HasMarksIfKnown};
 ghost use Rattle.line_core.specs.Words.{is_space, words_of, one_of, two_of, three_of, four_of};
 
-use crate::marks::{WIDE_LANES, marks, wide_lane_marks};
+use crate::marks::{UNMARKED, WIDE_LANES, marks, wide_lane_marks};
 use crate::prefix::first_other_than_space;
 use memchr::memchr;
 use std::marker::Model;
@@ -13,20 +13,20 @@ use std::marker::Model;
 #[derive(Drop)]
 pub(crate) struct Words<'a> {
     bytes: &'a [u8],
-    // the marks of `bytes`, if they are known
-    marks: Option<u64>,
+    // the marks of `bytes`, or `UNMARKED` if they are not known
+    marks: u64,
 }
 
 impl<'a> Model for Words<'a> {
     ghost use Rattle.std.specs.Prelude.{List, ℕ};
-    ghost use Rattle.line_core.specs.Marks.{MayHaveMarks};
+    ghost use Rattle.line_core.specs.Marks.{HasMarksIfKnown};
     ghost use Rattle.line_core.specs.Words.{words_of};
 
     ghost Value = { List (List ℕ) };
 
     ghost view = { λ w. words_of w.bytes.now };
 
-    ghost invariant = { λ w. MayHaveMarks w.bytes.now w.marks };
+    ghost invariant = { λ w. HasMarksIfKnown w.bytes.now w.marks };
 }
 
 impl<'a> Words<'a> {
@@ -34,20 +34,38 @@ impl<'a> Words<'a> {
     pub(crate) fn of(bytes: &'a [u8]) -> Words<'a>
         ensures words { result ≡ words_of bytes.now }
     {
-        let marks = marks(bytes);
+        match marks(bytes) {
+            Some(marks) => Words::marked(bytes, marks),
+            None => Words::unmarked(bytes),
+        }
+    }
+
+    /// The words of bytes, given their marks or `UNMARKED`.
+    #[inline(always)]
+    pub(crate) fn marked(bytes: &'a [u8], marks: u64) -> Words<'a>
+        requires marks { HasMarksIfKnown bytes.now marks }
+        ensures words { result ≡ words_of bytes.now }
+    {
         Words { bytes, marks }
     }
 
-    /// The words of bytes whose marks are known.
     #[inline(always)]
-    pub(crate) fn marked(bytes: &'a [u8], marks: u64) -> Words<'a>
-        requires marks { HasMarks bytes.now marks }
+    fn unmarked(bytes: &'a [u8]) -> Words<'a>
         ensures words { result ≡ words_of bytes.now }
     {
         Words {
             bytes,
-            marks: Some(marks),
+            marks: UNMARKED,
         }
+    }
+
+    /// The bytes, and their marks or `UNMARKED`. A function that is not inlined takes these, since they go in registers.
+    #[inline(always)]
+    pub(crate) fn parts(&self) -> (&'a [u8], u64)
+        ensures words { self.now ≡ words_of result.0.now }
+        ensures marks { HasMarksIfKnown result.0.now result.1 }
+    {
+        (self.bytes, self.marks)
     }
 
     /// The first word, and the words after it.
@@ -55,9 +73,10 @@ impl<'a> Words<'a> {
     pub(crate) fn first(&self) -> Option<(&'a [u8], Words<'a>)>
         ensures words { MatchOption result (self.now ≡ []) (λ w. self.now ≡ w.0.now ∷ w.1) }
     {
-        match self.marks {
-            Some(marks) => first_by_marks(self.bytes, marks),
-            None => first_by_bytes(self.bytes),
+        if self.marks < UNMARKED {
+            first_by_marks(self.bytes, self.marks)
+        } else {
+            first_by_bytes(self.bytes)
         }
     }
 }
@@ -86,8 +105,8 @@ fn first_by_bytes<'a>(bytes: &'a [u8]) -> Option<(&'a [u8], Words<'a>)>
     let start = first_other_than_space(bytes)?;
     let from_word = &bytes[start..];
     let end = word_length(from_word);
-    let (word, bytes) = from_word.split_at(end);
-    Some((word, Words { bytes, marks: None }))
+    let (word, rest) = from_word.split_at(end);
+    Some((word, Words::unmarked(rest)))
 }
 
 /// The number of bytes before the first space. Most words are shorter than a wide vector, and one comparison finds their end.

@@ -8,7 +8,7 @@ use Rattle.line_core.proofs.takes.take_by_cases.Goals.{in-Some, in-None+else-lin
 use Rattle.line_core.proofs.takes.take_by_cases.Goals as goal
 
 pub marked-words-requires : goal.marked-words-requires
-marked-words-requires g c = record { marks = subst (λ m. MayHaveMarks c.args.line.now m) c.in-Some.is c.requires.marks }
+marked-words-requires g c = record { marks = λ _. subst (λ m. MayHaveMarks c.args.line.now m) c.in-Some.is c.requires.marks }
 
 pub returns-then-starts_with : goal.returns-then-starts_with
 returns-then-starts_with g c =

@@ -21,4 +21,4 @@ returns c =
     let ends : unwrap_or (position is_space rest) (length rest) ≡ end =
     ap (λ xs. unwrap_or (position is_space xs) (length xs)) (sym whole) ∙ sym c.word_length-end.ensures.length in
     let words = runs-from is_space bytes start at ∙ runs-front is_space rest end begins.0 begins.1 ends in
-    rw (c.split_at.ensures.front, c.split_at.ensures.back) (simp take_rest (record { words = words }))
+    rw (c.unmarked.ensures.words, c.split_at.ensures.front, c.split_at.ensures.back) (simp take_rest (record { words = words }))

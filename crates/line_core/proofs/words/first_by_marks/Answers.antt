@@ -40,7 +40,7 @@ marked-requires c =
     let end = c.trailing_ones-end.result in
     let has : HasMarks (drop start bytes) (marks / 2 ^ start) = HasMarks-drop start marks bytes c.requires.marks in
     let more : HasMarks (drop end (drop start bytes)) (marks / 2 ^ start / 2 ^ end) = HasMarks-drop end (marks / 2 ^ start) (drop start bytes) has in
-    rw c.split_at.ensures.back (simp take_rest (record { marks = more }))
+    rw c.split_at.ensures.back (simp take_rest (record { marks = λ _. more }))
 
 pub returns : goal.returns
 returns c =
