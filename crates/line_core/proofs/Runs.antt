@@ -86,6 +86,10 @@ module _ (p : ℕ → Bool) where
   front_case xs n true h l e = subst (λ k. 0 < k) e h
   front_case xs n false h l e = subst (λ k. 0 < k) e l
 
+  -- the first run has an element
+  pub runs-front_some : (xs : List ℕ) (n : ℕ) → 0 < length xs → p (get_or xs 0 0) ≡ false → unwrap_or (position p xs) (length xs) ≡ n → 0 < n
+  runs-front_some xs n l f e = front_case xs n (nat_lt (position_or_len p xs) (length xs)) (begins xs l f) l e
+
   first_of_front : (xs : List ℕ) (n : ℕ) → 0 < length xs → 0 < n → take 1 (take n xs) ≡ take 1 xs
   first_of_front [] n l h = absurd (omega arith)
   first_of_front (x ∷ xs) zero l h = absurd (omega arith)

@@ -64,7 +64,7 @@ fn take_words<V: Takes>(words: &Words<'_>, to: &mut V) -> Option<V::Given>
     ensures taken { TakesIfSome V.takes to.old (body_from words.now) result to.new }
 {
     let (word, rest) = words.first()?;
-    if word.starts_with(b"#") {
+    if word[0] == b'#' {
         return None;
     }
     let (rest, marks) = rest.parts();

@@ -1,6 +1,6 @@
 //! `Words`: an iterator over the words of a line, which are runs of bytes other than the space. It works with and
 //! without marks.
-ghost use Rattle.std.specs.Prelude.{◌≡◌, ◌∷◌, ◌≤◌, [], option_map, length, position, unwrap_or, MatchOption};
+ghost use Rattle.std.specs.Prelude.{◌≡◌, ◌∷◌, ◌<◌, ◌≤◌, [], option_map, length, position, unwrap_or, IfSome, MatchOption};
 ghost use Rattle.line_core.specs.Marks.{HasMarks, HasMarksIfKnown};
 ghost use Rattle.line_core.specs.Words.{is_space, words_of, one_of, two_of, three_of, four_of};
 
@@ -72,6 +72,7 @@ impl<'a> Words<'a> {
     #[inline(always)]
     pub(crate) fn first(&self) -> Option<(&'a [u8], Words<'a>)>
         ensures words { MatchOption result (self.now ≡ []) (λ w. self.now ≡ w.0.now ∷ w.1) }
+        ensures some { IfSome result (λ w. 0 < length w.0.now) }
     {
         if self.marks < UNMARKED {
             first_by_marks(self.bytes, self.marks)
@@ -86,6 +87,7 @@ impl<'a> Words<'a> {
 fn first_by_marks<'a>(bytes: &'a [u8], marks: u64) -> Option<(&'a [u8], Words<'a>)>
     requires marks { HasMarks bytes.now marks }
     ensures words { MatchOption result (words_of bytes.now ≡ []) (λ w. words_of bytes.now ≡ w.0.now ∷ w.1) }
+    ensures some { IfSome result (λ w. 0 < length w.0.now) }
 {
     if marks == 0 {
         return None;
@@ -101,6 +103,7 @@ fn first_by_marks<'a>(bytes: &'a [u8], marks: u64) -> Option<(&'a [u8], Words<'a
 #[inline(always)]
 fn first_by_bytes<'a>(bytes: &'a [u8]) -> Option<(&'a [u8], Words<'a>)>
     ensures words { MatchOption result (words_of bytes.now ≡ []) (λ w. words_of bytes.now ≡ w.0.now ∷ w.1) }
+    ensures some { IfSome result (λ w. 0 < length w.0.now) }
 {
     let start = first_other_than_space(bytes)?;
     let from_word = &bytes[start..];

@@ -1,17 +1,17 @@
-use Rattle.std.proofs.Common.{◌≡◌, ◌≤◌, ◌<◌, ◌/◌, ◌^◌, length, drop, unwrap_or, sym, subst, ◌∙◌, arith, w64}
+use Rattle.std.proofs.Common.{◌≡◌, ◌≤◌, ◌<◌, ◌/◌, ◌^◌, length, drop, unwrap_or, sym, subst, ◌∙◌, arith, w64, length-take}
 use Rattle.std.specs.Int.{trailing_zeros}
 use Rattle.std.specs.List.{position}
 use Rattle.std.proofs.lemmas.List.{take_rest}
 use Rattle.line_core.specs.Marks.{HasMarks}
 use Rattle.line_core.specs.Words.{is_space}
 use Rattle.line_core.proofs.Lowest.{none-marked, start-marked, start-within, end-marked, end-within, HasMarks-drop}
-use Rattle.line_core.proofs.Runs.{runs-none, runs-from, runs-from_begins, runs-front}
+use Rattle.line_core.proofs.Runs.{runs-none, runs-from, runs-from_begins, runs-front, runs-front_some}
 use Rattle.line_core.proofs.words.first_by_marks.Goals as goal
 
-pub returns-then-marks-eq0 : goal.returns-then-marks-eq0
-returns-then-marks-eq0 c =
+pub returns-then-marks-eq0-clause-words : goal.returns-then-marks-eq0-clause-words
+returns-then-marks-eq0-clause-words c =
     let bytes = c.args.bytes.now in
-    record { words = runs-none is_space bytes (none-marked bytes c.args.marks c.requires.marks c.if-marks-eq0.true) }
+    runs-none is_space bytes (none-marked bytes c.args.marks c.requires.marks c.if-marks-eq0.true)
 
 pub slice_bounds-bytes-count : goal.slice_bounds-bytes-count
 slice_bounds-bytes-count c =
@@ -54,5 +54,6 @@ returns c =
     let at = start-marked bytes marks c.requires.marks some in
     let begins = runs-from_begins is_space bytes start at in
     let ends : unwrap_or (position is_space rest) (length rest) ≡ end = end-marked rest (marks / 2 ^ start) has ∙ sym c.trailing_ones-end.ensures in
+    let filled : 0 < end = runs-front_some is_space rest end begins.0 begins.1 ends in
     let words = runs-from is_space bytes start at ∙ runs-front is_space rest end begins.0 begins.1 ends in
-    rw (c.marked.ensures.words, c.split_at.ensures.front, c.split_at.ensures.back) (simp take_rest (record { words = words }))
+    rw (c.marked.ensures.words, c.split_at.ensures.front, c.split_at.ensures.back) (simp take_rest (record { words = words; some = omega (arith, filled, begins.0, length-take end rest) }))
