@@ -1,6 +1,6 @@
 //! `Board`: the lock-free `SharedTable`, one max-register per (buffer, context, usage). The words keep each register's
 //! rule, so a board has only their identity. `run_clients` runs clients on it.
-ghost use Rattle.std.specs.Prelude.{◌≡◌, ◌<◌, ◌≤◌, ◌⊎◌, ◌↔◌, [], true, All, Ok, Err, IfErr, IfOk, IsOk, List, OnErr, OnOk};
+ghost use Rattle.std.specs.Prelude.{◌≡◌, ◌<◌, ◌≤◌, ◌⊎◌, ◌↔◌, [], true, All, Ok, Err, IfErr, IfOk, IsOk, List, OnOk, vec_capacity};
 ghost use Rattle.point_core.specs.declared.context.TheConstants.{CONTEXTS};
 ghost use Rattle.point_core.specs.declared.entry.Entry.{Entry};
 ghost use Rattle.point_core.specs.Agreement.{HasContexts};
@@ -103,8 +103,9 @@ impl Board {
     {
         listing.floor.clear();
         words.load_all_into(seat, &mut listing.floor);
-        let mut points = take_points(alloc, &mut listing.points);
-        latest_shown(words, seat, buffer, usage, &listing.floor, &mut points)?;
+        let points = take_points(alloc, &mut listing.points);
+        let mut points = with_room(points, words.contexts())?;
+        latest_shown(words, seat, buffer, usage, &listing.floor, &mut points);
         listing.points = Items::of(points);
         Ok(())
     }
@@ -207,10 +208,8 @@ impl SharedTable for Board {
     }
 }
 
-/// The latest point that a buffer shows of each context up to the level, if it is above the reach, by one look at each
-/// place. The list is cleared first.
-///
-/// Fails only with `Memory`, before the first look.
+/// Pushes the latest point that a buffer shows of each context up to the level, if it is above the reach, by one look at each
+/// place.
 fn latest_shown(
     words: &Words,
     seat: &mut Seat,
@@ -218,18 +217,15 @@ fn latest_shown(
     level: Usage,
     reach: &Reach,
     points: &mut Vec<Point>,
-) -> Result<(), Refusal>
+)
     requires own { seat.old.words ≡ words.now }
     requires buffer { buffer < words.now.buffers }
-    ensures listed { OnOk result
-        (HasListed words.now buffer level words.now.contexts seat.old seat.new reach.now points.new.items) }
+    requires empty { points.old.items ≡ [] }
+    requires room { words.now.contexts ≤ vec_capacity points.old }
+    ensures listed { HasListed words.now buffer level words.now.contexts seat.old seat.new reach.now points.new.items }
     ensures contexts { words.now.contexts ≤ CONTEXTS }
-    ensures memory { IfErr result (λ e. e ≡ refusal.Memory) }
-    ensures refused { OnErr result (seat.new ≡ seat.old) }
 {
     let contexts = words.contexts();
-    points.clear();
-    points.reserve(contexts)?;
     for index in 0..contexts {
         let ctx = Context::at(index);
         let reached = reach.get(ctx);
@@ -238,7 +234,18 @@ fn latest_shown(
             points.push_reserved(Point { ctx, value });
         }
     }
-    Ok(())
+}
+
+/// Empties the list, and gives it room for that many points. The list goes by value: one that was lent to a call that may
+/// allocate would be read and written in memory at each push.
+fn with_room(mut points: Vec<Point>, count: usize) -> Result<Vec<Point>, Refusal>
+    ensures empty { IfOk result (λ points. points.items ≡ []) }
+    ensures room { IfOk result (λ points. count ≤ vec_capacity points) }
+    ensures memory { IfErr result (λ e. e ≡ refusal.Memory) }
+{
+    points.clear();
+    points.reserve(count)?;
+    Ok(points)
 }
 
 /// The latest of a value and of what the places of a context show up to the level, by one look at each.

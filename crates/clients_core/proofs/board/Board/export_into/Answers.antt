@@ -6,7 +6,7 @@ pub returns-clause-looked : goal.returns-clause-looked
 returns-clause-looked c =
     let floor = c.load_all_into.new.reach in
     HasLooked-same floor c.of.ensures
-    (HasLooked-listed c.args.words.now c.args.buffer c.args.usage c.args.seat.now c.load_all_into.new.seat c.latest_shown.new.seat (record { points = c.latest_shown.new.points.items; floor = floor }) c.latest_shown.ensures.contexts c.load_all_into.ensures.loaded c.in_ok-latest_shown.ensures.listed)
+    (HasLooked-listed c.args.words.now c.args.buffer c.args.usage c.args.seat.now c.load_all_into.new.seat c.latest_shown.new.seat (record { points = c.latest_shown.new.points.items; floor = floor }) c.latest_shown.ensures.contexts c.load_all_into.ensures.loaded c.latest_shown.ensures.listed)
 
 pub returns-clause-own : goal.returns-clause-own
 returns-clause-own c = λ es contexts raised. own-shown c.args.words.now c.args.buffer c.args.usage c.args.seat.now c.latest_shown.new.seat (record { points = c.of.result; floor = c.load_all_into.new.reach }) es (returns-clause-looked c) contexts raised
