@@ -229,7 +229,7 @@ fn latest_shown(
     for index in 0..contexts {
         let ctx = Context::at(index);
         let reached = reach.get(ctx);
-        let value = latest_at(words, seat, buffer, ctx, level, reached);
+        let value = latest_at(words, seat, contexts, buffer, ctx, level, reached);
         if value > reached {
             points.push_reserved(Point { ctx, value });
         }
@@ -252,25 +252,64 @@ fn with_room(mut points: Vec<Point>, count: usize) -> Result<Vec<Point>, Refusal
 fn latest_at(
     words: &Words,
     seat: &mut Seat,
+    contexts: usize,
     buffer: usize,
     ctx: Context,
     level: Usage,
     value: u64,
 ) -> u64
     requires own { seat.old.words ≡ words.now }
+    requires contexts { contexts ≡ words.now.contexts }
     requires within { (buffer < words.now.buffers) × (ctx ≤ words.now.contexts) }
     ensures shown { HasShown words.now buffer (usage_number level) ctx (places_at level ctx) seat.old seat.new value result }
 {
-    let kernel = later_at(words, seat, buffer, ctx, Usage::Kernel, level, value);
-    let write = later_at(words, seat, buffer, ctx, Usage::Write, level, kernel);
-    let read = later_at(words, seat, buffer, ctx, Usage::Read, level, write);
-    later_at(words, seat, buffer, ctx, Usage::Bookkeep, level, read)
+    let kernel = later_at(
+        words,
+        seat,
+        contexts,
+        buffer,
+        ctx,
+        Usage::Kernel,
+        level,
+        value,
+    );
+    let write = later_at(
+        words,
+        seat,
+        contexts,
+        buffer,
+        ctx,
+        Usage::Write,
+        level,
+        kernel,
+    );
+    let read = later_at(
+        words,
+        seat,
+        contexts,
+        buffer,
+        ctx,
+        Usage::Read,
+        level,
+        write,
+    );
+    later_at(
+        words,
+        seat,
+        contexts,
+        buffer,
+        ctx,
+        Usage::Bookkeep,
+        level,
+        read,
+    )
 }
 
 /// The later of a value and of what a place shows. It looks if the place's usage is up to the level.
 fn later_at(
     words: &Words,
     seat: &mut Seat,
+    contexts: usize,
     buffer: usize,
     ctx: Context,
     usage: Usage,
@@ -278,11 +317,14 @@ fn later_at(
     value: u64,
 ) -> u64
     requires own { seat.old.words ≡ words.now }
+    requires contexts { contexts ≡ words.now.contexts }
     requires within { (buffer < words.now.buffers) × (ctx ≤ words.now.contexts) }
     ensures shown { HasShown words.now buffer (usage_number level) ctx (place_to level ctx usage) seat.old seat.new value result }
 {
     if usage.number() <= level.number() {
-        words.shown(seat, buffer, ctx, usage).max(value)
+        words
+            .shown_of(seat, contexts, buffer, ctx, usage)
+            .max(value)
     } else {
         value
     }

@@ -46,7 +46,29 @@ impl Words {
         ensures raises { raised_to seat.old (board_word self.now buffer ctx usage) ≤ result }
         ensures seen { seen seat.new (board_word self.now buffer ctx usage) ≡ result }
     {
-        let place = self.entry_place(buffer, ctx, usage);
+        self.shown_of(seat, self.sizes.contexts, buffer, ctx, usage)
+    }
+
+    /// Like `shown`, by the number of contexts. A caller that looks at one entry after another has it at hand; `shown`
+    /// reads it from memory for each.
+    pub fn shown_of(
+        &self,
+        seat: &mut Seat,
+        contexts: usize,
+        buffer: usize,
+        ctx: Context,
+        usage: Usage,
+    ) -> u64
+        requires own { seat.old.words ≡ self.now }
+        requires contexts { contexts ≡ self.now.contexts }
+        requires buffer { buffer < self.now.buffers }
+        requires context { ctx ≤ self.now.contexts }
+        ensures entered { seat.new ≡ with_step seat.old (shown (board_word self.now buffer ctx usage) result) }
+        ensures later { seen seat.old (board_word self.now buffer ctx usage) ≤ result }
+        ensures raises { raised_to seat.old (board_word self.now buffer ctx usage) ≤ result }
+        ensures seen { seen seat.new (board_word self.now buffer ctx usage) ≡ result }
+    {
+        let place = self.entry_place_of(contexts, buffer, ctx, usage);
         self.shown_at(seat, place)
     }
 

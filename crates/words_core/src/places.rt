@@ -14,7 +14,26 @@ impl Words {
         ensures value { result ≡ board_word self.now buffer ctx usage }
         ensures entry { IsBoardWord (sizes_of self.now) result }
     {
-        let line = buffer * self.sizes.contexts + ctx.index();
+        self.entry_place_of(self.sizes.contexts, buffer, ctx, usage)
+    }
+
+    // The index of an entry of the board, by the number of contexts.
+    pub(crate) fn entry_place_of(
+        &self,
+        contexts: usize,
+        buffer: usize,
+        ctx: Context,
+        usage: Usage,
+    ) -> usize
+        requires contexts { contexts ≡ self.now.contexts }
+        requires buffer { buffer < self.now.buffers }
+        requires context { ctx ≤ self.now.contexts }
+        ensures value { result ≡ board_word self.now buffer ctx usage }
+        ensures entry { IsBoardWord (sizes_of self.now) result }
+    {
+        // Opens the invariant.
+        let _sizes = &self.sizes;
+        let line = buffer * contexts + ctx.index();
         LINE_WORDS * line + 1 + usize::from(usage.number())
     }
 

@@ -9,8 +9,8 @@ use Rattle.clients_core.proofs.board.later_at.Goals as goal
 pub returns-then-number : goal.returns-then-number
 returns-then-number c =
     let level = usage_number c.args.level in
-    let e : Entry = entry_of (point_of c.args.ctx c.shown.result) c.args.usage in
+    let e : Entry = entry_of (point_of c.args.ctx c.shown_of.result) c.args.usage in
     let low : usage_number c.args.usage ≤ level = omega (arith, c.number.ensures, c.number-2.ensures, c.if-number.true) in
-    let later : c.max.result ≡ max c.args.value c.shown.result = omega arith in
-    let shown = HasShown-one c.args.words.now c.args.buffer level e c.args.seat.now c.shown.new.seat c.args.value c.max.result c.shown.ensures.entered low later (record { seen_there = c.shown.ensures.later; raised = c.shown.ensures.raises }) in
+    let later : c.max.result ≡ max c.args.value c.shown_of.result = omega arith in
+    let shown = HasShown-one c.args.words.now c.args.buffer level e c.args.seat.now c.shown_of.new.seat c.args.value c.max.result c.shown_of.ensures.entered low later (record { seen_there = c.shown_of.ensures.later; raised = c.shown_of.ensures.raises }) in
     record { shown = rw (place_to-within c.args.level c.args.usage c.args.ctx low) shown }
