@@ -31,7 +31,7 @@ abbrev pub AreOnlyFiring : Places → List ℕ → List ℕ → Type 0
 AreOnlyFiring places reach fired =
     (r : ℕ) (cookie : ℕ) → at (with_cookies fired) r ≡ Some cookie → cookie_if_fires reach (found places r) ≡ Some cookie
 
--- the registrations rise, and are those of watches that fire
+-- the registrations rise, and each is of a watch that fires
 pub record AreGathered (places : Places) (reach fired : List ℕ) : Type 0 where
   pub rising : IsStrictlySortedBy nat_cmp fired
   pub only_firing : AreOnlyFiring places reach fired

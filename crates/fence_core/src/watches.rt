@@ -49,7 +49,7 @@ pub struct Watches {
     index: PointIndex,
     made: u64,
     reach: Reach,
-    // The registrations that a rise fires, while it looks for them. Kept for its memory.
+    // The registrations that a rise fires, while it looks for them. The list is kept, so that its memory is used again.
     fired: Vec<Registration>,
     // Whether each point of the index is known to be above the reach.
     is_settled: bool,

@@ -198,8 +198,8 @@ impl PointIndex {
         Ok(())
     }
 
-    /// Adds the watches all of whose points are signalled at the reach, as registrations in rising order. If it fails, some
-    /// may have been added.
+    /// Adds each watch that fires at the reach to `fired`: all of its points are signalled there. Registrations rise in
+    /// `fired`, since watches fire in the order in which they were registered. If it fails, some may have been added.
     pub(super) fn report_reached(
         &self,
         pending: &PendingWatches,
