@@ -5,17 +5,20 @@ ghost use Rattle.std.specs.Io.{StartsWith};
 ghost use Rattle.std.specs.Iterator.{Drains, IsFinite};
 ghost use Rattle.point_core.specs.declared.refusal.Refusal.TheVariants.{Memory};
 ghost use Rattle.command_core.specs.declared.answer.FenceRow.{FenceRow as FenceRowModel};
+ghost use Rattle.command_core.specs.declared.answer.ShowRow.{ShowRow as ShowRowModel};
 ghost use Rattle.command_core.specs.Tables.{row_count};
 ghost use Rattle.report_core.specs.Status.{status_text};
 ghost use Rattle.report_core.specs.Answer.{line_text, fired_text, raised_text, fence_text, info_line, info_text, show_text};
 ghost use Rattle.report_core.specs.Answer.{report_text, refusal_text, details, value_line, text_of};
 ghost use Rattle.report_core.specs.LineEnd.{line_end};
+ghost use Rattle.report_core.specs.Tables.{show_text as rows_text};
 
 use crate::fence_line::push_fence;
 use crate::line::{TEXT_LINE_BYTES, TextLine};
 use crate::number_line::push_numbered;
-use crate::report::{report_text, show_text};
+use crate::report::report_text;
 use crate::rows::{NUMBER_WIDTH, status_text};
+use crate::table_item::TableItem;
 use command_core::{Answer, FenceRow, Info, Report, ShowRow};
 use itoa::Buffer;
 use point_core::{Name, Refusal, Status};
@@ -196,8 +199,29 @@ fn push_show(rows: &[ShowRow], out: &mut Vec<u8>) -> Result<(), Refusal>
     ensures ok { OnOk result (out.new.items ≡ out.old.items ++ show_text rows.now) }
     ensures err { OnErr result ((result ≡ Err Memory) × StartsWith out.new.items out.old.items) }
 {
-    push_value(rows.len() as u64, out)?;
-    show_text(rows, out)?;
+    let shown = rows.iter().copied();
+    show_text(rows.len(), shown, out)
+}
+
+/// Appends the answer of `show` to `out`: the number of its rows, which is `count`, and the rows.
+///
+/// Fails only with Memory. `out` then begins with its old bytes.
+#[inline(always)]
+pub fn show_text<I: Iterator<Item = ShowRow> + Drop>(
+    count: usize,
+    rows: I,
+    out: &mut Vec<u8>,
+) -> Result<(), Refusal>
+    requires can { I.can_next rows }
+    requires ends { IsFinite (I.remaining rows) }
+    ensures ok { OnOk result ((shown : List ShowRowModel) × Drains I.next_gives rows shown
+        × (out.new.items ≡ out.old.items ++ (value_line count ++ rows_text shown))) }
+    ensures err { OnErr result ((result ≡ Err Memory) × StartsWith out.new.items out.old.items) }
+{
+    push_value(count as u64, out)?;
+    for row in rows {
+        row.push(out)?;
+    }
     Ok(())
 }
 

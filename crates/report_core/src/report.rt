@@ -3,23 +3,13 @@ ghost use Rattle.std.specs.Prelude.{◌≡◌, ◌++◌, OnOk, OnErr, Err};
 ghost use Rattle.std.specs.List.{flat_map};
 ghost use Rattle.std.specs.Io.{StartsWith};
 ghost use Rattle.point_core.specs.declared.refusal.Refusal.TheVariants.{Memory};
-ghost use Rattle.report_core.specs.Tables.{show_text, timeline_text, buffer_text, report_text};
+ghost use Rattle.report_core.specs.Tables.{timeline_text, buffer_text, report_text};
 
 use crate::row_kind::RowKind;
 use crate::rows::row;
 use crate::table_item::push_each;
-use command_core::{BufferRows, Report, ShowRow};
+use command_core::{BufferRows, Report};
 use point_core::{Refusal, TimelineRow};
-
-/// Appends the table of one buffer to `out`, one row for each entry.
-///
-/// Fails only with Memory. `out` then begins with its old bytes.
-pub fn show_text(rows: &[ShowRow], out: &mut Vec<u8>) -> Result<(), Refusal>
-    ensures ok { OnOk result (out.new.items ≡ out.old.items ++ show_text rows.now) }
-    ensures err { OnErr result ((result ≡ Err Memory) × StartsWith out.new.items out.old.items) }
-{
-    push_each(rows, out)
-}
 
 /// Appends a report to `out`: a row for each timeline with its value, one for each file, and for each buffer a row with
 /// the number of its rows, followed by these.
@@ -54,6 +44,6 @@ pub fn buffer_text(buffer: &BufferRows, out: &mut Vec<u8>) -> Result<(), Refusal
 {
     let rows = buffer.rows.as_slice();
     row(RowKind::Buffer, &buffer.name, rows.len() as u64, out)?;
-    show_text(rows, out)?;
+    push_each(rows, out)?;
     Ok(())
 }

@@ -48,6 +48,7 @@ pub(crate) fn push_each<T: TableItem>(items: &[T], out: &mut Vec<u8>) -> Result<
 impl TableItem for ShowRow {
     ghost text = { show_row_text };
 
+    #[inline(always)]
     fn push(&self, out: &mut Vec<u8>) -> Result<(), Refusal> {
         row(RowKind::Level(self.usage), &self.timeline, self.point, out)
     }
