@@ -14,6 +14,8 @@ use Rattle.point_core.proofs.Reached.{all_reached-AgreesAbove}
 use Rattle.point_core.specs.declared.timeline_row.TimelineRow.{TimelineRow}
 use Rattle.timeline_core.specs.Timeline.{clocks_of, reach_of, rows_of as timeline_rows}
 use Rattle.syncfile_core.specs.SyncFile.{File}
+use Rattle.point_core.specs.declared.listing.TopRow.{TopRow}
+use Rattle.resv_core.specs.Resv.{rows_of}
 use Rattle.resv_core.proofs.Runs.{rows_of-AgreesAbove}
 use Rattle.dmabuf_core.specs.Buffers.{names_of, entries_of}
 use Rattle.command_core.specs.declared.command.Command.TheVariants as command
@@ -41,6 +43,10 @@ IsDone-show desk name rows is = record {
   reported = λ world k. ap answer.Show (is ∙ ap (λ ts. show_rows ts (entries_of desk.buffers name)) k.holds.timelines ∙ show_rows-keeps k name);
   held = λ world k. k.holds;
 }
+
+-- the rows of the buffer's tops
+pub IsDone-tops : (desk : DeskState) (name : List ℕ) (tops : List TopRow) (rows : List ShowRow) → tops ≡ rows_of (entries_of desk.buffers name) (reach_of desk.timelines) → rows ≡ map (show_row desk.timelines) tops → IsDone desk (command.Show name) (answer.Show rows) desk
+IsDone-tops desk name tops rows table is = IsDone-show desk name rows (is ∙ ap (map (show_row desk.timelines)) table)
 
 -- the files
 

@@ -1,10 +1,11 @@
 //! `Desk`: one command in, one answer out. Files, buffers and the desk's own watches have only points of timelines that
 //! were made, and the watches know the timelines' values; `step` keeps that. `run` and `script_core` call `step`.
-ghost use Rattle.std.specs.Prelude.{◌≡◌, ◌≢◌, ◌↔◌, false, List, [], option_copied, option_map, IsTrue, IsSome, IfSome, IsOk, IfOk, IfErr, OnErr, OnOk};
+ghost use Rattle.std.specs.Prelude.{◌≡◌, ◌≢◌, ◌↔◌, false, List, ℕ, [], map, option_copied, option_map, IsTrue, IsSome, IfSome, IsOk, IfOk, IfErr, OnErr, OnOk};
 ghost use Rattle.command_core.specs.declared.command.Command.{Command};
 
 use crate::info::FenceRows;
 use crate::report;
+use crate::report::ShowRows;
 use command_core::{Answer, Command, Info, Report, ShowRow};
 use dmabuf_core::Buffers;
 use fence_core::Watches;
@@ -39,7 +40,7 @@ impl Model for Desk {
 }
 
 impl Desk {
-    ghost use Rattle.desk_core.specs.theorem.Answer.{OnRefused, takes_memory};
+    ghost use Rattle.desk_core.specs.theorem.Answer.{OnRefused, show_row, takes_memory};
     ghost use Rattle.point_core.specs.Clocks.{status_at};
     ghost use Rattle.timeline_core.specs.Timeline.{has_timeline, name_at, clocks_of, reach_of, value_of, rows_of as timeline_rows};
     ghost use Rattle.resv_core.specs.Resv.{rows_of as table_rows};
@@ -251,6 +252,16 @@ impl Desk {
             rows.items ≡ table_rows (entries_of self.now.buffers buffer.now) (reach_of self.now.timelines)) }
     {
         self.buffers.table(buffer, self.timelines.as_reach())
+    }
+
+    /// What `show` answers of a buffer with those tops, which `buffer_rows` gives. No list is made of the rows.
+    #[inline(always)]
+    pub fn show_rows<'a>(&'a self, tops: &'a [TopRow]) -> ShowRows<'a>
+        requires table { (buffer : List ℕ) ×
+            (tops.now ≡ table_rows (entries_of self.now.buffers buffer) (reach_of self.now.timelines)) }
+        ensures rows { result ≡ map (show_row self.now.timelines) tops.now }
+    {
+        ShowRows::of(tops, &self.timelines)
     }
 
     /// Whether a watch of that cookie is pending.

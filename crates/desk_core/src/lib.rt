@@ -16,4 +16,5 @@ pub use command_core::{
 };
 pub use desk::Desk;
 pub use info::FenceRows;
+pub use report::ShowRows;
 pub use runs::run;

@@ -1,5 +1,5 @@
-//! The tables of `show` and `report`. `Desk` calls `of_all` and `show_rows` with entries of timelines that were made,
-//! so each row has a name.
+//! The tables of `show` and `report`. `Desk` calls `of_all` and `show_rows`, and makes `ShowRows`, with entries of timelines
+//! that were made, so each row has a name.
 ghost use Rattle.std.specs.Prelude.{◌≡◌, ◌≤◌, List, ℕ, length, map, IfOk, IfErr};
 ghost use Rattle.point_core.specs.declared.limits.TheConstants.{BUFFERS};
 ghost use Rattle.timeline_core.specs.Timeline.{reach_of};
@@ -11,6 +11,7 @@ use command_core::{BufferRows, FileRow, Report, ShowRow};
 use dmabuf_core::Buffers;
 use point_core::{Clocks, Items, Name, Reach, Refusal, TopRow};
 use std::alloc::Global;
+use std::marker::Model;
 use syncfile_core::{Files, SyncFile};
 use timeline_core::Timelines;
 
@@ -35,7 +36,55 @@ pub fn of_all(
     })
 }
 
-/// The rows of a table, each with the name of its timeline.
+/// The rows of a table, each with the name of its timeline: each row is made as it is asked for.
+#[derive(Drop)]
+pub struct ShowRows<'a> {
+    tops: &'a [TopRow],
+    timelines: &'a Timelines,
+}
+
+impl<'a> Model for ShowRows<'a> {
+    ghost use Rattle.std.specs.Prelude.{List, length, map};
+    ghost use Rattle.command_core.specs.declared.answer.ShowRow.{ShowRow};
+    ghost use Rattle.desk_core.specs.theorem.Answer.{show_row};
+    ghost use Rattle.desk_core.specs.Keeping.{AreRowsMade};
+
+    ghost Value = { List ShowRow };
+
+    ghost view = { λ r. map (show_row r.timelines.now) r.tops.now };
+
+    ghost invariant = { λ r. AreRowsMade (length r.timelines.now) r.tops.now };
+}
+
+impl<'a> ShowRows<'a> {
+    pub(crate) fn of(tops: &'a [TopRow], timelines: &'a Timelines) -> ShowRows<'a>
+        requires made { AreRowsMade (length timelines.now) tops.now }
+        ensures rows { result ≡ map (show_row timelines.now) tops.now }
+    {
+        ShowRows { tops, timelines }
+    }
+}
+
+impl<'a> Iterator for ShowRows<'a> {
+    type Item = ShowRow;
+
+    ghost use Rattle.std.specs.Iterator.{YieldsFirst, item_count};
+
+    ghost next_gives = { YieldsFirst (λ rows. rows) };
+
+    ghost remaining = { item_count (λ rows. rows) };
+
+    #[inline(always)]
+    fn next(&mut self) -> Option<ShowRow> {
+        let Some((top, others)) = self.tops.split_first() else {
+            return None;
+        };
+        self.tops = others;
+        Some(show_row(*top, self.timelines))
+    }
+}
+
+/// The rows of a table, as a list.
 pub fn show_rows(
     alloc: Global,
     tops: &[TopRow],
@@ -52,6 +101,7 @@ pub fn show_rows(
     Ok(rows)
 }
 
+#[inline(always)]
 fn show_row(top: TopRow, timelines: &Timelines) -> ShowRow
     requires made { top.ctx ≤ length timelines.now }
     ensures { result ≡ show_row timelines.now top }
