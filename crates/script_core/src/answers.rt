@@ -14,7 +14,7 @@ use command_core::{Answer, Command};
 use desk_core::Desk;
 use line_core::Body;
 use point_core::{Name, Refusal};
-use report_core::{info_text, pass_answer, write_many, write_out};
+use report_core::{info_text, pass_answer, show_text, write_many, write_out};
 use std::alloc::Global;
 use std::io::Write;
 use std::marker::Model;
@@ -109,6 +109,9 @@ impl Answers {
         if let Body::Cmd(Command::Info(name)) = &body {
             return self.answer_info(number, name, writer);
         }
+        if let Body::Cmd(Command::Show(name)) = &body {
+            return self.answer_show(number, name, writer);
+        }
         let answer = answer_line(&mut self.desk, body);
         match answer {
             Answer::Refused(refusal) => self.pass_refusal(number, refusal, writer),
@@ -132,6 +135,29 @@ impl Answers {
             Ok((status, fences)) => {
                 self.totals = self.totals.with(&Answer::Done);
                 info_text(name, status, fences.len(), fences, &mut self.out)?;
+                write_many(writer, &mut self.out)?;
+                Ok(None)
+            }
+            Err(refusal) => self.pass_refusal(number, refusal, writer),
+        }
+    }
+
+    /// As `answer_body`, of `show`: the rows become text one by one, and no list is made of them.
+    #[inline(never)]
+    fn answer_show<W: Write>(
+        &mut self,
+        number: u32,
+        name: &Name,
+        writer: &mut W,
+    ) -> Result<Option<Refusal>, Refusal>
+        requires few { self.old.totals.lines < number }
+        ensures answered { IsAnswered number (Body.Cmd (Command.Show name.now)) result self.old self.new
+            (W.contents writer.old) (W.contents writer.new) }
+    {
+        match self.desk.buffer_rows(name) {
+            Ok(tops) => {
+                self.totals = self.totals.with(&Answer::Done);
+                show_text(tops.len(), self.desk.show_rows(&tops), &mut self.out)?;
                 write_many(writer, &mut self.out)?;
                 Ok(None)
             }
