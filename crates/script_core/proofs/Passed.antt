@@ -1,9 +1,10 @@
 -- Lines whose answers were passed on.
-use Rattle.std.proofs.Common.{◌≡◌, ℕ, List, [], ◌∷◌, ◌++◌, Option, refl, sym, subst, arith}
-use Rattle.std.specs.Prelude.{Result, Ok, Err, OnOk, OnErr, IfOk}
+use Rattle.std.proofs.Common.{◌≡◌, ℕ, List, [], ◌∷◌, ◌++◌, Option, None, refl, sym, ◌∙◌, subst, arith}
+use Rattle.std.specs.Prelude.{◌≢◌, Result, Ok, Err, OnOk, OnErr, IfOk}
 use Rattle.point_core.specs.declared.refusal.Refusal.{Refusal}
 use Rattle.command_core.specs.declared.command.Command.{Command}
 use Rattle.command_core.specs.declared.answer.Answer.{Answer}
+use Rattle.command_core.specs.declared.answer.Answer.TheVariants as answer
 use Rattle.desk_core.specs.theorem.Desk.{DeskState, HasHistory}
 use Rattle.line_core.specs.declared.line.Body.{Body}
 use Rattle.line_core.specs.declared.line.Line.{Line}
@@ -26,6 +27,21 @@ on-either (Err e) f g a b = g b
 if-ok : {T E A : Type 0} {P Q : T → Type 0} (r : Result T E) → (A → (v : T) → P v → Q v) → OnOk r A → IfOk r P → IfOk r Q
 if-ok (Ok v) f a p = f a v p
 if-ok (Err e) f a p = tt
+
+refusal_of-accepted : (given : Answer) → ((refusal : Refusal) → given ≢ answer.Refused refusal) → refusal_of given ≡ None
+refusal_of-accepted (answer.Refused refusal) accepted = absurd (accepted refusal refl)
+refusal_of-accepted answer.Done accepted = refl
+refusal_of-accepted (answer.Value n) accepted = refl
+refusal_of-accepted (answer.Raised n fired) accepted = refl
+refusal_of-accepted (answer.Info i) accepted = refl
+refusal_of-accepted (answer.Show rows) accepted = refl
+refusal_of-accepted (answer.Report report) accepted = refl
+
+-- an answer that is no refusal gives none
+pub Passes-accepted : (number : ℕ) (given : Answer) (refused : Option Refusal) (before after : AnswersState) (old new : Option (List ℕ)) → ((refusal : Refusal) → given ≢ answer.Refused refusal)
+    → Passes number given (Ok refused) before after old new → Passes number given (Ok None) before after old new
+Passes-accepted number given refused before after old new accepted p =
+    subst (λ r. Passes number given (Ok r) before after old new) (sym p.refused ∙ refusal_of-accepted given accepted) p
 
 module _ (number : ℕ) (body : Body) (given : Answer) (passed : Result (Option Refusal) Refusal) (before after : AnswersState) (desk : DeskState) (old new : Option (List ℕ))
     (is : (history : List Command) → HasHistory before.desk history → IsLineAnswer history body given)

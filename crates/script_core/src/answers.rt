@@ -1,6 +1,6 @@
 //! `Answers`: a desk with the output that is pending. Its memory follows the desk and one block of output, not the
 //! script.
-ghost use Rattle.std.specs.Prelude.{◌≡◌, ◌+◌, ◌<◌, ◌≤◌, ◌⊎◌, ◌∷◌, [], List, ℕ, Option, None, MatchOption, IfOk, OnOk, OnErr, IfErr};
+ghost use Rattle.std.specs.Prelude.{◌≡◌, ◌+◌, ◌<◌, ◌≤◌, ◌⊎◌, ◌∷◌, [], List, ℕ, Option, None, MatchOption, IfOk, OnOk, OnErr, IfErr, Ok, if◌then◌else◌};
 ghost use Rattle.std.specs.Io.KnownBytes.{Keeps};
 ghost use Rattle.point_core.specs.declared.refusal.Refusal.TheVariants.{Write as WriteFault, Memory};
 ghost use Rattle.command_core.specs.declared.command.Command.{Command};
@@ -85,37 +85,53 @@ impl Answers {
         ensures lines { self.new.totals.lines ≤ self.old.totals.lines + 1 }
         ensures refusals { IfErr result (λ refusal. (refusal ≡ WriteFault) ⊎ (refusal ≡ Memory)) }
     {
-        match body {
-            Some(body) => self.answer_body(number, body, writer),
-            None => Ok(None),
+        let Some(body) = body else {
+            return Ok(None);
+        };
+        let mut outcome = Ok(None);
+        if self.answer_body(&number, body, writer, &mut outcome) {
+            Ok(None)
+        } else {
+            outcome
         }
     }
 
-    /// Answers line `number`, whose body is known. It is inlined where the body is made: then neither the command nor
-    /// its answer is ever stored as a whole.
+    /// Answers line `number`, whose body is known. True says that the line was accepted, in a register, and false that
+    /// `outcome`, which is in memory, has what `answer` returns.
     ///
-    /// Fails as `answer`.
+    /// It is inlined where the body is made: then neither the command nor its answer is ever stored as a whole. The number is
+    /// lent, since only rare answers read it.
     #[inline(always)]
     pub(crate) fn answer_body<W: Write>(
         &mut self,
-        number: u32,
+        number: &u32,
         body: Body,
         writer: &mut W,
-    ) -> Result<Option<Refusal>, Refusal>
-        requires few { self.old.totals.lines < number }
-        ensures answered { IsAnswered number body result self.old self.new
+        outcome: &mut Result<Option<Refusal>, Refusal>,
+    ) -> bool
+        requires few { self.old.totals.lines < number.now }
+        ensures answered { IsAnswered number.now body (if result then Ok None else outcome.new) self.old self.new
             (W.contents writer.old) (W.contents writer.new) }
     {
         if let Body::Cmd(Command::Info(name)) = &body {
-            return self.answer_info(number, name, writer);
+            *outcome = self.answer_info(*number, name, writer);
+            return false;
         }
         if let Body::Cmd(Command::Show(name)) = &body {
-            return self.answer_show(number, name, writer);
+            *outcome = self.answer_show(*number, name, writer);
+            return false;
         }
         let answer = answer_line(&mut self.desk, body);
-        match answer {
-            Answer::Refused(refusal) => self.pass_refusal(number, refusal, writer),
-            answer => self.pass(number, answer, writer),
+        if let Answer::Refused(refusal) = answer {
+            *outcome = self.pass_refusal(*number, refusal, writer);
+            return false;
+        }
+        match self.pass(*number, answer, writer) {
+            Ok(_) => true,
+            Err(fault) => {
+                *outcome = Err(fault);
+                false
+            }
         }
     }
 

@@ -23,12 +23,13 @@ pub(crate) fn answer_raw<W: Write>(
 {
     let mut next = NextLine {
         answers,
-        number: line.number,
         writer,
+        number: line.number,
+        outcome: Ok(None),
     };
     match take_raw_line(line, &mut next) {
-        Some(given) => given,
-        None => Ok(None),
+        Some(false) => next.outcome,
+        _ => Ok(None),
     }
 }
 
@@ -36,24 +37,29 @@ pub(crate) fn answer_raw<W: Write>(
 #[derive(Drop)]
 struct NextLine<'a, W> {
     answers: &'a mut Answers,
-    number: u32,
     writer: &'a mut W,
+    number: u32,
+    // what `Answers::answer` returns, if `take` gave false; cleared by one store, next to the number
+    outcome: Result<Option<Refusal>, Refusal>,
 }
 
 impl<'a, W: Write> Takes for NextLine<'a, W> {
-    ghost use Rattle.std.specs.Prelude.{◌≡◌, ◌<◌};
+    ghost use Rattle.std.specs.Prelude.{◌≡◌, ◌<◌, Ok, None, if◌then◌else◌};
     ghost use Rattle.script_core.specs.Answering.{IsAnswered};
 
-    type Given = Result<Option<Refusal>, Refusal>;
+    // As `Answers::answer_body` returns it: a bool comes in a register, where the outcome would go through memory.
+    type Given = bool;
 
     ghost can_take = { λ s. s.answers.now.totals.lines < s.number };
 
-    ghost takes = { λ s body given t. (t.answers.ghost_name ≡ s.answers.ghost_name)
+    ghost takes = { λ s body accepted t. (t.answers.ghost_name ≡ s.answers.ghost_name)
         × (t.writer.ghost_name ≡ s.writer.ghost_name)
-        × IsAnswered s.number body given s.answers.now t.answers.now (W.contents s.writer.now) (W.contents t.writer.now) };
+        × IsAnswered s.number body (if accepted then Ok None else t.outcome) s.answers.now t.answers.now
+        (W.contents s.writer.now) (W.contents t.writer.now) };
 
     #[inline(always)]
-    fn take(&mut self, body: Body) -> Result<Option<Refusal>, Refusal> {
-        self.answers.answer_body(self.number, body, self.writer)
+    fn take(&mut self, body: Body) -> bool {
+        self.answers
+            .answer_body(&self.number, body, self.writer, &mut self.outcome)
     }
 }
