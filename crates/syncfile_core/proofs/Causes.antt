@@ -2,7 +2,7 @@
 use Rattle.std.proofs.Common.{[], ◌∷◌, ◌&&◌, ◌≡◌, ℕ, ◌<◌, ◌≤◌, Bool, true, false, refl, sym, ap, ◌∙◌, subst, List, length, Option, None, Some, Result, Ok, Err, inl, inr, is_some, nat_lt, if◌then◌else◌}
 use Rattle.std.specs.List.{list_all}
 use Rattle.syncfile_core.specs.Merge.{cause_to_refuse_merge}
-use Rattle.std.specs.Prelude.{IsErrAnd, IfOk, OnOk, MatchOption, MatchBool}
+use Rattle.std.specs.Prelude.{IsErrAnd, IfOk, OnOk, MatchOption}
 use Rattle.std.proofs.Math.Bool.{and-false}
 use Rattle.std.proofs.lemmas.Bool.{cases_Bool, cases_lt, lt-ltb, le-ltb, false≢true}
 use Rattle.point_core.specs.declared.refusal.Refusal.{Refusal}
@@ -53,12 +53,6 @@ MatchOption-None P Q o is h = subst (λ p. MatchOption p P Q) (sym is) h
 pub is_none : {T : Type 0} (o : Option T) → is_some o ≡ false → o ≡ None
 is_none None h = refl
 is_none (Some x) h = absurd (false≢true (sym h))
-
-pub MatchBool-true : (b : Bool) (P Q : Type 0) → b ≡ true → P → MatchBool b P Q
-MatchBool-true b P Q is h = subst (λ p. MatchBool p P Q) (sym is) h
-
-pub MatchBool-false : (b : Bool) (P Q : Type 0) → b ≡ false → Q → MatchBool b P Q
-MatchBool-false b P Q is h = subst (λ p. MatchBool p P Q) (sym is) h
 
 -- an error that is the cause
 pub IsRefusedFor-Err : {T : Type 0} (o : Option Refusal) (r : Result T Refusal) (cause e : Refusal) → o ≡ Some cause → e ≡ cause → IsErrAnd r (λ given. given ≡ e) → IsRefusedFor o r

@@ -26,6 +26,7 @@ impl Draft {
     }
 
     /// One point, with a floor of 0 everywhere.
+    #[inline(always)]
     pub(crate) fn draw_plain(&mut self, point: Point) -> Result<(), Refusal>
         ensures file { OnOk result ((name : List ℕ) → drafted name self.new ≡ plain_file name point) }
         ensures rising { OnOk result (HasRisingContexts self.new.points.items) }

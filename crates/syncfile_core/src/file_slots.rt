@@ -1,6 +1,6 @@
 //! `FileSlots`: files by name, in order of making, each found, made and closed in constant time. `Files` keeps its files
 //! in one.
-ghost use Rattle.std.specs.Prelude.{◌≡◌, ℕ, ◌+◌, ◌^◌, ◌<◌, ◌≤◌, true, false, [], ◌∷◌, ◌++◌, length, take, map, option_copied, position, None, Some, Ok, Err, MatchBool, MatchOption, IsOk, IsErr, OnOk, OnErr, IfOk, IfErr};
+ghost use Rattle.std.specs.Prelude.{◌≡◌, ℕ, ◌+◌, ◌^◌, ◌<◌, ◌≤◌, true, false, [], ◌∷◌, ◌++◌, length, take, map, option_copied, position, None, Some, Ok, Err, MatchOption, IsOk, IsErr, OnOk, OnErr, IfOk, IfErr};
 ghost use Rattle.point_core.specs.declared.refusal.Refusal.TheVariants.{Memory, NoEntry};
 ghost use Rattle.std.specs.List.{IsDistinct};
 ghost use Rattle.std.specs.List.Sorted.{IsPermutation, IsNonDecreasingBy};
@@ -137,6 +137,7 @@ impl FileSlots {
     /// Makes a file of a draft, as the last one, if drawing the draft succeeded. The name is looked up once.
     ///
     /// Fails as `free` does, then with `Memory`; nothing is made then.
+    #[inline(always)]
     pub(crate) fn make(
         &mut self,
         alloc: Global,
@@ -169,7 +170,7 @@ impl FileSlots {
     }
 
     // Adds the draft's file as the last one. False if a file has that name, or if memory is refused: nothing has
-    // changed then.
+    // changed then. Its result is in a register, while the one of `make`, which is inlined, would be in memory.
     fn put(&mut self, alloc: Global, name: Name, draft: &mut Draft) -> bool
         requires rising { HasRisingContexts draft.old.points.items }
         ensures new { result ≡ true → has_file self.old name ≡ false }
@@ -199,21 +200,20 @@ impl FileSlots {
         }
     }
 
-    /// Removes the file with that name. The others keep their order.
-    ///
-    /// Fails with `NoEntry`; nothing has changed then.
-    pub(crate) fn remove(&mut self, name: &Name) -> Result<(), Refusal>
-        ensures known { MatchBool (has_file self.old name.now) (IsOk result) (result ≡ Err NoEntry) }
+    /// Removes the file with that name, and says whether there was one. The others keep their order.
+    #[inline(never)]
+    pub(crate) fn remove(&mut self, name: &Name) -> bool
+        ensures known { result ≡ has_file self.old name.now }
         ensures without { self.new ≡ without_file self.old name.now }
     {
         let Some(index) = index_of(&self.names, &self.hints, name) else {
-            return Err(Refusal::NoEntry);
+            return false;
         };
         self.names.swap_remove_index(index);
         note_at(&mut self.hints, &self.names, index);
         let last = self.names.len();
         self.made.swap(index, last);
-        Ok(())
+        true
     }
 }
 

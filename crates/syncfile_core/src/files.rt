@@ -128,6 +128,7 @@ impl Files {
     /// Makes a file of one point, signalled or not, with a floor of 0 everywhere, as sw_sync's create-fence call does.
     ///
     /// Fails as `free` does, then with `Memory`; nothing is made then.
+    #[inline(always)]
     pub fn create(&mut self, name: Name, point: Point) -> Result<(), Refusal>
         ensures refused { IsRefusedFor (cause_to_refuse self.old name) result }
         ensures last { OnOk result (self.new ≡ self.old ++ plain_file name point ∷ []) }
@@ -235,10 +236,15 @@ impl Files {
     /// Closes a file. The others keep their order.
     ///
     /// Fails with `NoEntry`; nothing is closed then. Does not allocate.
+    #[inline(always)]
     pub fn close(&mut self, name: &Name) -> Result<(), Refusal>
         ensures known { MatchBool (has_file self.old name.now) (IsOk result) (result ≡ Err NoEntry) }
         ensures without { self.new ≡ without_file self.old name.now }
     {
-        self.made.remove(name)
+        if self.made.remove(name) {
+            Ok(())
+        } else {
+            Err(Refusal::NoEntry)
+        }
     }
 }

@@ -1,15 +1,13 @@
-use Rattle.std.proofs.Common.{◌+◌, refl, sym, ap, ◌∙◌, subst, is_some, rules}
+use Rattle.std.proofs.Common.{◌+◌, sym, ap, ◌∙◌, subst, is_some, rules}
 use Rattle.syncfile_core.specs.Files.{has_file, without_file, files_in, AreInPlace}
-use Rattle.syncfile_core.proofs.Causes.{MatchBool-true, MatchBool-false}
 use Rattle.syncfile_core.proofs.Placed.{swap_remove_by-removed, one_less-removed, has_file-position, files_in-missing, AreInPlace-swap, files_in-swap}
 use Rattle.syncfile_core.proofs.file_slots.FileSlots.remove.Goals as goal
 
 pub returns-in_default-clause-known : goal.returns-in_default-clause-known
 returns-in_default-clause-known c =
-    MatchBool-false _ _ _
-    (ap (λ fs. has_file fs c.args.name.now) (sym c.self.view_is)
+    sym (ap (λ fs. has_file fs c.args.name.now) (sym c.self.view_is)
     ∙ has_file-position c.self.inside.names.keys c.self.inside.made.items c.self.inside.next c.self.invariant c.args.name.now
-    ∙ ap is_some (sym c.in_default.ensures.index)) refl
+    ∙ ap is_some (sym c.in_default.ensures.index))
 
 pub returns-in_default-clause-without : goal.returns-in_default-clause-without
 returns-in_default-clause-without c =
@@ -25,10 +23,9 @@ invariant_of-self c =
 
 pub returns-clause-known : goal.returns-clause-known
 returns-clause-known c =
-    MatchBool-true _ _ _
-    (ap (λ fs. has_file fs c.args.name.now) (sym c.self.view_is)
+    sym (ap (λ fs. has_file fs c.args.name.now) (sym c.self.view_is)
     ∙ has_file-position c.self.inside.names.keys c.self.inside.made.items c.self.inside.next c.self.invariant c.args.name.now
-    ∙ ap is_some (sym c.in-Some.ensures.index)) refl
+    ∙ ap is_some (sym c.in-Some.ensures.index))
 
 pub returns-clause-without : goal.returns-clause-without
 returns-clause-without c =
