@@ -100,10 +100,13 @@ impl Desk {
         ensures done { IfOk result (λ given. IsDone self.old command given self.new) }
         ensures unchanged { OnErr result (self.new ≡ self.old) }
     {
+        // Frequent commands copy their names: were these lent as parts of the command, the whole command would be stored, with
+        // zeros in the bytes that its variant leaves.
         match &command {
             Command::Timeline(name) => Ok(Answer::Value(self.timeline(*name)?)),
             Command::Inc(name, n) => {
-                let (value, fired) = self.inc(name, *n)?;
+                let name = *name;
+                let (value, fired) = self.inc(&name, *n)?;
                 Ok(Answer::Raised(value, fired))
             }
             Command::Value(name) => Ok(Answer::Value(self.value(name)?)),
@@ -112,19 +115,23 @@ impl Desk {
                 Ok(Answer::Raised(value, fired))
             }
             Command::Fence(name, timeline, value) => {
-                self.fence(*name, timeline, *value)?;
+                let (name, timeline) = (*name, *timeline);
+                self.fence(name, &timeline, *value)?;
                 Ok(Answer::Done)
             }
             Command::Merge(name, first, second) => {
-                self.merge(*name, first, second)?;
+                let (name, first, second) = (*name, *first, *second);
+                self.merge(name, &first, &second)?;
                 Ok(Answer::Done)
             }
             Command::Close(name) => {
-                self.close(name)?;
+                let name = *name;
+                self.close(&name)?;
                 Ok(Answer::Done)
             }
             Command::Wait(name) => {
-                self.wait(name)?;
+                let name = *name;
+                self.wait(&name)?;
                 Ok(Answer::Done)
             }
             Command::Info(name) => Ok(Answer::Info(self.info(*name)?)),
@@ -133,24 +140,31 @@ impl Desk {
                 Ok(Answer::Done)
             }
             Command::Add(name, timeline, value, usage) => {
-                self.add(name, timeline, *value, *usage)?;
+                let (name, timeline) = (*name, *timeline);
+                self.add(&name, &timeline, *value, *usage)?;
                 Ok(Answer::Done)
             }
             Command::Import(name, file, flags) => {
-                self.import(name, file, *flags)?;
+                let (name, file) = (*name, *file);
+                self.import(&name, &file, *flags)?;
                 Ok(Answer::Done)
             }
             Command::Export(name, buffer, flags) => {
-                self.export(*name, buffer, *flags)?;
+                let (name, buffer) = (*name, *buffer);
+                self.export(name, &buffer, *flags)?;
                 Ok(Answer::Done)
             }
-            Command::Test(name, usage) => Ok(Answer::Value(self.test(name, *usage)?)),
+            Command::Test(name, usage) => {
+                let name = *name;
+                Ok(Answer::Value(self.test(&name, *usage)?))
+            }
             Command::Trim(name) => {
                 self.trim(name)?;
                 Ok(Answer::Done)
             }
             Command::Watch(name, cookie) => {
-                self.watch(name, *cookie)?;
+                let name = *name;
+                self.watch(&name, *cookie)?;
                 Ok(Answer::Done)
             }
             Command::Unwatch(cookie) => Ok(Answer::Value(self.unwatch(*cookie))),
@@ -337,6 +351,7 @@ impl Desk {
         Ok((kept, Items::of(fired)))
     }
 
+    #[inline(always)]
     fn fence(&mut self, name: Name, timeline: &Name, value: u64) -> Result<(), Refusal>
         ensures refused { IsRefusedFor (cause_of self.old (Command.Fence name timeline.now value)) result }
         ensures done { OnOk result (IsDone self.old (Command.Fence name timeline.now value) Answer.Done self.new) }
@@ -361,6 +376,7 @@ impl Desk {
         Ok(())
     }
 
+    #[inline(always)]
     fn close(&mut self, name: &Name) -> Result<(), Refusal>
         ensures refused { IsRefusedFor (cause_of self.old (Command.Close name.now)) result }
         ensures sure { IfErr result (λ e. e ≢ Refusal.Memory) }
