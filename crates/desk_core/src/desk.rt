@@ -425,6 +425,7 @@ impl Desk {
         Ok(())
     }
 
+    #[inline(always)]
     fn add(&mut self, name: &Name, timeline: &Name, value: u64, usage: Usage) -> Result<(), Refusal>
         ensures refused { IsRefusedFor (cause_of self.old (Command.Add name.now timeline.now value usage)) result }
         ensures done { OnOk result (IsDone self.old (Command.Add name.now timeline.now value usage) Answer.Done self.new) }
@@ -460,6 +461,7 @@ impl Desk {
         Ok(())
     }
 
+    #[inline(always)]
     fn test(&self, name: &Name, usage: Usage) -> Result<u64, Refusal>
         ensures refused { IsRefusedFor (cause_of self.now (Command.Test name.now usage)) result }
         ensures sure { IfErr result (λ e. e ≢ Refusal.Memory) }

@@ -95,6 +95,7 @@ impl Buffers {
     ///
     /// Fails with `NoEntry`, then with `Memory`, and then leaves every table as it was. Only a buffer's first fence
     /// allocates.
+    #[inline(always)]
     pub fn add(
         &mut self,
         name: &Name,
@@ -183,6 +184,7 @@ impl Buffers {
     /// Whether every fence of the usage or a stronger one is signalled, as Linux's `dma_resv_test_signaled`.
     ///
     /// Fails with `NoEntry`. Does not allocate.
+    #[inline(always)]
     pub fn test(&self, name: &Name, usage: Usage, reach: &Reach) -> Result<bool, Refusal>
         ensures { MatchBool (has_buffer self.now name.now)
             (IsOkAnd result (λ signalled.

@@ -100,6 +100,7 @@ impl Timelines {
     /// The point that the open timeline of that name has reached.
     ///
     /// Fails with `NoEntry`, and with `Cancelled` if the timeline is closed.
+    #[inline(always)]
     pub fn current(&self, name: &Name) -> Result<Point, Refusal>
         ensures point { IfOk result (λ p. p ≡ point_of (context_of self.now name.now) (value_of self.now name.now)) }
         ensures known { IfOk result (λ p. IsTrue (has_timeline self.now name.now) × (p.ctx ≤ length self.now)) }
@@ -119,6 +120,7 @@ impl Timelines {
     /// The point that the timeline of that name reaches by an increment of n.
     ///
     /// Fails as `inc` does.
+    #[inline(always)]
     pub fn next(&self, name: &Name, n: u64) -> Result<Point, Refusal>
         ensures point { IfOk result (λ p. p ≡ point_of (context_of self.now name.now) (value_of self.now name.now + n)) }
         ensures known { IfOk result (λ p. IsTrue (has_timeline self.now name.now) × (p.ctx ≤ length self.now)) }
