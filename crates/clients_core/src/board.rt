@@ -104,8 +104,15 @@ impl Board {
         listing.floor.clear();
         words.load_all_into(seat, &mut listing.floor);
         let points = take_points(alloc, &mut listing.points);
-        let mut points = with_room(points, words.contexts())?;
-        latest_shown(words, seat, buffer, usage, &listing.floor, &mut points);
+        let contexts = words.contexts();
+        let mut points = with_room(points, contexts)?;
+        let look = Look {
+            words,
+            contexts,
+            buffer,
+            level: usage,
+        };
+        look.latest_shown(seat, &listing.floor, &mut points);
         listing.points = Items::of(points);
         Ok(())
     }
@@ -208,30 +215,67 @@ impl SharedTable for Board {
     }
 }
 
-/// Pushes the latest point that a buffer shows of each context up to the level, if it is above the reach, by one look at each
-/// place.
-fn latest_shown(
-    words: &Words,
-    seat: &mut Seat,
+/// One look of a client at a buffer: at each place whose usage is up to the level, by rising context. `Board::export_into`
+/// makes it.
+#[derive(Drop)]
+struct Look<'a> {
+    words: &'a Words,
+    // the number of the words' contexts: read from the words, it would be loaded again for each place
+    contexts: usize,
     buffer: usize,
     level: Usage,
-    reach: &Reach,
-    points: &mut Vec<Point>,
-)
-    requires own { seat.old.words ≡ words.now }
-    requires buffer { buffer < words.now.buffers }
-    requires empty { points.old.items ≡ [] }
-    requires room { words.now.contexts ≤ vec_capacity points.old }
-    ensures listed { HasListed words.now buffer level words.now.contexts seat.old seat.new reach.now points.new.items }
-    ensures contexts { words.now.contexts ≤ CONTEXTS }
-{
-    let contexts = words.contexts();
-    for index in 0..contexts {
-        let ctx = Context::at(index);
-        let reached = reach.get(ctx);
-        let value = latest_at(words, seat, contexts, buffer, ctx, level, reached);
-        if value > reached {
-            points.push_reserved(Point { ctx, value });
+    ghost counted: { contexts ≡ words.now.contexts },
+    ghost few: { contexts ≤ CONTEXTS },
+    ghost within: { buffer < words.now.buffers },
+}
+
+impl<'a> Look<'a> {
+    /// Pushes the latest point that the buffer shows of each context, if it is above the reach, by one look at each place.
+    fn latest_shown(&self, seat: &mut Seat, reach: &Reach, points: &mut Vec<Point>)
+        requires own { seat.old.words ≡ self.now.words.now }
+        requires empty { points.old.items ≡ [] }
+        requires room { self.now.contexts ≤ vec_capacity points.old }
+        ensures listed { HasListed self.now.words.now self.now.buffer self.now.level self.now.contexts
+            seat.old seat.new reach.now points.new.items }
+    {
+        for index in 0..self.contexts {
+            let ctx = Context::at(index);
+            let reached = reach.get(ctx);
+            let value = self.latest_at(seat, ctx, reached);
+            if value > reached {
+                points.push_reserved(Point { ctx, value });
+            }
+        }
+    }
+
+    /// The latest of a value and of what the places of a context show, by one look at each.
+    #[inline(always)]
+    fn latest_at(&self, seat: &mut Seat, ctx: Context, value: u64) -> u64
+        requires own { seat.old.words ≡ self.now.words.now }
+        requires context { ctx ≤ self.now.contexts }
+        ensures shown { HasShown self.now.words.now self.now.buffer (usage_number self.now.level) ctx
+            (places_at self.now.level ctx) seat.old seat.new value result }
+    {
+        let kernel = self.later_at(seat, ctx, Usage::Kernel, value);
+        let write = self.later_at(seat, ctx, Usage::Write, kernel);
+        let read = self.later_at(seat, ctx, Usage::Read, write);
+        self.later_at(seat, ctx, Usage::Bookkeep, read)
+    }
+
+    /// The later of a value and of what a place shows. It looks if the place's usage is up to the level.
+    #[inline(always)]
+    fn later_at(&self, seat: &mut Seat, ctx: Context, usage: Usage, value: u64) -> u64
+        requires own { seat.old.words ≡ self.now.words.now }
+        requires context { ctx ≤ self.now.contexts }
+        ensures shown { HasShown self.now.words.now self.now.buffer (usage_number self.now.level) ctx
+            (place_to self.now.level ctx usage) seat.old seat.new value result }
+    {
+        if usage.number() <= self.level.number() {
+            self.words
+                .shown_of(seat, self.contexts, self.buffer, ctx, usage)
+                .max(value)
+        } else {
+            value
         }
     }
 }
@@ -246,88 +290,6 @@ fn with_room(mut points: Vec<Point>, count: usize) -> Result<Vec<Point>, Refusal
     points.clear();
     points.reserve(count)?;
     Ok(points)
-}
-
-/// The latest of a value and of what the places of a context show up to the level, by one look at each.
-fn latest_at(
-    words: &Words,
-    seat: &mut Seat,
-    contexts: usize,
-    buffer: usize,
-    ctx: Context,
-    level: Usage,
-    value: u64,
-) -> u64
-    requires own { seat.old.words ≡ words.now }
-    requires contexts { contexts ≡ words.now.contexts }
-    requires within { (buffer < words.now.buffers) × (ctx ≤ words.now.contexts) }
-    ensures shown { HasShown words.now buffer (usage_number level) ctx (places_at level ctx) seat.old seat.new value result }
-{
-    let kernel = later_at(
-        words,
-        seat,
-        contexts,
-        buffer,
-        ctx,
-        Usage::Kernel,
-        level,
-        value,
-    );
-    let write = later_at(
-        words,
-        seat,
-        contexts,
-        buffer,
-        ctx,
-        Usage::Write,
-        level,
-        kernel,
-    );
-    let read = later_at(
-        words,
-        seat,
-        contexts,
-        buffer,
-        ctx,
-        Usage::Read,
-        level,
-        write,
-    );
-    later_at(
-        words,
-        seat,
-        contexts,
-        buffer,
-        ctx,
-        Usage::Bookkeep,
-        level,
-        read,
-    )
-}
-
-/// The later of a value and of what a place shows. It looks if the place's usage is up to the level.
-fn later_at(
-    words: &Words,
-    seat: &mut Seat,
-    contexts: usize,
-    buffer: usize,
-    ctx: Context,
-    usage: Usage,
-    level: Usage,
-    value: u64,
-) -> u64
-    requires own { seat.old.words ≡ words.now }
-    requires contexts { contexts ≡ words.now.contexts }
-    requires within { (buffer < words.now.buffers) × (ctx ≤ words.now.contexts) }
-    ensures shown { HasShown words.now buffer (usage_number level) ctx (place_to level ctx usage) seat.old seat.new value result }
-{
-    if usage.number() <= level.number() {
-        words
-            .shown_of(seat, contexts, buffer, ctx, usage)
-            .max(value)
-    } else {
-        value
-    }
 }
 
 /// Takes the memory of a listing's points, to fill it anew: a client fills one listing for all of its looks, on a board

@@ -2,12 +2,12 @@ use Rattle.std.proofs.Common.{◌≡◌, ◌+◌, ◌<◌, ◌≤◌, sym, subst
 use Rattle.point_core.specs.Reach.{value_at}
 use Rattle.clients_core.specs.Board.{HasListed}
 use Rattle.clients_core.proofs.Showing.{HasListed-pushed, HasListed-reached}
-use Rattle.clients_core.proofs.board.latest_shown.Goals.{then-value-reached, else-value-reached}
-use Rattle.clients_core.proofs.board.latest_shown.Goals as goal
+use Rattle.clients_core.proofs.board.Look.latest_shown.Goals.{then-value-reached, else-value-reached}
+use Rattle.clients_core.proofs.board.Look.latest_shown.Goals as goal
 
 pub loop-index-preserved : goal.loop-index-preserved
 loop-index-preserved c =
-    let words = c.args.words.now in
+    let words = c.args.self.now.words.now in
     let reach = c.args.reach.now in
     let n = c.loop-index.index in
     let ctx = c.at-ctx.result in
@@ -22,7 +22,7 @@ loop-index-preserved c =
           let above : value_at reach ctx < value = omega arith in
           rw w.points-is
           record {
-            listed = subst (HasListed words c.args.buffer c.args.level (n + 1) c.args.seat.now seat reach) (sym w.push_reserved.ensures.items) (HasListed-pushed is above before.listed shown);
+            listed = subst (HasListed words c.args.self.now.buffer c.args.self.now.level (n + 1) c.args.seat.now seat reach) (sym w.push_reserved.ensures.items) (HasListed-pushed is above before.listed shown);
             len = omega arith;
             places = omega (arith, w.push_reserved.ensures.capacity, before.places);
           }
