@@ -1,24 +1,24 @@
--- The marks of the lanes, one bit for each allowed byte, decide whether bytes are a name.
-use Rattle.std.proofs.Common.{◌≡◌, ℕ, zero, suc, ◌+◌, ◌*◌, ◌-◌, ◌/◌, ◌%◌, ◌^◌, ◌<◌, ◌≤◌, Bool, true, false, ◌&&◌, not, cond, eqb, List, [], ◌∷◌, length, get_or, map, take, drop, replicate, inl, inr, refl, sym, ap, subst, ◌∙◌, take-append-drop, arith, w8, w64, Fits}
-use Rattle.std.specs.Int.{bit_at, trailing_ones}
+-- The bits that the halves of each byte have in common decide whether bytes are a name.
+use Rattle.std.proofs.Common.{◌≡◌, ℕ, ◌+◌, ◌*◌, ◌-◌, ◌/◌, ◌%◌, ◌^◌, ◌<◌, true, false, ◌&&◌, cond, eqb, nat_eq, List, [], ◌∷◌, length, get_or, map, take, drop, replicate, refl, sym, ap, subst, ◌∙◌, take-append-drop, arith, w8, Fits}
+use Rattle.std.specs.Bool.{one_answer}
 use Rattle.std.specs.Int.Bits.{bit_and, mask_lt}
 use Rattle.std.specs.List.{list_all, range_with_len}
 use Rattle.std.specs.Simd.Lanes.{zip2, Each1, mask_l, top}
-use Rattle.std.proofs.lemmas.Bool.{cases_lt, and_parts}
-use Rattle.std.proofs.lemmas.List.{length-map, get_or-map, get_or_append_left, ext_get_or, take_rest}
+use Rattle.std.proofs.lemmas.Bool.{and_parts, eqb-true, eq-eqb}
+use Rattle.std.proofs.lemmas.List.{length-map, get_or-map, ext_get_or, take_rest}
 use Rattle.std.proofs.lemmas.List.Folds.{list_all-append}
 use Rattle.std.proofs.lemmas.List.FromFn.{get_or-map-range_with_len}
-use Rattle.std.proofs.lemmas.Nat.Bits.{bit_at-trailing_ones}
-use Rattle.std.proofs.lemmas.Simd.{bit_mask_l, bitmask_splat, mask_l-lt, zip2_of_maps, zip2_splat, map-map, Each1-get_or, SwzOk, SwzOk-from_below, swz_l, length-swz_l, get_or-swz_l_below}
-use Rattle.point_core.specs.Name.{half_padded, is_name_byte}
-use Rattle.point_core.proofs.Padded.{length-half_padded}
+use Rattle.std.proofs.lemmas.Simd.{zip2_of_maps, zip2_splat, map-map, Each1-get_or, SwzOk, SwzOk-from_below, swz_l, length-swz_l, get_or-swz_l_below}
+use lib.Pointwise.{pointwise}
+use Rattle.point_core.specs.Name.{is_name_byte}
+use Rattle.point_core.proofs.Names.{ones-same, same-ones, compared}
 
 -- the bits of each low half of a byte, and of each high half
 abbrev bits_of_low : List ℕ
-bits_of_low = 42 ∷ 62 ∷ 62 ∷ 62 ∷ 62 ∷ 62 ∷ 62 ∷ 62 ∷ 62 ∷ 62 ∷ 60 ∷ 20 ∷ 20 ∷ 21 ∷ 21 ∷ 28 ∷ []
+bits_of_low = 11 ∷ 3 ∷ 3 ∷ 3 ∷ 3 ∷ 3 ∷ 3 ∷ 3 ∷ 3 ∷ 3 ∷ 7 ∷ 55 ∷ 55 ∷ 53 ∷ 53 ∷ 39 ∷ []
 
 abbrev bits_of_high : List ℕ
-bits_of_high = 0 ∷ 0 ∷ 1 ∷ 2 ∷ 4 ∷ 8 ∷ 16 ∷ 32 ∷ 0 ∷ 0 ∷ 0 ∷ 0 ∷ 0 ∷ 0 ∷ 0 ∷ 0 ∷ []
+bits_of_high = 1 ∷ 1 ∷ 2 ∷ 4 ∷ 8 ∷ 16 ∷ 8 ∷ 32 ∷ 1 ∷ 1 ∷ 1 ∷ 1 ∷ 1 ∷ 1 ∷ 1 ∷ 1 ∷ []
 
 abbrev low_half : ℕ → ℕ
 low_half b = bit_and b 15
@@ -29,23 +29,19 @@ high_half b = b / 2 ^ 4
 abbrev common_bits : ℕ → ℕ
 common_bits b = bit_and (get_or bits_of_low (low_half b) 0) (get_or bits_of_high (high_half b) 0)
 
-differs : ℕ → ℕ → Bool
-differs a b = not (eqb a b)
-
 -- compared with the definition at each of the 256 bytes, by computation
-each_byte : map (λ b. differs (common_bits b) 0) (range_with_len 0 256) ≡ map is_name_byte (range_with_len 0 256)
-unfolding differs
+each_byte : map (λ b. eqb (common_bits b) 0) (range_with_len 0 256) ≡ map is_name_byte (range_with_len 0 256)
 each_byte = refl
 
-common_bits-is : (b : ℕ) → b < 256 → differs (common_bits b) 0 ≡ is_name_byte b
+common_bits-is : (b : ℕ) → b < 256 → eqb (common_bits b) 0 ≡ is_name_byte b
 common_bits-is b h =
-    sym (get_or-map-range_with_len (λ x. differs (common_bits x) 0) 0 256 b b false h (omega arith))
+    sym (get_or-map-range_with_len (λ x. eqb (common_bits x) 0) 0 256 b b false h (omega arith))
     ∙ ap (λ t. get_or t b false) each_byte
     ∙ get_or-map-range_with_len is_name_byte 0 256 b b false h (omega arith)
 
-tests : (xs : List ℕ) → Each1 (Fits w8) xs → map (λ b. differs (common_bits b) 0) xs ≡ map is_name_byte xs
+tests : (xs : List ℕ) → Each1 (Fits w8) xs → pointwise eqb (map common_bits xs) (replicate (length xs) 0) ≡ list_all is_name_byte xs
 tests [] fit = refl
-tests (x ∷ xs) fit = λ i. common_bits-is x fit.0.fits i ∷ tests xs fit.1 i
+tests (x ∷ xs) fit = λ i. common_bits-is x fit.0.fits i && tests xs fit.1 i
 
 -- a table of 16 lanes at each of 16 places
 module _ (table places : List ℕ) (long : length places ≡ 16) (below : Each1 (λ j. j < 16) places) where
@@ -103,58 +99,21 @@ module _ (v : List ℕ) (long : length v ≡ 16) where
   common_lanes : Each1 (Fits w8) v → common ≡ map common_bits v
   common_lanes fit = zip2_of_maps bit_and (λ b. get_or bits_of_low (low_half b) 0) (λ b. get_or bits_of_high (high_half b) 0) v low_looked_up (high_looked_up fit)
 
-  pub marks-is : Each1 (Fits w8) v → mask_l (map (top 7) (zip2 (λ a b. cond (not (eqb a b)) 255 0) common (replicate 16 0))) % 2 ^ 64 ≡ mask_l (map is_name_byte v)
-  unfolding differs
-  marks-is fit =
-      bitmask_splat w8 differs common 16 0 (ap length (common_lanes fit) ∙ length-map v common_bits ∙ long) (omega arith)
-      ∙ ap (λ xs. mask_l (map (λ x. differs x 0) xs)) (common_lanes fit)
-      ∙ ap mask_l (map-map (λ x. differs x 0) common_bits v ∙ tests v fit)
-
-all_at : (p : ℕ → Bool) (xs : List ℕ) → ((k : ℕ) → k < length xs → p (get_or xs k 0) ≡ true) → list_all p xs ≡ true
-all_at p [] each = refl
-all_at p (x ∷ xs) each = λ i. each 0 (omega arith) i && all_at p xs (λ k h. each (suc k) (omega arith)) i
-
-each_at : (p : ℕ → Bool) (xs : List ℕ) → list_all p xs ≡ true → (k : ℕ) → k < length xs → p (get_or xs k 0) ≡ true
-each_at p [] all k h = absurd (omega arith)
-each_at p (x ∷ xs) all zero h = (and_parts (p x) (list_all p xs) all).0
-each_at p (x ∷ xs) all (suc k) h = each_at p xs (and_parts (p x) (list_all p xs) all).1 k (omega arith)
-
-set_bit : (b : Bool) → cond {A = ℕ} b 1 0 ≡ 1 → b ≡ true
-set_bit true e = refl
-set_bit false e = absurd (omega arith)
-
-abbrev marks_of : List ℕ → ℕ
-marks_of bytes = mask_l (map is_name_byte (half_padded bytes))
-
-module _ (bytes : List ℕ) (few : length bytes ≤ 16) where
-  long : length (half_padded bytes) ≡ 16
-  long = length-half_padded bytes few
-
-  marks_below : marks_of bytes < 2 ^ 16
-  marks_below =
-      let lanes = map is_name_byte (half_padded bytes) in
-      subst (λ n. mask_l lanes < 2 ^ n) (length-map (half_padded bytes) is_name_byte ∙ long) (mask_l-lt lanes)
-
-  bit_of : (k : ℕ) → k < length bytes → bit_at (marks_of bytes) k ≡ cond (is_name_byte (get_or bytes k 0)) 1 0
-  bit_of k h =
-      bit_mask_l (map is_name_byte (half_padded bytes)) k ∙ ap (λ b. cond b 1 0) (get_or-map is_name_byte (half_padded bytes) k 0 false (omega (arith, long)))
-      ∙ ap (λ b. cond (is_name_byte b) 1 0) (get_or_append_left bytes (replicate (16 - length bytes) 0) 0 k h)
-
-  lowest_unset : (trailing_ones w64 (marks_of bytes) < 64) × (bit_at (marks_of bytes) (trailing_ones w64 (marks_of bytes)) ≡ 0) × ((k : ℕ) → k < trailing_ones w64 (marks_of bytes) → bit_at (marks_of bytes) k ≡ 1)
-  lowest_unset = bit_at-trailing_ones w64 (marks_of bytes) (omega (arith, marks_below))
-
-  pub marked-named : length bytes ≤ trailing_ones w64 (marks_of bytes) → list_all is_name_byte bytes ≡ true
-  marked-named h = all_at is_name_byte bytes (λ k within. set_bit _ (sym (bit_of k within) ∙ lowest_unset.2 k (omega (arith, h, within))))
-
-  pub named-marked : list_all is_name_byte bytes ≡ true → length bytes ≤ trailing_ones w64 (marks_of bytes)
-  named-marked all =
-      let n = trailing_ones w64 (marks_of bytes) in
-      elim (cases_lt n (length bytes)) [
-        | inl less ↦
-            let one : bit_at (marks_of bytes) n ≡ 1 = bit_of n less ∙ ap (λ b. cond b 1 0) (each_at is_name_byte bytes all n less) in
-            absurd (omega (arith, one, lowest_unset.1))
-        | inr whole ↦ whole
-      ]
+  -- no lane has common bits just if each byte is allowed
+  pub none-common : Each1 (Fits w8) v → nat_eq (mask_l (map (top 7) (zip2 (λ a b. cond (eqb a b) 255 0) common (replicate 16 0))) % 2 ^ 64) 65535 ≡ list_all is_name_byte v
+  none-common fit =
+      let bits = map common_bits v in
+      let zeros : List ℕ = replicate 16 0 in
+      let wide : length bits ≡ 16 = length-map v common_bits ∙ long in
+      let bit_mask : mask_l (map (top 7) (zip2 (λ a b. cond (eqb a b) 255 0) common zeros)) % 2 ^ 64 ≡ mask_l (zip2 eqb bits zeros) =
+      ap (λ xs. mask_l (map (top 7) (zip2 (λ a b. cond (eqb a b) 255 0) xs zeros)) % 2 ^ 64) (common_lanes fit) ∙ compared 16 bits zeros wide refl (omega arith) in
+      let power : 2 ^ length bits ≡ 65536 = ap (λ n. 2 ^ n) wide in
+      one_answer _ (pointwise eqb bits zeros) (
+        λ e. ones-same bits zeros wide (omega (arith, eqb-true _ _ e, bit_mask, power)),
+        λ e. eq-eqb _ _ (omega (arith, bit_mask, power, same-ones bits zeros e)),
+      ) (λ e. e, λ e. e)
+      ∙ ap (λ n. pointwise eqb bits (replicate n 0)) (sym long)
+      ∙ tests v fit
 
 -- a list of bytes, and its slices before and from the 16th
 pub all-halves : (bytes : List ℕ) → list_all is_name_byte bytes ≡ (list_all is_name_byte (take 16 bytes) && list_all is_name_byte (take (length bytes - 16) (drop 16 bytes)))

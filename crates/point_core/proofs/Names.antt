@@ -52,7 +52,7 @@ first_bit : (b : Bool) (m power : ℕ) → cond b 1 0 + 2 * m + 1 ≡ 2 * power 
 first_bit true m power e = (refl, omega arith)
 first_bit false m power e = absurd (omega arith)
 
-ones-same : (xs ys : List ℕ) → length xs ≡ length ys → mask_l (zip2 eqb xs ys) + 1 ≡ 2 ^ length xs → pointwise eqb xs ys ≡ true
+pub ones-same : (xs ys : List ℕ) → length xs ≡ length ys → mask_l (zip2 eqb xs ys) + 1 ≡ 2 ^ length xs → pointwise eqb xs ys ≡ true
 ones-same [] [] long e = refl
 ones-same [] (y ∷ ys) long e = absurd (omega arith)
 ones-same (x ∷ xs) [] long e = absurd (omega arith)
@@ -60,7 +60,7 @@ ones-same (x ∷ xs) (y ∷ ys) long e =
     let parts = first_bit (eqb x y) (mask_l (zip2 eqb xs ys)) (2 ^ length xs) (omega (arith, e, two-pow-succ (length xs))) in
     λ i. parts.0 i && ones-same xs ys (omega arith) parts.1 i
 
-same-ones : (xs ys : List ℕ) → pointwise eqb xs ys ≡ true → mask_l (zip2 eqb xs ys) + 1 ≡ 2 ^ length xs
+pub same-ones : (xs ys : List ℕ) → pointwise eqb xs ys ≡ true → mask_l (zip2 eqb xs ys) + 1 ≡ 2 ^ length xs
 same-ones [] [] e = refl
 same-ones [] (y ∷ ys) e = refl
 same-ones (x ∷ xs) [] e = absurd (cc)
@@ -69,16 +69,16 @@ same-ones (x ∷ xs) (y ∷ ys) e =
     let bit : cond {A = ℕ} (eqb x y) 1 0 ≡ 1 = ap (λ b. cond b 1 0) parts.0 in
     omega (arith, bit, same-ones xs ys parts.1, two-pow-succ (length xs))
 
-compared : (xs ys : List ℕ) → length xs ≡ 32 → length ys ≡ 32 → mask_l (map (top 7) (zip2 (λ a b. cond (eqb a b) 255 0) xs ys)) % 2 ^ 64 ≡ mask_l (zip2 eqb xs ys)
-compared xs ys long as_long =
-    ap (λ ms. mask_l ms % 2 ^ 64) (tops_compared w8 eqb xs ys) ∙ mask_l-mod (zip2 eqb xs ys) 64 (omega (arith, length-zip2 eqb xs ys (long ∙ sym as_long), long))
+pub compared : (n : ℕ) (xs ys : List ℕ) → length xs ≡ n → length ys ≡ n → n ≤ 64 → mask_l (map (top 7) (zip2 (λ a b. cond (eqb a b) 255 0) xs ys)) % 2 ^ 64 ≡ mask_l (zip2 eqb xs ys)
+compared n xs ys long as_long few =
+    ap (λ ms. mask_l ms % 2 ^ 64) (tops_compared w8 eqb xs ys) ∙ mask_l-mod (zip2 eqb xs ys) 64 (omega (arith, length-zip2 eqb xs ys (long ∙ sym as_long), long, few))
 
 pub same_names : (a b x y : List ℕ) → bytes_of a ≡ x → bytes_of b ≡ y → IsStored a → IsStored b
     → nat_eq (mask_l (map (top 7) (zip2 (λ a b. cond (eqb a b) 255 0) a b)) % 2 ^ 64) 4294967295 ≡ pointwise nat_eq x y
 same_names a b x y p q s t =
     let long = stored_long a s in
     let as_long = stored_long b t in
-    let mask = compared a b long as_long in
+    let mask = compared 32 a b long as_long (omega arith) in
     let power : 2 ^ length a ≡ 4294967296 = ap (λ n. 2 ^ n) long in
     one_answer _ _ (
       λ e. sym p ∙ ap bytes_of ((bytes_decides a b).0 (ones-same a b (long ∙ sym as_long) (omega (arith, eqb-true _ _ e, mask, power)))) ∙ q,

@@ -1,6 +1,6 @@
 -- Bytes with zeros after them, as the digits of a number.
 use Rattle.std.proofs.Common.{◌≡◌, ℕ, zero, suc, ◌+◌, ◌-◌, ◌*◌, ◌/◌, ◌%◌, ◌^◌, ◌<◌, ◌≤◌, List, [], ◌∷◌, ◌++◌, length, get_or, take, drop, replicate, refl, sym, ap, subst, ◌∙◌, arith, w8, Fits, mul_assoc, length-drop, take_all, drop-drop, take-append-drop}
-use Rattle.std.proofs.lemmas.List.{length-append, length-replicate, length-take-le, append_assoc, append-nil, replicate-append-replicate, get_or-drop, take_rest}
+use Rattle.std.proofs.lemmas.List.{length-append, length-replicate, append_assoc, replicate-append-replicate, get_or-drop, take_rest}
 use Rattle.std.proofs.lemmas.Nat.{shr-shr, shr_le, or_shifted}
 use Rattle.std.specs.Simd.Lanes.{Each1, chunk, number_l, digits_l}
 use lib.Bits.{bit_or}
@@ -101,11 +101,6 @@ length-padded xs few =
     let zeros : List ℕ = replicate (32 - length xs) 0 in
     omega (arith, length-append xs zeros, length-replicate {A = ℕ} (32 - length xs) 0)
 
-pub length-half_padded : (xs : List ℕ) → length xs ≤ 16 → length (half_padded xs) ≡ 16
-length-half_padded xs few =
-    let zeros : List ℕ = replicate (16 - length xs) 0 in
-    omega (arith, length-append xs zeros, length-replicate {A = ℕ} (16 - length xs) 0)
-
 each-bytes : (xs : List ℕ) → Each1 (Fits w8) xs → AreBytes xs
 each-bytes [] fit k = omega arith
 each-bytes (x ∷ xs) fit zero = fit.0.fits
@@ -123,15 +118,20 @@ digits-joined n xs ys m is long as_long few fit as_fit =
     let whole : m ≡ number_l 256 (xs ++ ys) = is ∙ ap (λ k. number_l 256 xs + 2 ^ (8 * k) * number_l 256 ys) (sym long) ∙ sym (number-append xs ys) in
     ap (digits_l 256 16) whole ∙ digits-number 16 (xs ++ ys) (omega (arith, length-append xs ys, long, as_long)) (append-bytes xs ys (each-bytes xs fit) (each-bytes ys as_fit))
 
+-- the number of some bytes and of more after them
+pub number-more : (n : ℕ) (xs ys : List ℕ) → length xs ≡ n → number_l 256 (xs ++ ys) ≡ number_l 256 xs + 2 ^ (8 * n) * number_l 256 ys
+number-more n xs ys long = number-append xs ys ∙ ap (λ k. number_l 256 xs + 2 ^ (8 * k) * number_l 256 ys) long
+
+pub each-append : (xs ys : List ℕ) → Each1 (Fits w8) xs → Each1 (Fits w8) ys → Each1 (Fits w8) (xs ++ ys)
+each-append [] ys p q = q
+each-append (x ∷ xs) ys p q = (p.0, each-append xs ys p.1 q)
+
 -- half of the lanes, and zeros; and two halves of the lanes, of which the first is full
 pub padded-front : (xs : List ℕ) → length xs ≤ 16 → half_padded xs ++ replicate 16 0 ≡ padded xs
 padded-front xs few =
     let zeros : 16 - length xs + 16 ≡ 32 - length xs = omega arith in
     append_assoc xs (replicate (16 - length xs) 0) (replicate 16 0)
     ∙ ap (λ rest. xs ++ rest) (replicate-append-replicate (16 - length xs) 16 0) ∙ ap (λ n. xs ++ replicate n 0) zeros
-
-pub full-front : (xs : List ℕ) → 16 ≤ length xs → take 16 xs ≡ half_padded (take 16 xs)
-full-front xs least = sym (ap (λ n. take 16 xs ++ replicate (16 - n) 0) (length-take-le 16 xs least) ∙ append-nil (take 16 xs))
 
 pub padded-halves : (xs : List ℕ) → 16 ≤ length xs → length xs ≤ 32 → take 16 xs ++ half_padded (take (length xs - 16) (drop 16 xs)) ≡ padded xs
 padded-halves xs least most =

@@ -1,6 +1,7 @@
 use Rattle.std.proofs.Common.{◌++◌, take, ap, sym, ◌∙◌, true≢false, arith}
+use Rattle.point_core.specs.Name.{is_name_byte}
 use Rattle.point_core.proofs.Marked.{front-allowed, back-allowed, both-allowed}
-use Rattle.point_core.proofs.Padded.{full-front, padded-halves}
+use Rattle.point_core.proofs.Padded.{padded-halves}
 use Rattle.point_core.proofs.name.Name.read_many.Goals.{then-not-are_name_bytes-via-then-not-are_name_bytes, then-not-are_name_bytes-via-else-not-are_name_bytes+then-not-are_name_bytes-2}
 use Rattle.point_core.proofs.name.Name.read_many.Goals as goal
 
@@ -14,7 +15,7 @@ returns-then-not-are_name_bytes-clause-valid c =
             | then-not-are_name_bytes-via-then-not-are_name_bytes w ↦
                 true≢false (sym (front-allowed bytes is.2) ∙ sym c.are_name_bytes.ensures ∙ w.if-not-are_name_bytes.true)
             | then-not-are_name_bytes-via-else-not-are_name_bytes+then-not-are_name_bytes-2 w ↦
-                true≢false (sym (back-allowed bytes is.2) ∙ sym w.are_name_bytes-else-not-are_name_bytes.ensures ∙ w.if-not-are_name_bytes-2.true)
+                true≢false (sym (back-allowed bytes is.2) ∙ sym (c.few_lanes.ensures.spread is_name_byte) ∙ sym w.are_name_bytes-else-not-are_name_bytes.ensures ∙ w.if-not-are_name_bytes-2.true)
           ]
           )),
     )
@@ -24,13 +25,10 @@ in_lanes-requires-clause-name c = (
   omega (arith, c.requires.least),
   c.requires.most,
   both-allowed c.args.bytes.now (sym c.are_name_bytes.ensures ∙ c.if-not-are_name_bytes.false)
-      (sym c.are_name_bytes-else-not-are_name_bytes.ensures ∙ c.if-not-are_name_bytes-2.false),
+      (sym (c.few_lanes.ensures.spread is_name_byte) ∙ sym c.are_name_bytes-else-not-are_name_bytes.ensures ∙ c.if-not-are_name_bytes-2.false),
 )
-
-pub are_name_bytes-requires-clause-lanes : goal.are_name_bytes-requires-clause-lanes
-are_name_bytes-requires-clause-lanes c = full-front c.args.bytes.now (omega (arith, c.requires.least))
 
 pub in_lanes-requires-clause-lanes : goal.in_lanes-requires-clause-lanes
 in_lanes-requires-clause-lanes c =
-    ap (λ back. take 16 c.args.bytes.now ++ back) c.few_lanes-back.ensures
+    ap (λ back. take 16 c.args.bytes.now ++ back) c.few_lanes.ensures.lanes
     ∙ padded-halves c.args.bytes.now (omega (arith, c.requires.least)) (omega (arith, c.requires.most))
