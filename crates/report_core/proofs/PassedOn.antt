@@ -4,6 +4,13 @@ use Rattle.std.specs.List.{flat_map}
 use Rattle.std.specs.Io.KnownBytes.{Appends}
 use Rattle.std.proofs.KnownBytes.{Appends-nil, Appends-trans}
 use Rattle.std.proofs.lemmas.List.{flat_map_more, take_more}
+use Rattle.point_core.specs.declared.timeline_row.TimelineRow.{TimelineRow}
+use Rattle.command_core.specs.declared.answer.FileRow.{FileRow}
+use Rattle.command_core.specs.declared.answer.BufferRows.{BufferRows}
+use Rattle.command_core.specs.Tables.{Tables, row_count}
+use Rattle.report_core.specs.Row.{file_row_text}
+use Rattle.report_core.specs.Tables.{timeline_text, buffer_text}
+use Rattle.report_core.specs.Answer.{objects_text, report_text, value_line}
 use Rattle.report_core.specs.Bytes.{AppendsFront, PassesOn}
 
 -- bytes that were appended, and then written in part
@@ -74,3 +81,16 @@ module _ {X : Type 0} where
       let rest = flat_map f (drop (i + 1) xs) in
       let all : flat_map f xs ≡ (first ++ f x) ++ rest = ap (flat_map f) (sym (take-append-drop (i + 1) xs)) ∙ flat_map-append f (take (i + 1) xs) (drop (i + 1) xs) ∙ ap (λ front. front ++ rest) (flat_map-next f xs i x within is) in
       Front-more (waiting ++ (first ++ f x)) rest (waiting ++ flat_map f xs) old new (ap (λ text. waiting ++ text) all ∙ sym (append_assoc waiting (first ++ f x) rest)) (Front-passed waiting middle first (f x) old between new p q)
+
+-- a report is its objects, and then its buffers
+pub objects-report : (report : Tables) (count : ℕ) (timelines : List TimelineRow) (files : List FileRow) (buffers : List BufferRows) → count ≡ row_count report → timelines ≡ report.timelines → files ≡ report.files → buffers ≡ report.buffers → objects_text count timelines files ++ flat_map buffer_text buffers ≡ report_text report
+objects-report report count timelines files buffers counted alike same equal =
+    ap (λ n. objects_text n timelines files ++ flat_map buffer_text buffers) counted
+    ∙ ap (λ xs. objects_text (row_count report) xs files ++ flat_map buffer_text buffers) alike
+    ∙ ap (λ xs. objects_text (row_count report) report.timelines xs ++ flat_map buffer_text buffers) same
+    ∙ ap (λ xs. objects_text (row_count report) report.timelines report.files ++ flat_map buffer_text xs) equal
+    ∙ parts (value_line (row_count report)) (flat_map timeline_text report.timelines) (flat_map file_row_text report.files) (flat_map buffer_text report.buffers)
+  where
+    parts : (count timelines files buffers : List ℕ) → ((count ++ timelines) ++ files) ++ buffers ≡ count ++ ((timelines ++ files) ++ buffers)
+    parts count timelines files buffers =
+        ap (λ text. text ++ buffers) (append_assoc count timelines files) ∙ append_assoc count (timelines ++ files) buffers

@@ -6,7 +6,6 @@ ghost use Rattle.std.specs.Iterator.{Drains, IsFinite};
 ghost use Rattle.point_core.specs.declared.refusal.Refusal.TheVariants.{Memory};
 ghost use Rattle.command_core.specs.declared.answer.FenceRow.{FenceRow as FenceRowModel};
 ghost use Rattle.command_core.specs.declared.answer.ShowRow.{ShowRow as ShowRowModel};
-ghost use Rattle.command_core.specs.Tables.{row_count};
 ghost use Rattle.report_core.specs.Status.{status_text};
 ghost use Rattle.report_core.specs.Answer.{line_text, fired_text, raised_text, fence_text, info_line, info_text, show_text};
 ghost use Rattle.report_core.specs.Answer.{report_text, refusal_text, details, value_line, text_of};
@@ -230,7 +229,7 @@ fn push_report(report: &Report, out: &mut Vec<u8>) -> Result<(), Refusal>
     ensures ok { OnOk result (out.new.items ≡ out.old.items ++ report_text report.now) }
     ensures err { OnErr result ((result ≡ Err Memory) × StartsWith out.new.items out.old.items) }
 {
-    push_row_count(report, out)?;
+    push_row_count(report.row_count(), out)?;
     report_text(report, out)?;
     Ok(())
 }
@@ -239,15 +238,12 @@ fn push_report(report: &Report, out: &mut Vec<u8>) -> Result<(), Refusal>
 ///
 /// Fails only with Memory. `out` then begins with its old bytes.
 #[inline(never)]
-pub(crate) fn push_row_count(report: &Report, out: &mut Vec<u8>) -> Result<(), Refusal>
-    ensures ok { OnOk result (out.new.items ≡ out.old.items ++ value_line (row_count report.now)) }
+pub(crate) fn push_row_count(count: u128, out: &mut Vec<u8>) -> Result<(), Refusal>
+    ensures ok { OnOk result (out.new.items ≡ out.old.items ++ value_line count) }
     ensures err { OnErr result ((result ≡ Err Memory) × StartsWith out.new.items out.old.items) }
 {
     let mut line = TextLine::new();
-    put_word(
-        &mut line,
-        Buffer::new().format(report.row_count()).as_bytes(),
-    );
+    put_word(&mut line, Buffer::new().format(count).as_bytes());
     line.put_text(b"ok");
     line.push_to(out)
 }

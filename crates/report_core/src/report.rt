@@ -1,15 +1,19 @@
 //! The text of tables: a buffer's rows, and a report of all timelines, files and buffers.
-ghost use Rattle.std.specs.Prelude.{◌≡◌, ◌++◌, OnOk, OnErr, Err};
+ghost use Rattle.std.specs.Prelude.{◌≡◌, ◌++◌, List, OnOk, OnErr, Err};
 ghost use Rattle.std.specs.List.{flat_map};
 ghost use Rattle.std.specs.Io.{StartsWith};
+ghost use Rattle.std.specs.Iterator.{Drains, IsFinite};
 ghost use Rattle.point_core.specs.declared.refusal.Refusal.TheVariants.{Memory};
-ghost use Rattle.report_core.specs.Tables.{timeline_text, buffer_text, report_text};
+ghost use Rattle.command_core.specs.declared.answer.ShowRow.{ShowRow as ShowRowModel};
+ghost use Rattle.report_core.specs.declared.row_kind.RowKind.TheVariants.{Buffer};
+ghost use Rattle.report_core.specs.Row.{row_text};
+ghost use Rattle.report_core.specs.Tables.{timeline_text, buffer_text, show_text, report_text};
 
 use crate::row_kind::RowKind;
 use crate::rows::row;
-use crate::table_item::push_each;
-use command_core::{BufferRows, Report};
-use point_core::{Refusal, TimelineRow};
+use crate::table_item::{TableItem, push_each};
+use command_core::{BufferRows, Report, ShowRow};
+use point_core::{Name, Refusal, TimelineRow};
 
 /// Appends a report to `out`: a row for each timeline with its value, one for each file, and for each buffer a row with
 /// the number of its rows, followed by these.
@@ -43,7 +47,29 @@ pub fn buffer_text(buffer: &BufferRows, out: &mut Vec<u8>) -> Result<(), Refusal
     ensures err { OnErr result ((result ≡ Err Memory) × StartsWith out.new.items out.old.items) }
 {
     let rows = buffer.rows.as_slice();
-    row(RowKind::Buffer, &buffer.name, rows.len() as u64, out)?;
-    push_each(rows, out)?;
+    let shown = rows.iter().copied();
+    buffer_rows_text(&buffer.name, rows.len(), shown, out)
+}
+
+/// As `buffer_text`, of a buffer's name, the number of its rows, which is `count`, and the rows.
+///
+/// Fails only with Memory. `out` then begins with its old bytes.
+#[inline(always)]
+pub fn buffer_rows_text<I: Iterator<Item = ShowRow> + Drop>(
+    name: &Name,
+    count: usize,
+    rows: I,
+    out: &mut Vec<u8>,
+) -> Result<(), Refusal>
+    requires can { I.can_next rows }
+    requires ends { IsFinite (I.remaining rows) }
+    ensures ok { OnOk result ((shown : List ShowRowModel) × Drains I.next_gives rows shown
+        × (out.new.items ≡ out.old.items ++ (row_text Buffer name.now count ++ show_text shown))) }
+    ensures err { OnErr result ((result ≡ Err Memory) × StartsWith out.new.items out.old.items) }
+{
+    row(RowKind::Buffer, name, count as u64, out)?;
+    for row in rows {
+        row.push(out)?;
+    }
     Ok(())
 }
