@@ -1,11 +1,11 @@
 //! `Desk`: one command in, one answer out. Files, buffers and the desk's own watches have only points of timelines that
 //! were made, and the watches know the timelines' values; `step` keeps that. `run` and `script_core` call `step`.
-ghost use Rattle.std.specs.Prelude.{◌≡◌, ◌≢◌, ◌↔◌, false, List, ℕ, [], map, option_copied, option_map, IsTrue, IsSome, IfSome, IsOk, IfOk, IfErr, OnErr, OnOk};
+ghost use Rattle.std.specs.Prelude.{◌≡◌, ◌≢◌, ◌↔◌, false, ◌≤◌, List, ℕ, [], length, map, option_copied, option_map, IsTrue, IsSome, IfSome, IsOk, IfOk, IfErr, OnErr, OnOk};
 ghost use Rattle.command_core.specs.declared.command.Command.{Command};
 
 use crate::info::FenceRows;
 use crate::report;
-use crate::report::ShowRows;
+use crate::report::{ReportTops, ShowRows};
 use command_core::{Answer, Command, Info, Report, ShowRow};
 use dmabuf_core::Buffers;
 use fence_core::Watches;
@@ -41,6 +41,7 @@ impl Model for Desk {
 
 impl Desk {
     ghost use Rattle.desk_core.specs.theorem.Answer.{OnRefused, show_row, takes_memory};
+    ghost use Rattle.point_core.specs.declared.limits.TheConstants.{BUFFERS};
     ghost use Rattle.point_core.specs.Clocks.{status_at};
     ghost use Rattle.timeline_core.specs.Timeline.{has_timeline, name_at, clocks_of, reach_of, value_of, rows_of as timeline_rows};
     ghost use Rattle.resv_core.specs.Resv.{rows_of as table_rows};
@@ -51,7 +52,7 @@ impl Desk {
     ghost use Rattle.fence_core.specs.Watches.{has_watch};
     ghost use Rattle.desk_core.specs.theorem.History.{history_after};
     ghost use Rattle.desk_core.specs.theorem.Desk.{HasHistory, Answers};
-    ghost use Rattle.desk_core.specs.Keeping.{cause_of, fires_kept, info_answer, IsDone};
+    ghost use Rattle.desk_core.specs.Keeping.{buffers_with_tops, cause_of, fires_kept, info_answer, named_tables, IsDone};
 
     /// A desk without timelines, files, buffers and watches. It takes no memory yet, so it is never refused.
     pub fn new(alloc: Global) -> Result<Desk, Refusal>
@@ -276,6 +277,29 @@ impl Desk {
         ensures rows { result ≡ map (show_row self.now.timelines) tops.now }
     {
         ShowRows::of(tops, &self.timelines)
+    }
+
+    /// The answer of `report`, but for the names of the timelines in the buffers' rows: `show_rows` gives these rows.
+    ///
+    /// Fails with `Memory` only.
+    #[inline(never)]
+    pub fn report_tops(&self) -> Result<ReportTops, Refusal>
+        ensures refused { IsRefusedFor (cause_of self.now Command.Report) result }
+        ensures buffers { IfOk result (λ report. report.buffers ≡ buffers_with_tops self.now) }
+        ensures few { IfOk result (λ report. length report.buffers ≤ BUFFERS) }
+        ensures done { IfOk result (λ report.
+            IsDone self.now Command.Report (Answer.Report (named_tables self.now.timelines report)) self.now) }
+    {
+        let reach = self.timelines.as_reach();
+        let clocks = self.timelines.as_clocks();
+        let timelines = Items::of(self.timelines.rows()?);
+        let files = Items::of(report::file_rows(self.alloc, &self.files, clocks)?);
+        let buffers = Items::of(report::buffer_tops(self.alloc, &self.buffers, reach)?);
+        Ok(ReportTops {
+            timelines,
+            files,
+            buffers,
+        })
     }
 
     /// Whether a watch of that cookie is pending.
@@ -530,7 +554,16 @@ impl Desk {
         ensures refused { IsRefusedFor (cause_of self.now Command.Report) result }
         ensures done { IfOk result (λ given. IsDone self.now Command.Report (Answer.Report given) self.now) }
     {
-        let report = report::of_all(self.alloc, &self.timelines, &self.files, &self.buffers)?;
-        Ok(report)
+        let ReportTops {
+            timelines,
+            files,
+            buffers,
+        } = self.report_tops()?;
+        let rows = report::buffer_rows(self.alloc, buffers.as_slice(), &self.timelines)?;
+        Ok(Report {
+            timelines,
+            files,
+            buffers: Items::of(rows),
+        })
     }
 }

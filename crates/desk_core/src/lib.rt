@@ -16,5 +16,5 @@ pub use command_core::{
 };
 pub use desk::Desk;
 pub use info::FenceRows;
-pub use report::ShowRows;
+pub use report::{BufferTops, ReportTops, ShowRows};
 pub use runs::run;

@@ -1,39 +1,57 @@
-//! The tables of `show` and `report`. `Desk` calls `of_all` and `show_rows`, and makes `ShowRows`, with entries of timelines
+//! The tables of `show` and `report`. `Desk` calls `show_rows` and `buffer_rows`, and makes `ShowRows`, with entries of timelines
 //! that were made, so each row has a name.
-ghost use Rattle.std.specs.Prelude.{◌≡◌, ◌≤◌, List, ℕ, length, map, IfOk, IfErr};
+ghost use Rattle.std.specs.Prelude.{◌≡◌, ◌≤◌, ◌^◌, All, length, map, IfOk, IfErr};
 ghost use Rattle.point_core.specs.declared.limits.TheConstants.{BUFFERS};
-ghost use Rattle.timeline_core.specs.Timeline.{reach_of};
-ghost use Rattle.dmabuf_core.specs.Buffers.{names_of, entries_of};
+ghost use Rattle.dmabuf_core.specs.Buffers.{names_of};
+ghost use Rattle.desk_core.specs.declared.report.BufferTops.{BufferTops as BufferTopsModel};
 ghost use Rattle.desk_core.specs.theorem.Answer.{show_row};
-ghost use Rattle.desk_core.specs.Keeping.{AreRowsMade, HasNoneBehind, file_row_at, buffer_rows_at, report_at};
+ghost use Rattle.desk_core.specs.Keeping.{AreRowsMade, file_row_at, buffer_tops_at, named_buffer, tops_beside, tops_count};
 
-use command_core::{BufferRows, FileRow, Report, ShowRow};
+use command_core::{BufferRows, FileRow, ShowRow};
 use dmabuf_core::Buffers;
-use point_core::{Clocks, Items, Name, Reach, Refusal, TopRow};
+use point_core::{Clocks, Items, Name, Reach, Refusal, TimelineRow, TopRow};
 use std::alloc::Global;
 use std::marker::Model;
 use syncfile_core::{Files, SyncFile};
 use timeline_core::Timelines;
 
-/// A report of the timelines by rising context, and of files and buffers in order of making, in one pass over each.
-pub fn of_all(
-    alloc: Global,
-    timelines: &Timelines,
-    files: &Files,
-    buffers: &Buffers,
-) -> Result<Report, Refusal>
-    requires behind { (name : List ℕ) →
-        HasNoneBehind (length timelines.now) (reach_of timelines.now) (entries_of buffers.now name) }
-    ensures report { IfOk result (λ report. report ≡ report_at timelines.now files.now buffers.now) }
-    ensures memory { IfErr result (λ e. e ≡ Refusal.Memory) }
+/// What a report tells: its timelines and files, and each buffer's pending tops, which are named as they are written.
+#[derive(Drop)]
+pub struct ReportTops {
+    pub timelines: Items<TimelineRow>,
+    pub files: Items<FileRow>,
+    pub buffers: Items<BufferTops>,
+}
+
+impl ReportTops {
+    /// As `Report::row_count`.
+    pub fn row_count(&self) -> u128
+        requires few { length self.now.buffers ≤ BUFFERS }
+        ensures { result ≡ tops_count self.now }
+    {
+        let timelines = self.timelines.as_slice().len() as u128;
+        let files = self.files.as_slice().len() as u128;
+        let mut count = timelines + files;
+        for buffer in self.buffers.as_slice() {
+            count += rows_beside(buffer);
+        }
+        count
+    }
+}
+
+/// A buffer, and its pending tops.
+#[derive(Drop)]
+pub struct BufferTops {
+    pub name: Name,
+    pub tops: Items<TopRow>,
+}
+
+/// The buffer's row, and a row for each of its tops.
+fn rows_beside(buffer: &BufferTops) -> u128
+    ensures rows { result ≡ tops_beside buffer.now }
+    ensures within { result ≤ 2 ^ 64 }
 {
-    let clocks = timelines.as_clocks();
-    let reach = timelines.as_reach();
-    Ok(Report {
-        timelines: Items::of(timelines.rows()?),
-        files: Items::of(file_rows(alloc, files, clocks)?),
-        buffers: Items::of(buffer_rows(alloc, buffers, timelines, reach)?),
-    })
+    buffer.tops.as_slice().len() as u128 + 1
 }
 
 /// The rows of a table, each with the name of its timeline: each row is made as it is asked for.
@@ -114,7 +132,8 @@ fn show_row(top: TopRow, timelines: &Timelines) -> ShowRow
     }
 }
 
-fn file_rows(alloc: Global, files: &Files, clocks: &Clocks) -> Result<Vec<FileRow>, Refusal>
+/// The files in order of making, each with its status and the number of its fences.
+pub fn file_rows(alloc: Global, files: &Files, clocks: &Clocks) -> Result<Vec<FileRow>, Refusal>
     ensures rows { IfOk result (λ rows.
         rows.items ≡ map (file_row_at clocks.now) files.now) }
     ensures memory { IfErr result (λ e. e ≡ Refusal.Memory) }
@@ -139,28 +158,47 @@ fn file_row(file: &SyncFile, clocks: &Clocks) -> FileRow
     }
 }
 
-fn buffer_rows(
+/// The buffers in order of making, each with its pending tops at the reach.
+pub fn buffer_tops(
     alloc: Global,
     buffers: &Buffers,
-    timelines: &Timelines,
     reach: &Reach,
-) -> Result<Vec<BufferRows>, Refusal>
-    requires reach { reach.now ≡ reach_of timelines.now }
-    requires behind { (name : List ℕ) →
-        HasNoneBehind (length timelines.now) reach.now (entries_of buffers.now name) }
-    ensures rows { IfOk result (λ rows.
-        rows.items ≡ map (buffer_rows_at timelines.now buffers.now) (names_of buffers.now)) }
-    ensures within { IfOk result (λ rows. length rows.items ≤ BUFFERS) }
+) -> Result<Vec<BufferTops>, Refusal>
+    ensures tops { IfOk result (λ tops.
+        tops.items ≡ map (buffer_tops_at reach.now buffers.now) (names_of buffers.now)) }
+    ensures within { IfOk result (λ tops. length tops.items ≤ BUFFERS) }
     ensures memory { IfErr result (λ e. e ≡ Refusal.Memory) }
 {
     let names = buffers.names()?;
-    let mut rows = Vec::with_capacity(alloc, names.len())?;
+    let mut listed = Vec::with_capacity(alloc, names.len())?;
     for name in &names {
         let tops = buffers.table(name, reach)?;
-        let shown = Items::of(show_rows(alloc, &tops, timelines)?);
-        rows.push_reserved(BufferRows {
+        listed.push_reserved(BufferTops {
             name: *name,
-            rows: shown,
+            tops: Items::of(tops),
+        });
+    }
+    Ok(listed)
+}
+
+/// These buffers, each with a list of its named rows.
+pub fn buffer_rows(
+    alloc: Global,
+    buffers: &[BufferTops],
+    timelines: &Timelines,
+) -> Result<Vec<BufferRows>, Refusal>
+    requires made { All (λ (b : BufferTopsModel). AreRowsMade (length timelines.now) b.tops) buffers.now }
+    requires few { length buffers.now ≤ BUFFERS }
+    ensures rows { IfOk result (λ rows. rows.items ≡ map (named_buffer timelines.now) buffers.now) }
+    ensures within { IfOk result (λ rows. length rows.items ≤ BUFFERS) }
+    ensures memory { IfErr result (λ e. e ≡ Refusal.Memory) }
+{
+    let mut rows = Vec::with_capacity(alloc, buffers.len())?;
+    for buffer in buffers {
+        let shown = show_rows(alloc, buffer.tops.as_slice(), timelines)?;
+        rows.push_reserved(BufferRows {
+            name: buffer.name,
+            rows: Items::of(shown),
         });
     }
     Ok(rows)
