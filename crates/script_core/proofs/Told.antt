@@ -1,5 +1,5 @@
 -- What is promised of a line whose answer becomes text without being made.
-use Rattle.std.proofs.Common.{◌≡◌, ◌+◌, ◌++◌, ℕ, Bool, false, List, Option, Some, None, refl, sym, ap, ◌∙◌, subst, inl, inr, if◌then◌else◌}
+use Rattle.std.proofs.Common.{◌≡◌, ◌+◌, ◌++◌, ℕ, Bool, false, List, Option, Some, None, refl, sym, ap, ◌∙◌, ◌⊎◌, subst, inl, inr, if◌then◌else◌}
 use Rattle.std.specs.Prelude.{Result, Ok, Err, ◌≢◌}
 use Rattle.std.specs.Io.KnownBytes.{Appends}
 use Rattle.point_core.specs.declared.refusal.Refusal.{Refusal}
@@ -15,7 +15,7 @@ use Rattle.desk_core.specs.Keeping.{cause_of, fires_kept, IsDone}
 use Rattle.desk_core.proofs.Answering.{Answers-outcome, HasHistory-outcome}
 use Rattle.line_core.specs.declared.line.Body.TheVariants.{Cmd}
 use Rattle.report_core.specs.Answer.{text_of}
-use Rattle.report_core.specs.Bytes.{AppendsFront}
+use Rattle.report_core.specs.Bytes.{AppendsFront, PassesOn}
 use Rattle.script_core.specs.Answering.{AnswersState, IsAnswered, Passes}
 use Rattle.script_core.specs.Output.{refusal_of}
 use Rattle.script_core.proofs.Passed.{Passed-all}
@@ -60,38 +60,38 @@ module _ (number : ℕ) (c : Command) (given : Answer) (before after : AnswersSt
       (Answers-outcome before.desk before.desk c (Ok given) refused (λ _. tt) done)
       (HasHistory-outcome before.desk before.desk c (Ok given) refused tt done) p
 
-  -- the text was not made
-  pub IsAnswered-short : (e : Refusal) (contents : Option (List ℕ)) → e ≡ Memory → IsAnswered number (Cmd c) (Err e) before after contents contents
-  IsAnswered-short e contents is = answered (Err e) contents contents (record {
+  -- a prefix of the text was passed on
+  pub IsAnswered-front : (e : Refusal) (old new : Option (List ℕ)) → (e ≡ WriteFault) ⊎ (e ≡ Memory) → AppendsFront old new (before.out ++ text_of number given) → IsAnswered number (Cmd c) (Err e) before after old new
+  IsAnswered-front e old new is front = answered (Err e) old new (record {
     ok = tt;
     refused = tt;
-    err = AppendsFront-none contents (before.out ++ text_of number given);
+    err = front;
     desk = desk;
     lines = lines;
     counted = counts;
-    refusals = inr is;
+    refusals = is;
   })
+
+  -- the text was passed on
+  pub IsAnswered-passed : (old new : Option (List ℕ)) → PassesOn before.out after.out (text_of number given) old new → IsAnswered number (Cmd c) (Ok None) before after old new
+  IsAnswered-passed old new passed = answered (Ok None) old new (record {
+    ok = passed;
+    refused = none;
+    err = tt;
+    desk = desk;
+    lines = lines;
+    counted = counts;
+    refusals = tt;
+  })
+
+  -- the text was not made
+  pub IsAnswered-short : (e : Refusal) (contents : Option (List ℕ)) → e ≡ Memory → IsAnswered number (Cmd c) (Err e) before after contents contents
+  IsAnswered-short e contents is = IsAnswered-front e contents contents (inr is) (AppendsFront-none contents (before.out ++ text_of number given))
 
   module _ (out : List ℕ) (old new : Option (List ℕ)) (text : out ≡ before.out ++ text_of number given) where
     -- the text was not written
     pub IsAnswered-unwritten : (e : Refusal) → e ≡ WriteFault → AppendsFront old new out → IsAnswered number (Cmd c) (Err e) before after old new
-    IsAnswered-unwritten e is front = answered (Err e) old new (record {
-      ok = tt;
-      refused = tt;
-      err = subst (AppendsFront old new) text front;
-      desk = desk;
-      lines = lines;
-      counted = counts;
-      refusals = inl is;
-    })
+    IsAnswered-unwritten e is front = IsAnswered-front e old new (inl is) (subst (AppendsFront old new) text front)
 
     pub IsAnswered-written : (written : List ℕ) × (out ≡ written ++ after.out) × Appends old new written → IsAnswered number (Cmd c) (Ok None) before after old new
-    IsAnswered-written w = answered (Ok None) old new (record {
-      ok = record { written = w.0; whole = sym text ∙ w.1; appended = w.2 };
-      refused = none;
-      err = tt;
-      desk = desk;
-      lines = lines;
-      counted = counts;
-      refusals = tt;
-    })
+    IsAnswered-written w = IsAnswered-passed old new (record { written = w.0; whole = sym text ∙ w.1; appended = w.2 })

@@ -18,7 +18,15 @@ use Rattle.line_core.specs.declared.script.Ending.TheVariants as ending
 use Rattle.line_core.specs.declared.script.TheConstants.{SCRIPT_BYTES}
 use Rattle.line_core.specs.Reading.{IsInput}
 use Rattle.line_core.specs.Script.{script_of, lines_until}
+use Rattle.desk_core.specs.declared.report.BufferTops.{BufferTops}
+use Rattle.desk_core.specs.theorem.Desk.{DeskState}
+use Rattle.desk_core.specs.Keeping.{named_buffer}
+use Rattle.report_core.specs.Tables.{buffer_text}
 use Rattle.report_core.specs.Answer.{text_of}
+
+-- the part of a report of a buffer whose tops are not named yet
+abbrev pub tops_text : DeskState → BufferTops → List ℕ
+tops_text desk b = buffer_text (named_buffer desk.timelines b)
 
 -- the unique answer of a line
 abbrev pub answer_of_line : List Command → Body → Answer

@@ -9,12 +9,13 @@ ghost use Rattle.line_core.specs.declared.line.Line.{Line as LineModel};
 ghost use Rattle.line_core.specs.Script.{answered};
 ghost use Rattle.script_core.specs.Output.{Grows, IsLineAnswer, history_after_line, refusal_of, WritesPrefix};
 
+use crate::report::pass_buffers;
 use crate::totals::Totals;
 use command_core::{Answer, Command};
 use desk_core::Desk;
 use line_core::Body;
 use point_core::{Name, Refusal};
-use report_core::{info_text, pass_answer, show_text, write_many, write_out};
+use report_core::{info_text, pass_answer, pass_objects, show_text, write_many, write_out};
 use std::alloc::Global;
 use std::io::Write;
 use std::marker::Model;
@@ -121,6 +122,10 @@ impl Answers {
             *outcome = self.answer_show(*number, name, writer);
             return false;
         }
+        if let Body::Cmd(Command::Report) = &body {
+            *outcome = self.answer_report(*number, writer);
+            return false;
+        }
         let answer = answer_line(&mut self.desk, body);
         if let Answer::Refused(refusal) = answer {
             *outcome = self.pass_refusal(*number, refusal, writer);
@@ -175,6 +180,31 @@ impl Answers {
                 self.totals = self.totals.with(&Answer::Done);
                 show_text(tops.len(), self.desk.show_rows(&tops), &mut self.out)?;
                 write_many(writer, &mut self.out)?;
+                Ok(None)
+            }
+            Err(refusal) => self.pass_refusal(number, refusal, writer),
+        }
+    }
+
+    /// As `answer_body`, of `report`: the rows of the buffers become text one by one, and no list is made of them.
+    #[inline(never)]
+    fn answer_report<W: Write>(
+        &mut self,
+        number: u32,
+        writer: &mut W,
+    ) -> Result<Option<Refusal>, Refusal>
+        requires few { self.old.totals.lines < number }
+        ensures answered { IsAnswered number (Body.Cmd Command.Report) result self.old self.new
+            (W.contents writer.old) (W.contents writer.new) }
+    {
+        match self.desk.report_tops() {
+            Ok(report) => {
+                self.totals = self.totals.with(&Answer::Done);
+                let timelines = report.timelines.as_slice();
+                let files = report.files.as_slice();
+                let buffers = report.buffers.as_slice();
+                pass_objects(report.row_count(), timelines, files, &mut self.out, writer)?;
+                pass_buffers(&self.desk, buffers, &mut self.out, writer)?;
                 Ok(None)
             }
             Err(refusal) => self.pass_refusal(number, refusal, writer),

@@ -8,6 +8,7 @@ mod answering;
 mod answers;
 mod next_line;
 mod reading;
+mod report;
 mod totals;
 
 pub use answerer::{Answerer, NoNotes};
