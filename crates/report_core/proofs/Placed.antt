@@ -4,7 +4,7 @@ use Rattle.std.proofs.Math.Nat.{min-le_left}
 use Rattle.std.proofs.Math.Seq.{take-append_seam, drop-append_seam}
 use Rattle.std.proofs.lemmas.List.{take-append-drop, take-append-le, take-replicate, drop-append-le, drop-drop, drop-replicate, length-replicate, length-take-le, replicate-append-replicate, append-nil}
 use Rattle.report_core.proofs.Widths.{length-left}
-use Rattle.report_core.specs.declared.rows.TheConstants.{KIND_BYTES, SUBJECT_WIDTH, NUMBER_WIDTH, COUNT_WIDTH, ROW_BYTES}
+use Rattle.report_core.specs.declared.rows.TheConstants.{KIND_BYTES, KIND_WIDTH, SUBJECT_WIDTH, NUMBER_WIDTH, COUNT_WIDTH, ROW_BYTES}
 use Rattle.report_core.specs.Columns.{spaces, left, column, right}
 
 take-front : (front rest : List ℕ) (n : ℕ) → length front ≡ n → take n (front ++ rest) ≡ front
@@ -82,6 +82,24 @@ row-parts kind subject digits blank numbered named row start last word fits few 
     ∙ ap (λ k. kind ++ drop k named) at
     ∙ ap (λ x. kind ++ x) (rest ∙ ap (λ x. subject ++ x) behind)
     ∙ regroup kind subject (spaces gap) (32 ∷ []) (spaces room) digits (last ∷ [])
+
+-- a kind that fills its column: the space after it was there
+pub kind-space : (kind blank numbered named row rest : List ℕ) (start last : ℕ) → length kind ≡ KIND_WIDTH → KIND_BYTES ≤ start → start ≤ 61 → blank ≡ spaces 61 ++ last ∷ [] → take start numbered ≡ take start blank → named ≡ take KIND_BYTES numbered ++ rest → row ≡ take 0 named ++ kind ++ drop (0 + length kind) named → row ≡ take 0 named ++ (kind ++ 32 ∷ []) ++ drop (0 + length (kind ++ 32 ∷ [])) named
+kind-space kind blank numbered named row rest start last word far near none before put is =
+    let front : take start blank ≡ spaces start = ap (take start) none ∙ take-append-le start (spaces 61) (last ∷ []) (omega arith) ∙ take-replicate start 61 32 near in
+    let first : take KIND_BYTES numbered ≡ spaces KIND_BYTES =
+    ap (take KIND_BYTES) (sym (take-append-drop start numbered) ∙ ap (λ x. x ++ drop start numbered) (before ∙ front))
+    ∙ take-append-le KIND_BYTES (spaces start) (drop start numbered) (omega (arith, far, length-replicate {A = ℕ} start 32))
+    ∙ take-replicate KIND_BYTES start 32 far in
+    let all : named ≡ spaces KIND_BYTES ++ rest = put ∙ ap (λ x. x ++ rest) first in
+    let one : 0 + length kind ≡ 8 = omega (arith, word) in
+    let two : 0 + length (kind ++ 32 ∷ []) ≡ 9 = omega (arith, word, length-append kind (32 ∷ [])) in
+    is
+    ∙ ap (λ m. take 0 m ++ kind ++ drop (0 + length kind) m) all
+    ∙ ap (λ n. kind ++ drop n (spaces 9 ++ rest)) one
+    ∙ sym (append_assoc kind (32 ∷ []) rest)
+    ∙ ap (λ n. (kind ++ 32 ∷ []) ++ drop n (spaces 9 ++ rest)) (sym two)
+    ∙ ap (λ m. take 0 m ++ (kind ++ 32 ∷ []) ++ drop (0 + length (kind ++ 32 ∷ [])) m) (sym all)
 
 -- a text that fills its column is not moved by it
 column-left : (subject : List ℕ) → length subject ≤ SUBJECT_WIDTH → column SUBJECT_WIDTH (left SUBJECT_WIDTH subject) ≡ column SUBJECT_WIDTH subject

@@ -37,7 +37,10 @@ length-kind_word (Level Bookkeep) = omega arith
 pub length-decimal : (number : ℕ) → number < 2 ^ 64 → length (decimal number) ≤ NUMBER_WIDTH
 length-decimal number n = length-decimal-le 20 number (omega arith) (omega arith) n
 
-pub length-kind_column : (kind : RowKind) → length (column KIND_WIDTH (kind_word kind)) ≡ KIND_WIDTH + 1
+pub length-kind : (kind : RowKind) → length (left KIND_WIDTH (kind_word kind)) ≡ KIND_WIDTH
+length-kind kind = length-left KIND_WIDTH (kind_word kind) (length-kind_word kind)
+
+length-kind_column : (kind : RowKind) → length (column KIND_WIDTH (kind_word kind)) ≡ KIND_WIDTH + 1
 length-kind_column kind = length-column KIND_WIDTH (kind_word kind) (length-kind_word kind)
 
 length-columns : (kind : RowKind) (subject number : List ℕ) → length subject ≤ SUBJECT_WIDTH → length number ≤ NUMBER_WIDTH → length (columns kind subject number) + 1 ≡ ROW_BYTES

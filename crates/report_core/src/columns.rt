@@ -59,7 +59,7 @@ pub(crate) fn push_file_columns(out: &mut Vec<u8>, file: &FileRow) -> Result<(),
     Ok(())
 }
 
-/// Writes a row into a row of spaces.
+/// Writes a row into a row of spaces. The kind is written as one word of eight bytes, and the space after it is there.
 #[inline(always)]
 fn write_row(row: &mut [u8], kind: RowKind, subject: Subject<'_>, number: u64)
     requires blank { row.old ≡ spaces ROW_BYTES }
@@ -68,7 +68,7 @@ fn write_row(row: &mut [u8], kind: RowKind, subject: Subject<'_>, number: u64)
     row[ROW_BYTES - 1] = b'\n';
     write_digits(number, row, ROW_BYTES - 1);
     put_subject(row, subject);
-    put_at(row, 0, kind.column());
+    put_at(row, 0, &kind.column());
 }
 
 /// Writes a file's row up to its count into a row of spaces.
@@ -80,7 +80,7 @@ fn write_file_columns(row: &mut [u8], file: &FileRow)
     let status = status_text(file.status);
     put_at(row, ROW_BYTES - 1 - status.len(), status);
     put_subject(row, Subject::Named(&file.name));
-    put_at(row, 0, RowKind::File.column());
+    put_at(row, 0, &RowKind::File.column());
 }
 
 /// Writes the subject left-aligned into the second column, with spaces after it.

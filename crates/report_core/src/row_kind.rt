@@ -1,9 +1,9 @@
 //! `RowKind`: the kind of a row, which is its first column.
 ghost use Rattle.std.specs.Prelude.{◌≡◌};
-ghost use Rattle.report_core.specs.Columns.{column};
+ghost use Rattle.report_core.specs.Columns.{left};
 ghost use Rattle.report_core.specs.RowKind.{kind_word};
 
-use crate::rows::{KIND_BYTES, KIND_WIDTH};
+use crate::rows::KIND_WIDTH;
 use point_core::Usage;
 
 /// The kind of a row: its first column.
@@ -35,20 +35,21 @@ impl RowKind {
         }
     }
 
-    /// The first column, with the space after it.
+    /// The word, left-aligned in the first column. It is given by value: of a text of the program it would first be asked whether
+    /// it overlaps the row.
     #[inline(always)]
-    pub(crate) fn column(self) -> &'static [u8; KIND_BYTES]
-        ensures { result.now ≡ column KIND_WIDTH (kind_word self) }
+    pub(crate) fn column(self) -> [u8; KIND_WIDTH]
+        ensures { result ≡ left KIND_WIDTH (kind_word self) }
     {
         match self {
-            RowKind::Timeline => b"timeline ",
-            RowKind::Closed => b"closed   ",
-            RowKind::File => b"file     ",
-            RowKind::Buffer => b"buffer   ",
-            RowKind::Level(Usage::Kernel) => b"kernel   ",
-            RowKind::Level(Usage::Write) => b"write    ",
-            RowKind::Level(Usage::Read) => b"read     ",
-            RowKind::Level(Usage::Bookkeep) => b"bookkeep ",
+            RowKind::Timeline => *b"timeline",
+            RowKind::Closed => *b"closed  ",
+            RowKind::File => *b"file    ",
+            RowKind::Buffer => *b"buffer  ",
+            RowKind::Level(Usage::Kernel) => *b"kernel  ",
+            RowKind::Level(Usage::Write) => *b"write   ",
+            RowKind::Level(Usage::Read) => *b"read    ",
+            RowKind::Level(Usage::Bookkeep) => *b"bookkeep",
         }
     }
 }

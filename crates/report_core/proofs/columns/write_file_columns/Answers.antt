@@ -1,10 +1,10 @@
-use Rattle.std.proofs.Common.{◌≡◌, ◌+◌, ◌-◌, ◌≤◌, ◌++◌, [], ◌∷◌, length, drop, ap, ◌∙◌, arith}
-use Rattle.report_core.specs.declared.rows.TheConstants.{KIND_WIDTH, SUBJECT_WIDTH, NUMBER_WIDTH, ROW_BYTES}
+use Rattle.std.proofs.Common.{◌≡◌, ◌+◌, ◌-◌, ◌≤◌, ◌++◌, [], ◌∷◌, length, take, drop, append_assoc, length-append, ap, ◌∙◌, arith}
+use Rattle.report_core.specs.declared.rows.TheConstants.{KIND_BYTES, KIND_WIDTH, SUBJECT_WIDTH, NUMBER_WIDTH, ROW_BYTES}
 use Rattle.report_core.specs.declared.row_kind.RowKind.TheVariants.{File}
-use Rattle.report_core.specs.Columns.{spaces, column, right}
+use Rattle.report_core.specs.Columns.{spaces, column, left, right}
 use Rattle.report_core.specs.RowKind.{kind_word}
-use Rattle.report_core.proofs.Placed.{row-columns, drop-put, take-put}
-use Rattle.report_core.proofs.Widths.{length-kind_column}
+use Rattle.report_core.proofs.Placed.{kind-space, row-columns, drop-put, take-put}
+use Rattle.report_core.proofs.Widths.{length-kind}
 use Rattle.report_core.proofs.columns.write_file_columns.Goals as goal
 
 pub returns : goal.returns
@@ -17,10 +17,16 @@ returns c =
     let few : length status ≤ NUMBER_WIDTH = omega (arith, c.status_text-status.ensures.len) in
     let at : place + length status ≡ 61 = omega (arith, few) in
     let within : place ≤ length row = omega (arith, ap length blank) in
-    let word = ap length c.column.ensures ∙ length-kind_column File in
     let size : length c.put_at.new.row ≡ ROW_BYTES = c.put_at.auto.row ∙ ap length blank in
-    let put = row-columns c.column.result.now name status row c.put_at.new.row c.put_subject.new.row c.put_at-2.new.row place 32
-    word c.put_subject.ensures.len few size at blank (drop-put row status c.put_at.new.row place within c.put_at.ensures ∙ ap (λ k. status ++ drop k row) at) (take-put row status c.put_at.new.row place within c.put_at.ensures) c.put_subject.ensures.text c.put_at-2.ensures in
+    let kind = c.column.result in
+    let word : length kind ≡ KIND_WIDTH = ap length c.column.ensures ∙ length-kind File in
+    let before = take-put row status c.put_at.new.row place within c.put_at.ensures in
+    let subject = left SUBJECT_WIDTH name in
+    let behind = drop (KIND_BYTES + SUBJECT_WIDTH) c.put_at.new.row in
+    let named = c.put_subject.ensures.text ∙ append_assoc (take KIND_BYTES c.put_at.new.row) subject behind in
+    let first = kind-space kind row c.put_at.new.row c.put_subject.new.row c.put_at-2.new.row (subject ++ behind) place 32 word (omega (arith, few)) (omega arith) blank before named c.put_at-2.ensures in
+    let put = row-columns (kind ++ 32 ∷ []) name status row c.put_at.new.row c.put_subject.new.row c.put_at-2.new.row place 32
+    (omega (arith, word, length-append kind (32 ∷ []))) c.put_subject.ensures.len few size at blank (drop-put row status c.put_at.new.row place within c.put_at.ensures ∙ ap (λ k. status ++ drop k row) at) before c.put_subject.ensures.text first in
     let rest = column SUBJECT_WIDTH name in
-    put ∙ ap (λ kind. kind ++ rest ++ right NUMBER_WIDTH status ++ 32 ∷ []) c.column.ensures
+    put ∙ ap (λ k. (k ++ 32 ∷ []) ++ rest ++ right NUMBER_WIDTH status ++ 32 ∷ []) c.column.ensures
     ∙ ap (λ text. column KIND_WIDTH (kind_word File) ++ rest ++ right NUMBER_WIDTH text ++ 32 ∷ []) c.status_text-status.ensures.text
