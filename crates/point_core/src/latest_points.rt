@@ -125,9 +125,9 @@ impl LatestPoints {
         self.list_most(reach, points, most)
     }
 
-    /// A bound on the number of points above the reach, to list them in so much room. Where there is no room for all contexts in
-    /// use, the points are counted, so that a list grows to at most twice its points: with room for all contexts, each exported
-    /// file would keep 4 KiB.
+    /// An upper bound on the number of points above the reach, for which a list then makes room. The bound is the number of contexts
+    /// in use if the list has that much room. Else the points are counted, so that the list grows to at most twice its points: with
+    /// room for all contexts in use, each exported file would keep 4 KiB.
     fn most_above(&self, reach: &Reach, room: usize) -> usize
         ensures most { length (points_above self.now reach.now) ≤ result }
     {
@@ -139,8 +139,8 @@ impl LatestPoints {
         if number <= used / 2 { number } else { used }
     }
 
-    /// As `list`, of at most that many points. They are written to places of a slice: while each was pushed, the list's length
-    /// and address were stored and loaded for each, and a point took 20 instructions.
+    /// As `list`, for at most `most` points. The points are written to places of a slice. While each was pushed, the list's length and
+    /// address were stored and loaded again for each, and a point took 20 instructions.
     #[inline(always)]
     fn list_most(&self, reach: &Reach, points: &mut Vec<Point>, most: usize) -> Result<(), Refusal>
         requires most { length (points_above self.now reach.now) ≤ most }

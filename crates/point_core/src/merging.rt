@@ -66,8 +66,8 @@ fn most_merged(left: &[Point], right: &[Point]) -> usize
 
 /// Pushes the pending points of two lists into an empty list that has room for them.
 ///
-/// No processor foresees which list has the lower context, so a step branches only on whether both have the same one.
-/// The other choices are selects: of values that are both read, and of where each list goes on.
+/// No processor foresees which list has the lower context, so a step branches only on whether both first points have one context.
+/// The rest has no branch: both values are read and one is selected, and each list advances by 0 or 1.
 #[inline(always)]
 fn push_pending(points: &mut Vec<Point>, left: &[Point], right: &[Point], reach: &Reach)
     requires empty { points.old.items ≡ [] }
