@@ -66,32 +66,34 @@ pub record StopsAmong {S : Type 0} (failed : Handled S) (input : Option (List �
 
 -- ---- the lines that were returned
 
--- they were handled
+-- the returned lines were all handled
 pub record HandlesGiven {S : Type 0} (handled : Handled S) (before now : Option (List ℕ)) (s : LinesState) (start at : S) : Type 0 where
   pub given : List (List ℕ)
   pub has : HasGiven before now s given
   pub so_far : handled start given (ended_lines 1 given) at
 
--- they were handled, but for the last
+-- all returned lines but the last were handled
 pub record HandlesBefore {S : Type 0} (handled : Handled S) (before now : Option (List ℕ)) (s : LinesState) (start at : S) : Type 0 where
   pub given : List (List ℕ)
   pub gives : GivesLine before now given s
   pub so_far : handled start given (ended_lines 1 given) at
 
--- the line that was returned last is to be handled
+-- the last returned line is still to be handled
 pub record IsDue {S : Type 0} (handled : Handled S) (s : LinesState) (at : S) : Type 0 where
   pub before : Option (List ℕ)
   pub now : Option (List ℕ)
   pub start : S
   pub is : HandlesBefore handled before now s start at
 
--- that line was handled, and the lines that were returned after it
+-- the line that was due was handled, and the lines that were returned after it
 abbrev pub HandlesOn : {S : Type 0} → Handled S → LinesState → LinesState → S → S → Type 0
-HandlesOn {S} handled s t old new = (before now : Option (List ℕ)) (start : S) → HandlesBefore handled before now s start old → HandlesGiven handled before now t start new
+HandlesOn {S} handled s t old new = (before now : Option (List ℕ)) (start : S)
+    → HandlesBefore handled before now s start old → HandlesGiven handled before now t start new
 
--- a call failed in that line, or in one of the lines after it
+-- a call failed in the line that was due, or in a line after it
 abbrev pub StopsOn : {S : Type 0} → Handled S → Handled S → LinesState → S → S → Type 0
-StopsOn {S} handled failed s old new = (before now : Option (List ℕ)) (start : S) → HandlesBefore handled before now s start old → StopsAmong failed before start new
+StopsOn {S} handled failed s old new = (before now : Option (List ℕ)) (start : S)
+    → HandlesBefore handled before now s start old → StopsAmong failed before start new
 
 -- ---- the whole script
 

@@ -35,7 +35,7 @@ pub(crate) fn number(word: &[u8]) -> Option<u64>
     long_number(word)
 }
 
-/// Reads a number of any length. It is never inlined, so that the commands, each of which contains `number`, stay short.
+/// Reads a number of any length. It is never inlined, since each command that reads a number contains a copy of `number`.
 #[inline(never)]
 fn long_number(word: &[u8]) -> Option<u64>
     ensures value { result ≡ number_of word.now }
