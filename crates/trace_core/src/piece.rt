@@ -23,7 +23,8 @@ pub struct Piece<'a> {
     pub item: TraceItem<'a>,
     /// How many lines it has.
     pub lines: usize,
-    /// How many of the bytes it takes, with the line feed at its end. For a line that is too long only its last bytes count.
+    /// How many of the bytes it takes, with the line feed at its end. Of a line that is too long, these are the last bytes, since
+    /// the others were dropped.
     pub length: usize,
 }
 

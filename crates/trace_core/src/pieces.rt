@@ -2,7 +2,7 @@
 //!
 //! The unpassed bytes are those between `start` and `end` (`AreWithin`); `HasPassed` says which items of the text were passed.
 //! `Reading` calls `next`, then `pass` or `read`.
-ghost use Rattle.std.specs.Prelude.{◌≡◌, ◌≤◌, ◌++◌, ◌∷◌, ◌||◌, [], List, ℕ, Option, true, false, nat_lt, length, IfSome, IfNone, IfErr, OnOk, if◌then◌else◌};
+ghost use Rattle.std.specs.Prelude.{◌≡◌, ◌≤◌, ◌++◌, ◌∷◌, ◌||◌, [], List, ℕ, Option, true, false, nat_lt, length, IfSome, IfNone, IfOk, IfErr, OnOk, if◌then◌else◌};
 ghost use Rattle.point_core.specs.declared.refusal.Refusal.TheVariants.{Read as ReadFault};
 ghost use Rattle.trace_core.specs.Item.{Meaning, meaning_of};
 
@@ -101,32 +101,35 @@ impl Pieces {
         self.whole
     }
 
-    /// Reads once, up to a block's bytes, after `next` gave none and before the text is whole.
+    /// Reads once, up to a block's bytes, after `next` gave none and before the text is whole. Of a line that is too long, the bytes
+    /// read so far are dropped first; the result says how many these are.
     ///
     /// Fails if the read fails. An interrupted read counts as failed.
-    pub fn read<R: Read>(&mut self, reader: &mut R) -> Result<(), Refusal>
+    pub fn read<R: Read>(&mut self, reader: &mut R) -> Result<usize, Refusal>
         requires waiting { IsWaiting self.old }
         requires unfinished { self.old.whole ≡ false }
         ensures more { (before : Option (List ℕ)) → (items : List Meaning) →
             HasPassed before (R.remaining reader.old) self.old items
             → HasPassed before (R.remaining reader.new) self.new items }
+        ensures dropped { IfOk result (λ dropped. dropped ≡ (if self.new.long then length self.old.bytes else 0)) }
         ensures ahead { OnOk result (HasReadOn self.old self.new (R.remaining reader.old) (R.remaining reader.new)) }
         ensures refusals { IfErr result (λ e. e ≡ ReadFault) }
     {
         let unread = self.end - self.start;
         self.long = is_long(self.long, unread);
         let kept = kept(self.long, unread);
+        let dropped = unread - kept;
         self.held.copy_within(self.end - kept..self.end, 0);
         self.start = 0;
         self.end = kept;
         match reader.read(&mut self.held[kept..]) {
             Ok(0) => {
                 self.whole = true;
-                Ok(())
+                Ok(dropped)
             }
             Ok(count) => {
                 self.end = kept + count;
-                Ok(())
+                Ok(dropped)
             }
             Err(_) => Err(Refusal::Read),
         }

@@ -84,7 +84,7 @@ impl Reading {
         ensures refusals { IfErr result (λ e. (e ≡ ReadFault) ⊎ (e ≡ Memory)) }
     {
         let Some(piece) = self.pieces.next() else {
-            return self.read_on(reader);
+            return self.read_on(tracker, reader);
         };
         let stage = stage_with(self.stage, self.span, &piece.item);
         if begins(stage, self.has_begun) {
@@ -102,18 +102,19 @@ impl Reading {
         Ok(next)
     }
 
-    /// Reads once, or ends with the text.
-    fn read_on<R: Read>(&mut self, reader: &mut R) -> Result<Next, Refusal>
+    /// Reads once, or ends with the text. The tracker counts the bytes that the read drops, since no piece has them.
+    fn read_on<R: Read>(&mut self, tracker: &mut Tracker, reader: &mut R) -> Result<Next, Refusal>
         requires waiting { IsWaiting self.old.pieces }
-        ensures more { IfOk result (λ next. (span : Span) → (t : Tracker) → (before : Option (List ℕ)) →
+        ensures more { IfOk result (λ next. (span : Span) → (before : Option (List ℕ)) →
             (items : List Meaning) → (seen : List (Seen × Printed)) →
-            HasRead span self.old t before (R.remaining reader.old) items seen →
-            GoesOn span self.new t before (R.remaining reader.new) items seen next) }
+            HasRead span self.old tracker.old before (R.remaining reader.old) items seen →
+            GoesOn span self.new tracker.new before (R.remaining reader.new) items seen next) }
         ensures ahead { IfOk result (GetsAhead self.old self.new (R.remaining reader.old) (R.remaining reader.new)) }
         ensures refusals { IfErr result (λ e. (e ≡ ReadFault) ⊎ (e ≡ Memory)) }
     {
         if !self.pieces.is_whole() {
-            self.pieces.read(reader)?;
+            let dropped = self.pieces.read(reader)?;
+            tracker.count_dropped(dropped);
             return Ok(Next::Other);
         }
         if !self.has_begun {

@@ -1,4 +1,5 @@
-//! `Summary`: counts of a text's lines, losses and times. Tested, not proved; `Tracker::take` adds each piece.
+//! `Summary`: counts of a text's lines, losses and times. Tested, not proved; `Tracker` adds each piece, and the bytes
+//! that are in none.
 ghost use Rattle.std.specs.Prelude.{◌≡◌, IfErr};
 ghost use Rattle.point_core.specs.declared.refusal.Refusal.TheVariants.{Memory};
 
@@ -77,7 +78,7 @@ impl Summary {
     pub fn take(&mut self, piece: &Piece<'_>) -> Result<(), Refusal>
         ensures memory { IfErr result (λ e. e ≡ Memory) }
     {
-        self.bytes = self.bytes.saturating_add(piece.length as u64);
+        self.add_bytes(piece.length);
         self.lines = self.lines.saturating_add(piece.lines as u64);
         match piece.item {
             TraceItem::Event(record) => self.record(record.time, piece.lines > 1),
@@ -99,6 +100,11 @@ impl Summary {
             TraceItem::Note => {}
         }
         Ok(())
+    }
+
+    /// Counts bytes of the text.
+    pub fn add_bytes(&mut self, bytes: usize) {
+        self.bytes = self.bytes.saturating_add(bytes as u64);
     }
 
     fn record(&mut self, time: u64, over_lines: bool) {

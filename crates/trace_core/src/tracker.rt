@@ -1,5 +1,5 @@
-//! `Tracker`: everything that a trace says of fences, piece by piece. `Tracks` relates it to the items of the text; `take` upholds
-//! it, and `Reading::next` is the only caller.
+//! `Tracker`: everything that a trace says of fences, piece by piece. `Tracks` relates it to the items of the text; `take` and
+//! `count_dropped` uphold it, and only `Reading` calls them.
 ghost use Rattle.std.specs.Prelude.{◌≡◌, List, [], ◌∷◌, ◌++◌, is_some, option_map, IfOk, IfErr, IfSome, OnOk};
 ghost use Rattle.point_core.specs.declared.refusal.Refusal.TheVariants.{Memory};
 ghost use Rattle.trace_core.specs.Item.{Meaning, meaning_of, Event as EventMeaning};
@@ -87,6 +87,14 @@ impl Tracker {
             | TraceItem::Note => {}
         }
         Ok(None)
+    }
+
+    /// Counts the bytes that were dropped from a line that is too long.
+    pub fn count_dropped(&mut self, bytes: usize)
+        ensures tracks { (items : List Meaning) → (seen : List (Seen × Printed)) →
+            Tracks self.old items seen → Tracks self.new items seen }
+    {
+        self.summary.add_bytes(bytes);
     }
 
     /// The names of the timeline's driver and of the timeline, each empty if it was not seen.
