@@ -21,7 +21,7 @@ pub use answer::{done_line, info_text, print, refusal_line, show_text, value_lin
 pub use line::{TEXT_LINE_BYTES, TextLine};
 pub use number_line::push_numbered;
 pub use passing::{pass_answer, pass_objects};
-pub use report::{buffer_rows_text, buffer_text, report_text, timelines_text};
+pub use report::{buffer_rows_text, report_text};
 pub use row_kind::RowKind;
 pub use rows::{
     COUNT_WIDTH, FILE_ROW_BYTES, KIND_WIDTH, NUMBER_WIDTH, ROW_BYTES, STATUS_BYTES, SUBJECT_WIDTH,

@@ -1,19 +1,18 @@
 //! The text of tables: a buffer's rows, and a report of all timelines, files and buffers.
 ghost use Rattle.std.specs.Prelude.{◌≡◌, ◌++◌, List, OnOk, OnErr, Err};
-ghost use Rattle.std.specs.List.{flat_map};
 ghost use Rattle.std.specs.Io.{StartsWith};
 ghost use Rattle.std.specs.Iterator.{Drains, IsFinite};
 ghost use Rattle.point_core.specs.declared.refusal.Refusal.TheVariants.{Memory};
 ghost use Rattle.command_core.specs.declared.answer.ShowRow.{ShowRow as ShowRowModel};
 ghost use Rattle.report_core.specs.declared.row_kind.RowKind.TheVariants.{Buffer};
 ghost use Rattle.report_core.specs.Row.{row_text};
-ghost use Rattle.report_core.specs.Tables.{timeline_text, buffer_text, show_text, report_text};
+ghost use Rattle.report_core.specs.Tables.{show_text, report_text};
 
 use crate::row_kind::RowKind;
 use crate::rows::row;
 use crate::table_item::{TableItem, push_each};
-use command_core::{BufferRows, Report, ShowRow};
-use point_core::{Name, Refusal, TimelineRow};
+use command_core::{Report, ShowRow};
+use point_core::{Name, Refusal};
 
 /// Appends a report to `out`: a row for each timeline with its value, one for each file, and for each buffer a row with
 /// the number of its rows, followed by these.
@@ -23,35 +22,13 @@ pub fn report_text(report: &Report, out: &mut Vec<u8>) -> Result<(), Refusal>
     ensures ok { OnOk result (out.new.items ≡ out.old.items ++ report_text report.now) }
     ensures err { OnErr result ((result ≡ Err Memory) × StartsWith out.new.items out.old.items) }
 {
-    timelines_text(report.timelines.as_slice(), out)?;
+    push_each(report.timelines.as_slice(), out)?;
     push_each(report.files.as_slice(), out)?;
     push_each(report.buffers.as_slice(), out)?;
     Ok(())
 }
 
-/// Appends a row for each timeline with its value to `out`, with `closed` for a closed one.
-///
-/// Fails only with Memory. `out` then begins with its old bytes.
-pub fn timelines_text(timelines: &[TimelineRow], out: &mut Vec<u8>) -> Result<(), Refusal>
-    ensures ok { OnOk result (out.new.items ≡ out.old.items ++ flat_map timeline_text timelines.now) }
-    ensures err { OnErr result ((result ≡ Err Memory) × StartsWith out.new.items out.old.items) }
-{
-    push_each(timelines, out)
-}
-
-/// Appends a buffer's part of a report to `out`: a row with the number of its rows, followed by these.
-///
-/// Fails only with Memory. `out` then begins with its old bytes.
-pub fn buffer_text(buffer: &BufferRows, out: &mut Vec<u8>) -> Result<(), Refusal>
-    ensures ok { OnOk result (out.new.items ≡ out.old.items ++ buffer_text buffer.now) }
-    ensures err { OnErr result ((result ≡ Err Memory) × StartsWith out.new.items out.old.items) }
-{
-    let rows = buffer.rows.as_slice();
-    let shown = rows.iter().copied();
-    buffer_rows_text(&buffer.name, rows.len(), shown, out)
-}
-
-/// As `buffer_text`, of a buffer's name, the number of its rows, which is `count`, and the rows.
+/// Appends a buffer's part of a report to `out`: a row with the number of its rows, which is `count`, followed by these.
 ///
 /// Fails only with Memory. `out` then begins with its old bytes.
 #[inline(always)]

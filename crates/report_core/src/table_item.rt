@@ -8,7 +8,7 @@ ghost use Rattle.report_core.specs.Settled.{top_text};
 ghost use Rattle.report_core.specs.Tables.{buffer_text, show_row_text, timeline_text};
 
 use crate::columns::push_row;
-use crate::report::buffer_text;
+use crate::report::buffer_rows_text;
 use crate::row_kind::RowKind;
 use crate::rows::{file_row, row};
 use crate::settled::client;
@@ -79,7 +79,9 @@ impl TableItem for BufferRows {
     ghost text = { buffer_text };
 
     fn push(&self, out: &mut Vec<u8>) -> Result<(), Refusal> {
-        buffer_text(self, out)
+        let rows = self.rows.as_slice();
+        let shown = rows.iter().copied();
+        buffer_rows_text(&self.name, rows.len(), shown, out)
     }
 }
 
