@@ -1,11 +1,11 @@
 //! The tables of `show` and `report`. `Desk` calls `show_rows` and `buffer_rows`, and makes `ShowRows`, with entries of timelines
 //! that were made, so each row has a name.
-ghost use Rattle.std.specs.Prelude.{◌≡◌, ◌≤◌, ◌^◌, All, length, map, IfOk, IfErr};
+ghost use Rattle.std.specs.Prelude.{◌≡◌, ◌≤◌, All, length, map, IfOk, IfErr};
 ghost use Rattle.point_core.specs.declared.limits.TheConstants.{BUFFERS};
 ghost use Rattle.dmabuf_core.specs.Buffers.{names_of};
 ghost use Rattle.desk_core.specs.declared.report.BufferTops.{BufferTops as BufferTopsModel};
 ghost use Rattle.desk_core.specs.theorem.Answer.{show_row};
-ghost use Rattle.desk_core.specs.Keeping.{AreRowsMade, file_row_at, buffer_tops_at, named_buffer, tops_beside, tops_count};
+ghost use Rattle.desk_core.specs.Keeping.{AreRowsMade, file_row_at, buffer_tops_at, named_buffer, tops_count};
 
 use command_core::{BufferRows, FileRow, ShowRow};
 use dmabuf_core::Buffers;
@@ -33,7 +33,8 @@ impl ReportTops {
         let files = self.files.as_slice().len() as u128;
         let mut count = timelines + files;
         for buffer in self.buffers.as_slice() {
-            count += rows_beside(buffer);
+            // the buffer's row, and a row for each of its tops
+            count += buffer.tops.as_slice().len() as u128 + 1;
         }
         count
     }
@@ -44,14 +45,6 @@ impl ReportTops {
 pub struct BufferTops {
     pub name: Name,
     pub tops: Items<TopRow>,
-}
-
-/// The buffer's row, and a row for each of its tops.
-fn rows_beside(buffer: &BufferTops) -> u128
-    ensures rows { result ≡ tops_beside buffer.now }
-    ensures within { result ≤ 2 ^ 64 }
-{
-    buffer.tops.as_slice().len() as u128 + 1
 }
 
 /// The rows of a table, each with the name of its timeline: each row is made as it is asked for.

@@ -4,7 +4,6 @@ use Rattle.dmabuf_core.specs.Buffers.{names_of}
 use Rattle.command_core.specs.declared.command.Command.TheVariants as command
 use Rattle.command_core.specs.declared.answer.Answer.TheVariants as answer
 use Rattle.command_core.specs.declared.answer.BufferRows.{BufferRows}
-use Rattle.command_core.specs.Tables.{Tables}
 use Rattle.point_core.specs.declared.limits.TheConstants.{BUFFERS}
 use Rattle.desk_core.specs.declared.report.BufferTops.{BufferTops}
 use Rattle.desk_core.specs.theorem.Desk.{DeskState}

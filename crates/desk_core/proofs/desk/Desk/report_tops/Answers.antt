@@ -1,7 +1,6 @@
-use Rattle.std.proofs.Common.{◌≡◌, ◌≤◌, List, length, map, ap, sym, ◌∙◌, subst}
+use Rattle.std.proofs.Common.{◌≤◌, List, length, map, ap, sym, ◌∙◌, subst}
 use Rattle.point_core.specs.declared.limits.TheConstants.{BUFFERS}
 use Rattle.point_core.specs.declared.clocks.Clock.{Clock}
-use Rattle.timeline_core.specs.Timeline.{reach_of}
 use Rattle.dmabuf_core.specs.Buffers.{names_of}
 use Rattle.desk_core.specs.declared.report.BufferTops.{BufferTops}
 use Rattle.desk_core.specs.Keeping.{buffer_tops_at, file_row_at}
