@@ -1,4 +1,4 @@
-use Rattle.std.proofs.Common.{◌∙◌, ap, length, refl, subst}
+use Rattle.std.proofs.Common.{◌∙◌, length, refl, subst}
 use Rattle.std.proofs.lemmas.Result.{err_from_is_err_and}
 use Rattle.desk_core.proofs.Tables.{table-at}
 use Rattle.report_core.specs.Bytes.{AppendsFront}
