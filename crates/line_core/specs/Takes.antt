@@ -15,6 +15,13 @@ TakesIfSome takes old (Some body) (Some given) new = takes old body given new
 abbrev pub TakesCommand : {S G : Type 0} → (S → Body → G → S → Type 0) → S → Option Command → Option G → S → Type 0
 TakesCommand takes old command given new = TakesIfSome takes old (option_map Cmd command) given new
 
+-- if operands were read, the visitor took a command that they make as a body; else nothing happened
+abbrev pub TakesMade : {S G A : Type 0} → (S → Body → G → S → Type 0) → S → (A → Command → Type 0) → Option A → Option G → S → Type 0
+TakesMade takes old makes None None new = new ≡ old
+TakesMade takes old makes None (Some given) new = ⊥
+TakesMade takes old makes (Some operands) None new = ⊥
+TakesMade takes old makes (Some operands) (Some given) new = (command : Command) × makes operands command × takes old (Cmd command) given new
+
 -- for callers: there was no body and nothing happened, or there was a body and the visitor took it
 abbrev pub HasTaken : {S G : Type 0} → (S → Body → G → S → Type 0) → S → Option Body → Option G → S → Type 0
 HasTaken takes old said given new =

@@ -1,5 +1,5 @@
-//! Parses a command line: one `take_*` function per command, which gives its command to the visitor. If the words don't fit
-//! the command's row, it answers none and does nothing.
+//! Parses a command line. A `take_*` function reads the operands of a command and gives the command to the visitor; commands with
+//! equal operands share one. If the words don't fit the command's row, it answers none and does nothing.
 //!
 //! None of them is inlined: each contains the visitor's use of its command (`NOTES.md`), and the loop over lines would contain all.
 //! They take the bytes after the first word and the marks of these, which go in registers; `Words` would go through memory.
@@ -8,7 +8,7 @@ ghost use Rattle.line_core.specs.Following.{one_name, one_number, name_and_numbe
 ghost use Rattle.line_core.specs.Following.{three_names, two_names_number_and_usage, two_names_and_flags, name_and_usage};
 ghost use Rattle.line_core.specs.Marks.{HasMarksIfKnown};
 ghost use Rattle.line_core.specs.Table.{command_from};
-ghost use Rattle.line_core.specs.Takes.{TakesCommand};
+ghost use Rattle.line_core.specs.Takes.{TakesCommand, TakesMade};
 ghost use Rattle.line_core.specs.Words.{are_none, words_of};
 ghost use Rattle.command_core.specs.declared.command.Command.{Command};
 
@@ -36,73 +36,83 @@ pub(crate) fn take_command<V: Takes>(
 {
     let spelling = Spelling::of(word)?;
     match word {
-        _ if spelling.is("close") => take_close(rest, marks, to),
+        _ if spelling.is("close") => take_name(rest, marks, to, Command::Close),
         _ if spelling.is("merge") => take_merge(rest, marks, to),
         _ if spelling.is("fence") => take_fence(rest, marks, to),
-        _ if spelling.is("wait") => take_wait(rest, marks, to),
-        _ if spelling.is("inc") => take_inc(rest, marks, to),
-        _ if spelling.is("watch") => take_watch(rest, marks, to),
+        _ if spelling.is("wait") => take_name(rest, marks, to, Command::Wait),
+        _ if spelling.is("inc") => take_name_and_number(rest, marks, to, Command::Inc),
+        _ if spelling.is("watch") => take_name_and_number(rest, marks, to, Command::Watch),
         _ if spelling.is("add") => take_add(rest, marks, to),
-        _ if spelling.is("import") => take_import(rest, marks, to),
-        _ if spelling.is("export") => take_export(rest, marks, to),
+        _ if spelling.is("import") => take_names_and_flags(rest, marks, to, Command::Import),
+        _ if spelling.is("export") => take_names_and_flags(rest, marks, to, Command::Export),
         _ if spelling.is("test") => take_test(rest, marks, to),
-        _ if spelling.is("value") => take_value(rest, marks, to),
-        _ if spelling.is("timeline") => take_timeline(rest, marks, to),
-        _ if spelling.is("buffer") => take_buffer(rest, marks, to),
-        _ if spelling.is("info") => take_info(rest, marks, to),
-        _ if spelling.is("show") => take_show(rest, marks, to),
-        _ if spelling.is("trim") => take_trim(rest, marks, to),
+        _ if spelling.is("value") => take_name(rest, marks, to, Command::Value),
+        _ if spelling.is("timeline") => take_name(rest, marks, to, Command::Timeline),
+        _ if spelling.is("buffer") => take_name(rest, marks, to, Command::Buffer),
+        _ if spelling.is("info") => take_name(rest, marks, to, Command::Info),
+        _ if spelling.is("show") => take_name(rest, marks, to, Command::Show),
+        _ if spelling.is("trim") => take_name(rest, marks, to, Command::Trim),
         _ if spelling.is("unwatch") => take_unwatch(rest, marks, to),
-        _ if spelling.is("shut") => take_shut(rest, marks, to),
+        _ if spelling.is("shut") => take_name(rest, marks, to, Command::Shut),
         _ if spelling.is("report") => take_report(rest, marks, to),
         _ => None,
     }
 }
 
+/// Takes the command that one name makes.
 #[inline(never)]
-fn take_timeline<V: Takes>(rest: &[u8], marks: u64, to: &mut V) -> Option<V::Given>
+fn take_name<V: Takes, F: FnOnce(Name) -> Command>(
+    rest: &[u8],
+    marks: u64,
+    to: &mut V,
+    make: F,
+) -> Option<V::Given>
     requires ready { V.can_take to.old }
     requires marks { HasMarksIfKnown rest.now marks }
-    ensures taken { TakesCommand V.takes to.old
-        (option_map Command.Timeline (one_name (words_of rest.now))) result to.new }
+    requires callable { F.IsAlwaysCallable make }
+    ensures taken { TakesMade V.takes to.old (F.post make) (one_name (words_of rest.now)) result to.new }
 {
     let name = Name::read(one(&Words::marked(rest, marks))?)?;
-    Some(to.take(Body::Cmd(Command::Timeline(name))))
+    Some(to.take(Body::Cmd(make(name))))
 }
 
+/// Takes the command that a name and a number make.
 #[inline(never)]
-fn take_inc<V: Takes>(rest: &[u8], marks: u64, to: &mut V) -> Option<V::Given>
+fn take_name_and_number<V: Takes, F: FnOnce(Name, u64) -> Command>(
+    rest: &[u8],
+    marks: u64,
+    to: &mut V,
+    make: F,
+) -> Option<V::Given>
     requires ready { V.can_take to.old }
     requires marks { HasMarksIfKnown rest.now marks }
-    ensures taken { TakesCommand V.takes to.old
-        (option_map (λ w. Command.Inc w.0 w.1) (name_and_number (words_of rest.now))) result to.new }
+    requires callable { F.IsAlwaysCallable make }
+    ensures taken { TakesMade V.takes to.old (λ w. F.post make w.0 w.1) (name_and_number (words_of rest.now)) result to.new }
 {
-    let (timeline_word, count_word) = two(&Words::marked(rest, marks))?;
-    let timeline = Name::read(timeline_word)?;
-    let count = number(count_word)?;
-    Some(to.take(Body::Cmd(Command::Inc(timeline, count))))
+    let (name_word, number_word) = two(&Words::marked(rest, marks))?;
+    let name = Name::read(name_word)?;
+    let number = number(number_word)?;
+    Some(to.take(Body::Cmd(make(name, number))))
 }
 
+/// Takes the command that two names and sync flags make.
 #[inline(never)]
-fn take_value<V: Takes>(rest: &[u8], marks: u64, to: &mut V) -> Option<V::Given>
+fn take_names_and_flags<V: Takes, F: FnOnce(Name, Name, u32) -> Command>(
+    rest: &[u8],
+    marks: u64,
+    to: &mut V,
+    make: F,
+) -> Option<V::Given>
     requires ready { V.can_take to.old }
     requires marks { HasMarksIfKnown rest.now marks }
-    ensures taken { TakesCommand V.takes to.old
-        (option_map Command.Value (one_name (words_of rest.now))) result to.new }
+    requires callable { F.IsAlwaysCallable make }
+    ensures taken { TakesMade V.takes to.old (λ w. F.post make w.0 w.1 w.2) (two_names_and_flags (words_of rest.now)) result to.new }
 {
-    let timeline = Name::read(one(&Words::marked(rest, marks))?)?;
-    Some(to.take(Body::Cmd(Command::Value(timeline))))
-}
-
-#[inline(never)]
-fn take_shut<V: Takes>(rest: &[u8], marks: u64, to: &mut V) -> Option<V::Given>
-    requires ready { V.can_take to.old }
-    requires marks { HasMarksIfKnown rest.now marks }
-    ensures taken { TakesCommand V.takes to.old
-        (option_map Command.Shut (one_name (words_of rest.now))) result to.new }
-{
-    let timeline = Name::read(one(&Words::marked(rest, marks))?)?;
-    Some(to.take(Body::Cmd(Command::Shut(timeline))))
+    let (first_word, second_word, flags_word) = three(&Words::marked(rest, marks))?;
+    let first = Name::read(first_word)?;
+    let second = Name::read(second_word)?;
+    let flags = flags(flags_word)?;
+    Some(to.take(Body::Cmd(make(first, second, flags))))
 }
 
 #[inline(never)]
@@ -134,50 +144,6 @@ fn take_merge<V: Takes>(rest: &[u8], marks: u64, to: &mut V) -> Option<V::Given>
 }
 
 #[inline(never)]
-fn take_close<V: Takes>(rest: &[u8], marks: u64, to: &mut V) -> Option<V::Given>
-    requires ready { V.can_take to.old }
-    requires marks { HasMarksIfKnown rest.now marks }
-    ensures taken { TakesCommand V.takes to.old
-        (option_map Command.Close (one_name (words_of rest.now))) result to.new }
-{
-    let file = Name::read(one(&Words::marked(rest, marks))?)?;
-    Some(to.take(Body::Cmd(Command::Close(file))))
-}
-
-#[inline(never)]
-fn take_wait<V: Takes>(rest: &[u8], marks: u64, to: &mut V) -> Option<V::Given>
-    requires ready { V.can_take to.old }
-    requires marks { HasMarksIfKnown rest.now marks }
-    ensures taken { TakesCommand V.takes to.old
-        (option_map Command.Wait (one_name (words_of rest.now))) result to.new }
-{
-    let file = Name::read(one(&Words::marked(rest, marks))?)?;
-    Some(to.take(Body::Cmd(Command::Wait(file))))
-}
-
-#[inline(never)]
-fn take_info<V: Takes>(rest: &[u8], marks: u64, to: &mut V) -> Option<V::Given>
-    requires ready { V.can_take to.old }
-    requires marks { HasMarksIfKnown rest.now marks }
-    ensures taken { TakesCommand V.takes to.old
-        (option_map Command.Info (one_name (words_of rest.now))) result to.new }
-{
-    let file = Name::read(one(&Words::marked(rest, marks))?)?;
-    Some(to.take(Body::Cmd(Command::Info(file))))
-}
-
-#[inline(never)]
-fn take_buffer<V: Takes>(rest: &[u8], marks: u64, to: &mut V) -> Option<V::Given>
-    requires ready { V.can_take to.old }
-    requires marks { HasMarksIfKnown rest.now marks }
-    ensures taken { TakesCommand V.takes to.old
-        (option_map Command.Buffer (one_name (words_of rest.now))) result to.new }
-{
-    let buffer = Name::read(one(&Words::marked(rest, marks))?)?;
-    Some(to.take(Body::Cmd(Command::Buffer(buffer))))
-}
-
-#[inline(never)]
 fn take_add<V: Takes>(rest: &[u8], marks: u64, to: &mut V) -> Option<V::Given>
     requires ready { V.can_take to.old }
     requires marks { HasMarksIfKnown rest.now marks }
@@ -190,34 +156,6 @@ fn take_add<V: Takes>(rest: &[u8], marks: u64, to: &mut V) -> Option<V::Given>
     let point = number(point_word)?;
     let usage = usage(usage_word)?;
     Some(to.take(Body::Cmd(Command::Add(buffer, timeline, point, usage))))
-}
-
-#[inline(never)]
-fn take_import<V: Takes>(rest: &[u8], marks: u64, to: &mut V) -> Option<V::Given>
-    requires ready { V.can_take to.old }
-    requires marks { HasMarksIfKnown rest.now marks }
-    ensures taken { TakesCommand V.takes to.old
-        (option_map (λ w. Command.Import w.0 w.1 w.2) (two_names_and_flags (words_of rest.now))) result to.new }
-{
-    let (buffer_word, file_word, flags_word) = three(&Words::marked(rest, marks))?;
-    let buffer = Name::read(buffer_word)?;
-    let file = Name::read(file_word)?;
-    let flags = flags(flags_word)?;
-    Some(to.take(Body::Cmd(Command::Import(buffer, file, flags))))
-}
-
-#[inline(never)]
-fn take_export<V: Takes>(rest: &[u8], marks: u64, to: &mut V) -> Option<V::Given>
-    requires ready { V.can_take to.old }
-    requires marks { HasMarksIfKnown rest.now marks }
-    ensures taken { TakesCommand V.takes to.old
-        (option_map (λ w. Command.Export w.0 w.1 w.2) (two_names_and_flags (words_of rest.now))) result to.new }
-{
-    let (file_word, buffer_word, flags_word) = three(&Words::marked(rest, marks))?;
-    let file = Name::read(file_word)?;
-    let buffer = Name::read(buffer_word)?;
-    let flags = flags(flags_word)?;
-    Some(to.take(Body::Cmd(Command::Export(file, buffer, flags))))
 }
 
 #[inline(never)]
@@ -234,30 +172,6 @@ fn take_test<V: Takes>(rest: &[u8], marks: u64, to: &mut V) -> Option<V::Given>
 }
 
 #[inline(never)]
-fn take_trim<V: Takes>(rest: &[u8], marks: u64, to: &mut V) -> Option<V::Given>
-    requires ready { V.can_take to.old }
-    requires marks { HasMarksIfKnown rest.now marks }
-    ensures taken { TakesCommand V.takes to.old
-        (option_map Command.Trim (one_name (words_of rest.now))) result to.new }
-{
-    let buffer = Name::read(one(&Words::marked(rest, marks))?)?;
-    Some(to.take(Body::Cmd(Command::Trim(buffer))))
-}
-
-#[inline(never)]
-fn take_watch<V: Takes>(rest: &[u8], marks: u64, to: &mut V) -> Option<V::Given>
-    requires ready { V.can_take to.old }
-    requires marks { HasMarksIfKnown rest.now marks }
-    ensures taken { TakesCommand V.takes to.old
-        (option_map (λ w. Command.Watch w.0 w.1) (name_and_number (words_of rest.now))) result to.new }
-{
-    let (file_word, cookie_word) = two(&Words::marked(rest, marks))?;
-    let file = Name::read(file_word)?;
-    let cookie = number(cookie_word)?;
-    Some(to.take(Body::Cmd(Command::Watch(file, cookie))))
-}
-
-#[inline(never)]
 fn take_unwatch<V: Takes>(rest: &[u8], marks: u64, to: &mut V) -> Option<V::Given>
     requires ready { V.can_take to.old }
     requires marks { HasMarksIfKnown rest.now marks }
@@ -266,17 +180,6 @@ fn take_unwatch<V: Takes>(rest: &[u8], marks: u64, to: &mut V) -> Option<V::Give
 {
     let cookie = number(one(&Words::marked(rest, marks))?)?;
     Some(to.take(Body::Cmd(Command::Unwatch(cookie))))
-}
-
-#[inline(never)]
-fn take_show<V: Takes>(rest: &[u8], marks: u64, to: &mut V) -> Option<V::Given>
-    requires ready { V.can_take to.old }
-    requires marks { HasMarksIfKnown rest.now marks }
-    ensures taken { TakesCommand V.takes to.old
-        (option_map Command.Show (one_name (words_of rest.now))) result to.new }
-{
-    let buffer = Name::read(one(&Words::marked(rest, marks))?)?;
-    Some(to.take(Body::Cmd(Command::Show(buffer))))
 }
 
 #[inline(never)]
