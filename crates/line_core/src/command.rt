@@ -2,7 +2,7 @@
 //! equal operands share one. If the words don't fit the command's row, it answers none and does nothing.
 //!
 //! None of them is inlined: each contains the visitor's use of its command (`NOTES.md`), and the loop over lines would contain all.
-//! They take the bytes after the first word and the marks of these, which go in registers; `Words` would go through memory.
+//! They take the bytes after the first word and the marks of these, which go in registers.
 ghost use Rattle.std.specs.Prelude.{◌≡◌, None, Some, if◌then◌else◌, option_map};
 ghost use Rattle.line_core.specs.Following.{one_name, one_number, name_and_number, two_names_and_number};
 ghost use Rattle.line_core.specs.Following.{three_names, two_names_number_and_usage, two_names_and_flags, name_and_usage};
@@ -17,7 +17,7 @@ use crate::number::number;
 use crate::spelling::Spelling;
 use crate::takes::Takes;
 use crate::usages::{flags, usage};
-use crate::words::{Words, four, one, three, two};
+use crate::words::{first_word, four, one, three, two};
 use command_core::Command;
 use point_core::Name;
 
@@ -72,7 +72,7 @@ fn take_name<V: Takes, F: FnOnce(Name) -> Command>(
     requires callable { F.IsAlwaysCallable make }
     ensures taken { TakesMade V.takes to.old (F.post make) (one_name (words_of rest.now)) result to.new }
 {
-    let name = Name::read(one(&Words::marked(rest, marks))?)?;
+    let name = Name::read(one(rest, marks)?)?;
     Some(to.take(Body::Cmd(make(name))))
 }
 
@@ -89,7 +89,7 @@ fn take_name_and_number<V: Takes, F: FnOnce(Name, u64) -> Command>(
     requires callable { F.IsAlwaysCallable make }
     ensures taken { TakesMade V.takes to.old (λ w. F.post make w.0 w.1) (name_and_number (words_of rest.now)) result to.new }
 {
-    let (name_word, number_word) = two(&Words::marked(rest, marks))?;
+    let (name_word, number_word) = two(rest, marks)?;
     let name = Name::read(name_word)?;
     let number = number(number_word)?;
     Some(to.take(Body::Cmd(make(name, number))))
@@ -108,7 +108,7 @@ fn take_names_and_flags<V: Takes, F: FnOnce(Name, Name, u32) -> Command>(
     requires callable { F.IsAlwaysCallable make }
     ensures taken { TakesMade V.takes to.old (λ w. F.post make w.0 w.1 w.2) (two_names_and_flags (words_of rest.now)) result to.new }
 {
-    let (first_word, second_word, flags_word) = three(&Words::marked(rest, marks))?;
+    let (first_word, second_word, flags_word) = three(rest, marks)?;
     let first = Name::read(first_word)?;
     let second = Name::read(second_word)?;
     let flags = flags(flags_word)?;
@@ -122,7 +122,7 @@ fn take_fence<V: Takes>(rest: &[u8], marks: u64, to: &mut V) -> Option<V::Given>
     ensures taken { TakesCommand V.takes to.old
         (option_map (λ w. Command.Fence w.0 w.1 w.2) (two_names_and_number (words_of rest.now))) result to.new }
 {
-    let (file_word, timeline_word, point_word) = three(&Words::marked(rest, marks))?;
+    let (file_word, timeline_word, point_word) = three(rest, marks)?;
     let file = Name::read(file_word)?;
     let timeline = Name::read(timeline_word)?;
     let point = number(point_word)?;
@@ -136,7 +136,7 @@ fn take_merge<V: Takes>(rest: &[u8], marks: u64, to: &mut V) -> Option<V::Given>
     ensures taken { TakesCommand V.takes to.old
         (option_map (λ w. Command.Merge w.0 w.1 w.2) (three_names (words_of rest.now))) result to.new }
 {
-    let (file_word, first_word, second_word) = three(&Words::marked(rest, marks))?;
+    let (file_word, first_word, second_word) = three(rest, marks)?;
     let file = Name::read(file_word)?;
     let first = Name::read(first_word)?;
     let second = Name::read(second_word)?;
@@ -150,7 +150,7 @@ fn take_add<V: Takes>(rest: &[u8], marks: u64, to: &mut V) -> Option<V::Given>
     ensures taken { TakesCommand V.takes to.old
         (option_map (λ w. Command.Add w.0 w.1 w.2 w.3) (two_names_number_and_usage (words_of rest.now))) result to.new }
 {
-    let (buffer_word, timeline_word, point_word, usage_word) = four(&Words::marked(rest, marks))?;
+    let (buffer_word, timeline_word, point_word, usage_word) = four(rest, marks)?;
     let buffer = Name::read(buffer_word)?;
     let timeline = Name::read(timeline_word)?;
     let point = number(point_word)?;
@@ -165,7 +165,7 @@ fn take_test<V: Takes>(rest: &[u8], marks: u64, to: &mut V) -> Option<V::Given>
     ensures taken { TakesCommand V.takes to.old
         (option_map (λ w. Command.Test w.0 w.1) (name_and_usage (words_of rest.now))) result to.new }
 {
-    let (buffer_word, usage_word) = two(&Words::marked(rest, marks))?;
+    let (buffer_word, usage_word) = two(rest, marks)?;
     let buffer = Name::read(buffer_word)?;
     let usage = usage(usage_word)?;
     Some(to.take(Body::Cmd(Command::Test(buffer, usage))))
@@ -178,7 +178,7 @@ fn take_unwatch<V: Takes>(rest: &[u8], marks: u64, to: &mut V) -> Option<V::Give
     ensures taken { TakesCommand V.takes to.old
         (option_map Command.Unwatch (one_number (words_of rest.now))) result to.new }
 {
-    let cookie = number(one(&Words::marked(rest, marks))?)?;
+    let cookie = number(one(rest, marks)?)?;
     Some(to.take(Body::Cmd(Command::Unwatch(cookie))))
 }
 
@@ -189,7 +189,7 @@ fn take_report<V: Takes>(rest: &[u8], marks: u64, to: &mut V) -> Option<V::Given
     ensures taken { TakesCommand V.takes to.old
         (if are_none (words_of rest.now) then Some Command.Report else None) result to.new }
 {
-    match Words::marked(rest, marks).first() {
+    match first_word(rest, marks) {
         None => Some(to.take(Body::Cmd(Command::Report))),
         Some(_) => None,
     }

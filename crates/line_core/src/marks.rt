@@ -1,7 +1,7 @@
 //! Marks: a bit mask with one bit for each byte of a line, set if the byte belongs to a word. Words are then found by
 //! counting zeros instead of looking at each byte.
 ghost use Rattle.std.specs.Prelude.{◌≡◌, ◌+◌, ◌*◌, ◌≤◌, drop, take, length};
-ghost use Rattle.line_core.specs.Marks.{HasMarks, MayHaveMarks, marks_of};
+ghost use Rattle.line_core.specs.Marks.{HasMarks, HasMarksIfKnown, marks_of};
 
 use std::simd::prelude::*;
 
@@ -19,30 +19,30 @@ pub(crate) const MARKED_BYTES: usize = 63;
 /// without words: the end of a line with marks is then one test.
 pub(crate) const UNMARKED: u64 = 1 << MARKED_BYTES;
 
-/// The marks of the bytes, unless these are fewer than half the lanes or more than `MARKED_BYTES`.
-pub(crate) fn marks(bytes: &[u8]) -> Option<u64>
-    ensures marks { MayHaveMarks bytes.now result }
+/// The marks of the bytes; `UNMARKED` if these are fewer than half the lanes or more than `MARKED_BYTES`.
+pub(crate) fn marks(bytes: &[u8]) -> u64
+    ensures marks { HasMarksIfKnown bytes.now result }
 {
     let count = bytes.len();
     if count < HALF_LANES || count > 2 * LANES {
         marks_of_rare(bytes)
     } else if count < LANES {
-        Some(marks_of_halves(bytes))
+        marks_of_halves(bytes)
     } else {
-        Some(marks_of_lanes(bytes))
+        marks_of_lanes(bytes)
     }
 }
 
 /// The marks of a line that is shorter or longer than most; never inlined, so that other lines don't pay for it.
 #[inline(never)]
-fn marks_of_rare(bytes: &[u8]) -> Option<u64>
-    ensures marks { MayHaveMarks bytes.now result }
+fn marks_of_rare(bytes: &[u8]) -> u64
+    ensures marks { HasMarksIfKnown bytes.now result }
 {
     let count = bytes.len();
     if count < WIDE_LANES || count > MARKED_BYTES {
-        None
+        UNMARKED
     } else {
-        Some(marks_of_wide_lanes(bytes))
+        marks_of_wide_lanes(bytes)
     }
 }
 

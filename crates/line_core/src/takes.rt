@@ -1,13 +1,15 @@
 //! `Takes`: the visitor that receives a parsed line.
 ghost use Rattle.std.specs.Prelude.{◌≡◌};
 ghost use Rattle.line_core.specs.Line.{body_of, body_from};
-ghost use Rattle.line_core.specs.Marks.{MayHaveMarks};
+ghost use Rattle.line_core.specs.Marks.{HasMarksIfKnown, MayHaveMarks};
 ghost use Rattle.line_core.specs.Takes.{HasTaken, TakesIfSome};
+ghost use Rattle.line_core.specs.Words.{words_of};
 
 use crate::command::take_command;
 use crate::line::{Body, LINE_BYTES};
+use crate::marks::marks;
 use crate::raw_line::RawLine;
-use crate::words::Words;
+use crate::words::first_word;
 use point_core::Refusal;
 
 /// Receives one parsed line and returns a result for it (a visitor, so that no `Body` is ever stored).
@@ -35,15 +37,15 @@ pub fn take_raw_line<V: Takes>(line: &RawLine<'_>, to: &mut V) -> Option<V::Give
     take_by_cases(line.bytes, line.marks, to)
 }
 
-/// Passes on the body of a line; `marks` are given if they are known.
+/// Passes on the body of a line, whose marks may be known.
 #[inline(always)]
-fn take_by_cases<V: Takes>(line: &[u8], marks: Option<u64>, to: &mut V) -> Option<V::Given>
+fn take_by_cases<V: Takes>(line: &[u8], known: Option<u64>, to: &mut V) -> Option<V::Given>
     requires ready { V.can_take to.old }
-    requires marks { MayHaveMarks line.now marks }
+    requires known { MayHaveMarks line.now known }
     ensures taken { TakesIfSome V.takes to.old (body_of line.now) result to.new }
 {
-    let words = match marks {
-        Some(marks) => Words::marked(line, marks),
+    let marks = match known {
+        Some(marks) => marks,
         None => {
             if line.len() > LINE_BYTES {
                 return Some(to.take(Body::Bad(Refusal::LongLine)));
@@ -52,22 +54,22 @@ fn take_by_cases<V: Takes>(line: &[u8], marks: Option<u64>, to: &mut V) -> Optio
             if line.starts_with(b"#") {
                 return None;
             }
-            Words::of(line)
+            marks(line)
         }
     };
-    take_words(&words, to)
+    take_words(line, marks, to)
 }
 
 #[inline(always)]
-fn take_words<V: Takes>(words: &Words<'_>, to: &mut V) -> Option<V::Given>
+fn take_words<V: Takes>(line: &[u8], marks: u64, to: &mut V) -> Option<V::Given>
     requires ready { V.can_take to.old }
-    ensures taken { TakesIfSome V.takes to.old (body_from words.now) result to.new }
+    requires marks { HasMarksIfKnown line.now marks }
+    ensures taken { TakesIfSome V.takes to.old (body_from (words_of line.now)) result to.new }
 {
-    let (word, rest) = words.first()?;
+    let (word, rest, marks) = first_word(line, marks)?;
     if word[0] == b'#' {
         return None;
     }
-    let (rest, marks) = rest.parts();
     match take_command(word, rest, marks, to) {
         Some(given) => Some(given),
         None => Some(to.take(Body::Bad(Refusal::Syntax))),

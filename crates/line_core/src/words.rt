@@ -1,5 +1,5 @@
-//! `Words`: an iterator over the words of a line, which are runs of bytes other than the space. It works with and
-//! without marks.
+//! The words of a line, which are runs of bytes other than the space. A function takes bytes and their marks, or `UNMARKED` if
+//! these are not known. Both go in registers, and a struct of both would go through memory.
 ghost use Rattle.std.specs.Prelude.{◌≡◌, ◌∷◌, ◌<◌, ◌≤◌, [], option_map, length, position, unwrap_or, IfSome, MatchOption};
 ghost use Rattle.line_core.specs.Marks.{HasMarks, HasMarksIfKnown};
 ghost use Rattle.line_core.specs.Words.{is_space, words_of, one_of, two_of, three_of, four_of};
@@ -7,86 +7,28 @@ ghost use Rattle.line_core.specs.Words.{is_space, words_of, one_of, two_of, thre
 use crate::marks::{UNMARKED, WIDE_LANES, marks, wide_lane_marks};
 use crate::prefix::first_other_than_space;
 use memchr::memchr;
-use std::marker::Model;
 
-/// The words of some bytes, in order.
-#[derive(Drop)]
-pub(crate) struct Words<'a> {
-    bytes: &'a [u8],
-    // the marks of `bytes`, or `UNMARKED` if they are not known
-    marks: u64,
-}
-
-impl<'a> Model for Words<'a> {
-    ghost use Rattle.std.specs.Prelude.{List, ℕ};
-    ghost use Rattle.line_core.specs.Marks.{HasMarksIfKnown};
-    ghost use Rattle.line_core.specs.Words.{words_of};
-
-    ghost Value = { List (List ℕ) };
-
-    ghost view = { λ w. words_of w.bytes.now };
-
-    ghost invariant = { λ w. HasMarksIfKnown w.bytes.now w.marks };
-}
-
-impl<'a> Words<'a> {
-    /// The words of the bytes.
-    pub(crate) fn of(bytes: &'a [u8]) -> Words<'a>
-        ensures words { result ≡ words_of bytes.now }
-    {
-        match marks(bytes) {
-            Some(marks) => Words::marked(bytes, marks),
-            None => Words::unmarked(bytes),
-        }
-    }
-
-    /// The words of bytes, given their marks or `UNMARKED`.
-    #[inline(always)]
-    pub(crate) fn marked(bytes: &'a [u8], marks: u64) -> Words<'a>
-        requires marks { HasMarksIfKnown bytes.now marks }
-        ensures words { result ≡ words_of bytes.now }
-    {
-        Words { bytes, marks }
-    }
-
-    #[inline(always)]
-    fn unmarked(bytes: &'a [u8]) -> Words<'a>
-        ensures words { result ≡ words_of bytes.now }
-    {
-        Words {
-            bytes,
-            marks: UNMARKED,
-        }
-    }
-
-    /// The bytes, and their marks or `UNMARKED`. A function that is not inlined takes these, since they go in registers.
-    #[inline(always)]
-    pub(crate) fn parts(&self) -> (&'a [u8], u64)
-        ensures words { self.now ≡ words_of result.0.now }
-        ensures marks { HasMarksIfKnown result.0.now result.1 }
-    {
-        (self.bytes, self.marks)
-    }
-
-    /// The first word, and the words after it.
-    #[inline(always)]
-    pub(crate) fn first(&self) -> Option<(&'a [u8], Words<'a>)>
-        ensures words { MatchOption result (self.now ≡ []) (λ w. self.now ≡ w.0.now ∷ w.1) }
-        ensures some { IfSome result (λ w. 0 < length w.0.now) }
-    {
-        if self.marks < UNMARKED {
-            first_by_marks(self.bytes, self.marks)
-        } else {
-            first_by_bytes(self.bytes)
-        }
+/// The first word, and the bytes after it with their marks.
+#[inline(always)]
+pub(crate) fn first_word(bytes: &[u8], marks: u64) -> Option<(&[u8], &[u8], u64)>
+    requires marks { HasMarksIfKnown bytes.now marks }
+    ensures words { MatchOption result (words_of bytes.now ≡ []) (λ w. words_of bytes.now ≡ w.0.now ∷ words_of w.1.now) }
+    ensures marks { IfSome result (λ w. HasMarksIfKnown w.1.now w.2) }
+    ensures some { IfSome result (λ w. 0 < length w.0.now) }
+{
+    if marks < UNMARKED {
+        first_by_marks(bytes, marks)
+    } else {
+        first_by_bytes(bytes)
     }
 }
 
 /// The zeros at the low end of the marks are the spaces before the first word, and the ones above them are the word.
 #[inline(always)]
-fn first_by_marks<'a>(bytes: &'a [u8], marks: u64) -> Option<(&'a [u8], Words<'a>)>
+fn first_by_marks(bytes: &[u8], marks: u64) -> Option<(&[u8], &[u8], u64)>
     requires marks { HasMarks bytes.now marks }
-    ensures words { MatchOption result (words_of bytes.now ≡ []) (λ w. words_of bytes.now ≡ w.0.now ∷ w.1) }
+    ensures words { MatchOption result (words_of bytes.now ≡ []) (λ w. words_of bytes.now ≡ w.0.now ∷ words_of w.1.now) }
+    ensures marks { IfSome result (λ w. HasMarksIfKnown w.1.now w.2) }
     ensures some { IfSome result (λ w. 0 < length w.0.now) }
 {
     if marks == 0 {
@@ -97,19 +39,20 @@ fn first_by_marks<'a>(bytes: &'a [u8], marks: u64) -> Option<(&'a [u8], Words<'a
     let marks = marks >> start;
     let end = marks.trailing_ones() as usize;
     let (word, rest) = bytes.split_at(end);
-    Some((word, Words::marked(rest, marks >> end)))
+    Some((word, rest, marks >> end))
 }
 
 #[inline(always)]
-fn first_by_bytes<'a>(bytes: &'a [u8]) -> Option<(&'a [u8], Words<'a>)>
-    ensures words { MatchOption result (words_of bytes.now ≡ []) (λ w. words_of bytes.now ≡ w.0.now ∷ w.1) }
+fn first_by_bytes(bytes: &[u8]) -> Option<(&[u8], &[u8], u64)>
+    ensures words { MatchOption result (words_of bytes.now ≡ []) (λ w. words_of bytes.now ≡ w.0.now ∷ words_of w.1.now) }
+    ensures marks { IfSome result (λ w. HasMarksIfKnown w.1.now w.2) }
     ensures some { IfSome result (λ w. 0 < length w.0.now) }
 {
     let start = first_other_than_space(bytes)?;
     let from_word = &bytes[start..];
     let end = word_length(from_word);
     let (word, rest) = from_word.split_at(end);
-    Some((word, Words::unmarked(rest)))
+    Some((word, rest, UNMARKED))
 }
 
 /// The number of bytes before the first space. Most words are shorter than a wide vector, and one comparison finds their end.
@@ -134,19 +77,21 @@ fn rare_word_length(bytes: &[u8]) -> usize
     ensures length { result ≡ unwrap_or (position is_space bytes.now) (length bytes.now) }
     ensures within { result ≤ length bytes.now }
 {
-    match marks(bytes) {
-        Some(known) => known.trailing_ones() as usize,
-        None => memchr(b' ', bytes).unwrap_or(bytes.len()),
+    let marks = marks(bytes);
+    if marks < UNMARKED {
+        return marks.trailing_ones() as usize;
     }
+    memchr(b' ', bytes).unwrap_or(bytes.len())
 }
 
 /// The word, if there is exactly one.
 #[inline(always)]
-pub(crate) fn one<'a>(words: &Words<'a>) -> Option<&'a [u8]>
-    ensures words { option_map (λ w. w.now) result ≡ one_of words.now }
+pub(crate) fn one(bytes: &[u8], marks: u64) -> Option<&[u8]>
+    requires marks { HasMarksIfKnown bytes.now marks }
+    ensures words { option_map (λ w. w.now) result ≡ one_of (words_of bytes.now) }
 {
-    let (word, rest) = words.first()?;
-    match rest.first() {
+    let (word, rest, marks) = first_word(bytes, marks)?;
+    match first_word(rest, marks) {
         None => Some(word),
         Some(_) => None,
     }
@@ -154,30 +99,33 @@ pub(crate) fn one<'a>(words: &Words<'a>) -> Option<&'a [u8]>
 
 /// The words, if there are exactly two.
 #[inline(always)]
-pub(crate) fn two<'a>(words: &Words<'a>) -> Option<(&'a [u8], &'a [u8])>
-    ensures words { option_map (λ w. (w.0.now, w.1.now)) result ≡ two_of words.now }
+pub(crate) fn two(bytes: &[u8], marks: u64) -> Option<(&[u8], &[u8])>
+    requires marks { HasMarksIfKnown bytes.now marks }
+    ensures words { option_map (λ w. (w.0.now, w.1.now)) result ≡ two_of (words_of bytes.now) }
 {
-    let (first, rest) = words.first()?;
-    let second = one(&rest)?;
+    let (first, rest, marks) = first_word(bytes, marks)?;
+    let second = one(rest, marks)?;
     Some((first, second))
 }
 
 /// The words, if there are exactly three.
 #[inline(always)]
-pub(crate) fn three<'a>(words: &Words<'a>) -> Option<(&'a [u8], &'a [u8], &'a [u8])>
-    ensures words { option_map (λ w. (w.0.now, w.1.now, w.2.now)) result ≡ three_of words.now }
+pub(crate) fn three(bytes: &[u8], marks: u64) -> Option<(&[u8], &[u8], &[u8])>
+    requires marks { HasMarksIfKnown bytes.now marks }
+    ensures words { option_map (λ w. (w.0.now, w.1.now, w.2.now)) result ≡ three_of (words_of bytes.now) }
 {
-    let (first, rest) = words.first()?;
-    let (second, third) = two(&rest)?;
+    let (first, rest, marks) = first_word(bytes, marks)?;
+    let (second, third) = two(rest, marks)?;
     Some((first, second, third))
 }
 
 /// The words, if there are exactly four.
 #[inline(always)]
-pub(crate) fn four<'a>(words: &Words<'a>) -> Option<(&'a [u8], &'a [u8], &'a [u8], &'a [u8])>
-    ensures words { option_map (λ w. (w.0.now, w.1.now, w.2.now, w.3.now)) result ≡ four_of words.now }
+pub(crate) fn four(bytes: &[u8], marks: u64) -> Option<(&[u8], &[u8], &[u8], &[u8])>
+    requires marks { HasMarksIfKnown bytes.now marks }
+    ensures words { option_map (λ w. (w.0.now, w.1.now, w.2.now, w.3.now)) result ≡ four_of (words_of bytes.now) }
 {
-    let (first, rest) = words.first()?;
-    let (second, third, fourth) = three(&rest)?;
+    let (first, rest, marks) = first_word(bytes, marks)?;
+    let (second, third, fourth) = three(rest, marks)?;
     Some((first, second, third, fourth))
 }

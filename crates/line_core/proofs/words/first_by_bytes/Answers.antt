@@ -22,4 +22,4 @@ returns c =
     ap (λ xs. unwrap_or (position is_space xs) (length xs)) (sym whole) ∙ sym c.word_length-end.ensures.length in
     let filled : 0 < end = runs-front_some is_space rest end begins.0 begins.1 ends in
     let words = runs-from is_space bytes start at ∙ runs-front is_space rest end begins.0 begins.1 ends in
-    rw (c.unmarked.ensures.words, c.split_at.ensures.front, c.split_at.ensures.back) (simp take_rest (record { words = words; some = omega (arith, filled, begins.0, length-take end rest) }))
+    rw (c.split_at.ensures.front, c.split_at.ensures.back) (simp take_rest (record { words = words; marks = λ h. absurd (omega (arith, h)); some = omega (arith, filled, begins.0, length-take end rest) }))

@@ -32,16 +32,6 @@ split_at-requires c =
     let within : c.trailing_ones-end.result ≤ length (drop start bytes) = subst (λ n. n ≤ length (drop start bytes)) (sym c.trailing_ones-end.ensures) (end-within (drop start bytes) (marks / 2 ^ start) has) in
     simp take_rest within
 
-pub marked-requires : goal.marked-requires
-marked-requires c =
-    let bytes = c.args.bytes.now in
-    let marks = c.args.marks in
-    let start = trailing_zeros w64 marks in
-    let end = c.trailing_ones-end.result in
-    let has : HasMarks (drop start bytes) (marks / 2 ^ start) = HasMarks-drop start marks bytes c.requires.marks in
-    let more : HasMarks (drop end (drop start bytes)) (marks / 2 ^ start / 2 ^ end) = HasMarks-drop end (marks / 2 ^ start) (drop start bytes) has in
-    rw c.split_at.ensures.back (simp take_rest (record { marks = λ _. more }))
-
 pub returns : goal.returns
 returns c =
     let bytes = c.args.bytes.now in
@@ -56,4 +46,5 @@ returns c =
     let ends : unwrap_or (position is_space rest) (length rest) ≡ end = end-marked rest (marks / 2 ^ start) has ∙ sym c.trailing_ones-end.ensures in
     let filled : 0 < end = runs-front_some is_space rest end begins.0 begins.1 ends in
     let words = runs-from is_space bytes start at ∙ runs-front is_space rest end begins.0 begins.1 ends in
-    rw (c.marked.ensures.words, c.split_at.ensures.front, c.split_at.ensures.back) (simp take_rest (record { words = words; some = omega (arith, filled, begins.0, length-take end rest) }))
+    let more : HasMarks (drop end rest) (marks / 2 ^ start / 2 ^ end) = HasMarks-drop end (marks / 2 ^ start) rest has in
+    rw (c.split_at.ensures.front, c.split_at.ensures.back) (simp take_rest (record { words = words; marks = λ _. more; some = omega (arith, filled, begins.0, length-take end rest) }))
