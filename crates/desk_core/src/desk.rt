@@ -4,8 +4,7 @@ ghost use Rattle.std.specs.Prelude.{◌≡◌, ◌≢◌, ◌↔◌, false, ◌�
 ghost use Rattle.command_core.specs.declared.command.Command.{Command};
 
 use crate::info::FenceRows;
-use crate::report;
-use crate::report::{ReportTops, ShowRows};
+use crate::report::{self, ReportTops, ShowRows};
 use command_core::{Answer, Command, Info, Report, ShowRow};
 use dmabuf_core::Buffers;
 use fence_core::Watches;
@@ -101,77 +100,53 @@ impl Desk {
         ensures done { IfOk result (λ given. IsDone self.old command given self.new) }
         ensures unchanged { OnErr result (self.new ≡ self.old) }
     {
-        // Frequent commands copy their names: were these lent as parts of the command, the whole command would be stored, with
-        // zeros in the bytes that its variant leaves.
+        // Frequent commands take copies of their names: were these lent as parts of the command, the whole command would be stored,
+        // with zeros in the bytes that its variant leaves.
         match &command {
-            Command::Timeline(name) => Ok(Answer::Value(self.timeline(*name)?)),
+            Command::Timeline(name) => return Ok(Answer::Value(self.timeline(*name)?)),
             Command::Inc(name, n) => {
-                let name = *name;
-                let (value, fired) = self.inc(&name, *n)?;
-                Ok(Answer::Raised(value, fired))
+                let (value, fired) = self.inc(*name, *n)?;
+                return Ok(Answer::Raised(value, fired));
             }
-            Command::Value(name) => Ok(Answer::Value(self.value(name)?)),
+            Command::Value(name) => return Ok(Answer::Value(self.value(name)?)),
             Command::Shut(name) => {
                 let (value, fired) = self.shut(name)?;
-                Ok(Answer::Raised(value, fired))
+                return Ok(Answer::Raised(value, fired));
             }
-            Command::Fence(name, timeline, value) => {
-                let (name, timeline) = (*name, *timeline);
-                self.fence(name, &timeline, *value)?;
-                Ok(Answer::Done)
-            }
+            Command::Fence(name, timeline, value) => self.fence(*name, *timeline, *value)?,
             Command::Merge(name, first, second) => {
-                let (name, first, second) = (*name, *first, *second);
-                self.merge(name, &first, &second)?;
-                Ok(Answer::Done)
+                let (first, second) = (*first, *second);
+                self.merge(*name, &first, &second)?
             }
-            Command::Close(name) => {
-                let name = *name;
-                self.close(&name)?;
-                Ok(Answer::Done)
-            }
+            Command::Close(name) => self.close(*name)?,
             Command::Wait(name) => {
                 let name = *name;
-                self.wait(&name)?;
-                Ok(Answer::Done)
+                self.wait(&name)?
             }
-            Command::Info(name) => Ok(Answer::Info(self.info(*name)?)),
-            Command::Buffer(name) => {
-                self.buffer(*name)?;
-                Ok(Answer::Done)
-            }
+            Command::Info(name) => return Ok(Answer::Info(self.info(*name)?)),
+            Command::Buffer(name) => self.buffer(*name)?,
             Command::Add(name, timeline, value, usage) => {
-                let (name, timeline) = (*name, *timeline);
-                self.add(&name, &timeline, *value, *usage)?;
-                Ok(Answer::Done)
+                self.add(*name, *timeline, *value, *usage)?
             }
             Command::Import(name, file, flags) => {
                 let (name, file) = (*name, *file);
-                self.import(&name, &file, *flags)?;
-                Ok(Answer::Done)
+                self.import(&name, &file, *flags)?
             }
             Command::Export(name, buffer, flags) => {
-                let (name, buffer) = (*name, *buffer);
-                self.export(name, &buffer, *flags)?;
-                Ok(Answer::Done)
+                let buffer = *buffer;
+                self.export(*name, &buffer, *flags)?
             }
-            Command::Test(name, usage) => {
-                let name = *name;
-                Ok(Answer::Value(self.test(&name, *usage)?))
-            }
-            Command::Trim(name) => {
-                self.trim(name)?;
-                Ok(Answer::Done)
-            }
+            Command::Test(name, usage) => return Ok(Answer::Value(self.test(*name, *usage)?)),
+            Command::Trim(name) => self.trim(name)?,
             Command::Watch(name, cookie) => {
                 let name = *name;
-                self.watch(&name, *cookie)?;
-                Ok(Answer::Done)
+                self.watch(&name, *cookie)?
             }
-            Command::Unwatch(cookie) => Ok(Answer::Value(self.unwatch(*cookie))),
-            Command::Show(name) => Ok(Answer::Show(self.show(name)?)),
-            Command::Report => Ok(Answer::Report(self.report()?)),
+            Command::Unwatch(cookie) => return Ok(Answer::Value(self.unwatch(*cookie))),
+            Command::Show(name) => return Ok(Answer::Show(self.show(name)?)),
+            Command::Report => return Ok(Answer::Report(self.report()?)),
         }
+        Ok(Answer::Done)
     }
 
     /// The value of the timeline of that name.
@@ -228,8 +203,6 @@ impl Desk {
     }
 
     /// A row for each timeline, by context.
-    ///
-    /// Fails with `Memory` only.
     pub fn timeline_rows(&self) -> Result<Vec<TimelineRow>, Refusal>
         ensures rows { IfOk result (λ rows. rows.items ≡ timeline_rows self.now.timelines) }
         ensures memory { IfErr result (λ e. e ≡ Refusal.Memory) }
@@ -238,8 +211,6 @@ impl Desk {
     }
 
     /// The names of the files, in order of making.
-    ///
-    /// Fails with `Memory` only.
     pub fn file_names(&self) -> Result<Vec<Name>, Refusal>
         ensures names { IfOk result (λ names. names.items ≡ file_names self.now.files) }
         ensures distinct { HasDistinctNames self.now.files }
@@ -249,8 +220,6 @@ impl Desk {
     }
 
     /// The names of the buffers, in order of making.
-    ///
-    /// Fails with `Memory` only.
     pub fn buffer_names(&self) -> Result<Vec<Name>, Refusal>
         ensures names { IfOk result (λ names. names.items ≡ buffer_names self.now.buffers) }
         ensures memory { IfErr result (λ e. e ≡ Refusal.Memory) }
@@ -263,8 +232,7 @@ impl Desk {
     /// Fails with `NoEntry`, then with `Memory`.
     pub fn buffer_rows(&self, buffer: &Name) -> Result<Vec<TopRow>, Refusal>
         ensures refused { IsRefusedFor (cause_without self.now.buffers buffer.now) result }
-        ensures rows { IfOk result (λ rows.
-            rows.items ≡ table_rows (entries_of self.now.buffers buffer.now) (reach_of self.now.timelines)) }
+        ensures rows { IfOk result (λ r. r.items ≡ table_rows (entries_of self.now.buffers buffer.now) (reach_of self.now.timelines)) }
     {
         self.buffers.table(buffer, self.timelines.as_reach())
     }
@@ -272,8 +240,7 @@ impl Desk {
     /// What `show` answers of a buffer with those tops, which `buffer_rows` gives. No list is made of the rows.
     #[inline(always)]
     pub fn show_rows<'a>(&'a self, tops: &'a [TopRow]) -> ShowRows<'a>
-        requires table { (buffer : List ℕ) ×
-            (tops.now ≡ table_rows (entries_of self.now.buffers buffer) (reach_of self.now.timelines)) }
+        requires table { (buffer : List ℕ) × (tops.now ≡ table_rows (entries_of self.now.buffers buffer) (reach_of self.now.timelines)) }
         ensures rows { result ≡ map (show_row self.now.timelines) tops.now }
     {
         ShowRows::of(tops, &self.timelines)
@@ -287,8 +254,7 @@ impl Desk {
         ensures refused { IsRefusedFor (cause_of self.now Command.Report) result }
         ensures buffers { IfOk result (λ report. report.buffers ≡ buffers_with_tops self.now) }
         ensures few { IfOk result (λ report. length report.buffers ≤ BUFFERS) }
-        ensures done { IfOk result (λ report.
-            IsDone self.now Command.Report (Answer.Report (named_tables self.now.timelines report)) self.now) }
+        ensures done { IfOk result (λ r. IsDone self.now Command.Report (Answer.Report (named_tables self.now.timelines r)) self.now) }
     {
         let reach = self.timelines.as_reach();
         let clocks = self.timelines.as_clocks();
@@ -335,13 +301,13 @@ impl Desk {
     }
 
     #[inline(always)]
-    fn inc(&mut self, name: &Name, n: u64) -> Result<(u64, Items<u64>), Refusal>
-        ensures refused { IsRefusedFor (cause_of self.old (Command.Inc name.now n)) result }
-        ensures sure { fires_kept self.old (Command.Inc name.now n) ≡ false → IfErr result (λ e. e ≢ Refusal.Memory) }
-        ensures done { IfOk result (λ given. IsDone self.old (Command.Inc name.now n) (Answer.Raised given.0 given.1) self.new) }
+    fn inc(&mut self, name: Name, n: u64) -> Result<(u64, Items<u64>), Refusal>
+        ensures refused { IsRefusedFor (cause_of self.old (Command.Inc name n)) result }
+        ensures sure { fires_kept self.old (Command.Inc name n) ≡ false → IfErr result (λ e. e ≢ Refusal.Memory) }
+        ensures done { IfOk result (λ given. IsDone self.old (Command.Inc name n) (Answer.Raised given.0 given.1) self.new) }
         ensures unchanged { OnErr result (self.new ≡ self.old) }
     {
-        let Point { ctx, value } = self.timelines.next(name, n)?;
+        let Point { ctx, value } = self.timelines.next(&name, n)?;
         let fired = self.watches.after_inc(Point { ctx, value })?;
         self.timelines.raise_to(Point { ctx, value });
         Ok((value, Items::of(fired)))
@@ -366,22 +332,19 @@ impl Desk {
         ensures unchanged { OnErr result (self.new ≡ self.old) }
     {
         let Point { ctx, value: kept } = self.timelines.current(name)?;
-        let last = Point {
-            ctx,
-            value: u64::MAX,
-        };
-        let fired = self.watches.after_inc(last)?;
+        let last = u64::MAX;
+        let fired = self.watches.after_inc(Point { ctx, value: last })?;
         self.timelines.close(ctx);
         Ok((kept, Items::of(fired)))
     }
 
     #[inline(always)]
-    fn fence(&mut self, name: Name, timeline: &Name, value: u64) -> Result<(), Refusal>
-        ensures refused { IsRefusedFor (cause_of self.old (Command.Fence name timeline.now value)) result }
-        ensures done { OnOk result (IsDone self.old (Command.Fence name timeline.now value) Answer.Done self.new) }
+    fn fence(&mut self, name: Name, timeline: Name, value: u64) -> Result<(), Refusal>
+        ensures refused { IsRefusedFor (cause_of self.old (Command.Fence name timeline value)) result }
+        ensures done { OnOk result (IsDone self.old (Command.Fence name timeline value) Answer.Done self.new) }
         ensures unchanged { OnErr result (self.new ≡ self.old) }
     {
-        let ctx = self.timelines.context(timeline).ok_or(Refusal::NoEntry)?;
+        let ctx = self.timelines.context(&timeline).ok_or(Refusal::NoEntry)?;
         if self.timelines.as_clocks().closed(ctx) {
             self.files.free(&name)?;
             return Err(Refusal::Cancelled);
@@ -401,13 +364,13 @@ impl Desk {
     }
 
     #[inline(always)]
-    fn close(&mut self, name: &Name) -> Result<(), Refusal>
-        ensures refused { IsRefusedFor (cause_of self.old (Command.Close name.now)) result }
+    fn close(&mut self, name: Name) -> Result<(), Refusal>
+        ensures refused { IsRefusedFor (cause_of self.old (Command.Close name)) result }
         ensures sure { IfErr result (λ e. e ≢ Refusal.Memory) }
-        ensures done { OnOk result (IsDone self.old (Command.Close name.now) Answer.Done self.new) }
+        ensures done { OnOk result (IsDone self.old (Command.Close name) Answer.Done self.new) }
         ensures unchanged { OnErr result (self.new ≡ self.old) }
     {
-        self.files.close(name)?;
+        self.files.close(&name)?;
         Ok(())
     }
 
@@ -450,14 +413,14 @@ impl Desk {
     }
 
     #[inline(always)]
-    fn add(&mut self, name: &Name, timeline: &Name, value: u64, usage: Usage) -> Result<(), Refusal>
-        ensures refused { IsRefusedFor (cause_of self.old (Command.Add name.now timeline.now value usage)) result }
-        ensures done { OnOk result (IsDone self.old (Command.Add name.now timeline.now value usage) Answer.Done self.new) }
+    fn add(&mut self, name: Name, timeline: Name, value: u64, usage: Usage) -> Result<(), Refusal>
+        ensures refused { IsRefusedFor (cause_of self.old (Command.Add name timeline value usage)) result }
+        ensures done { OnOk result (IsDone self.old (Command.Add name timeline value usage) Answer.Done self.new) }
         ensures unchanged { OnErr result (self.new ≡ self.old) }
     {
-        let ctx = self.timelines.context(timeline).ok_or(Refusal::NoEntry)?;
+        let ctx = self.timelines.context(&timeline).ok_or(Refusal::NoEntry)?;
         let reach = self.timelines.as_reach();
-        self.buffers.add(name, Point { ctx, value }, usage, reach)?;
+        self.buffers.add(&name, Point { ctx, value }, usage, reach)?;
         Ok(())
     }
 
@@ -486,12 +449,12 @@ impl Desk {
     }
 
     #[inline(always)]
-    fn test(&self, name: &Name, usage: Usage) -> Result<u64, Refusal>
-        ensures refused { IsRefusedFor (cause_of self.now (Command.Test name.now usage)) result }
+    fn test(&self, name: Name, usage: Usage) -> Result<u64, Refusal>
+        ensures refused { IsRefusedFor (cause_of self.now (Command.Test name usage)) result }
         ensures sure { IfErr result (λ e. e ≢ Refusal.Memory) }
-        ensures done { IfOk result (λ given. IsDone self.now (Command.Test name.now usage) (Answer.Value given) self.now) }
+        ensures done { IfOk result (λ given. IsDone self.now (Command.Test name usage) (Answer.Value given) self.now) }
     {
-        let signalled = self.buffers.test(name, usage, self.timelines.as_reach())?;
+        let signalled = self.buffers.test(&name, usage, self.timelines.as_reach())?;
         Ok(u64::from(signalled))
     }
 
@@ -502,8 +465,7 @@ impl Desk {
         ensures done { OnOk result (IsDone self.old (Command.Trim name.now) Answer.Done self.new) }
         ensures unchanged { OnErr result (self.new ≡ self.old) }
     {
-        let reach = self.timelines.as_reach();
-        self.buffers.trim(name, reach)?;
+        self.buffers.trim(name, self.timelines.as_reach())?;
         Ok(())
     }
 
@@ -518,9 +480,7 @@ impl Desk {
         Ok(())
     }
 
-    /// Whether a watch of the file of that name may be registered under the cookie.
-    ///
-    /// Does not allocate.
+    // Whether a watch of the file of that name may be registered under the cookie.
     fn watchable(&self, name: &Name, cookie: u64) -> Result<(), Refusal>
         ensures refused { IsRefusedFor (cause_of self.now (Command.Watch name.now cookie)) result }
         ensures sure { IfErr result (λ e. e ≢ Refusal.Memory) }

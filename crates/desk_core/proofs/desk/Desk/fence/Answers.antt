@@ -13,4 +13,4 @@ returns-clause-done c =
     let some = c.in_ok-ctx.ensures.ok_part in
     let value = rw some at c.context.ensures.value in
     rw (← c.self.view_is)
-    (IsDone-fence _ c.args.name c.args.timeline.now c.create.new.self c.in_ok-ctx.ctx c.args.value c.in_ok-create.ensures.last value)
+    (IsDone-fence _ c.args.name c.args.timeline c.create.new.self c.in_ok-ctx.ctx c.args.value c.in_ok-create.ensures.last value)
