@@ -1,6 +1,5 @@
 //! `Act` and `Plan`: the acts of one client, and `Settled`, the end that all plans come to in every schedule.
 ghost use Rattle.std.specs.Prelude.{◌≡◌, ℕ, IfErr, IsTrue, OkIff, length};
-ghost use Rattle.std.specs.List.{list_all};
 ghost use Rattle.point_core.specs.declared.refusal.Refusal.TheVariants as refusal;
 ghost use Rattle.resv_core.specs.Rounds.{IsInRange, IsRepeatable, acts_of, in_round, is_in_range, is_repeatable, rounds_of};
 
@@ -128,14 +127,8 @@ impl Plan {
 fn is_repeatable(acts: &[Act], times: u32) -> bool
     ensures { result ≡ is_repeatable acts.now times }
 {
-    acts.len().checked_mul(times as usize).is_some() && are_in_range(acts, times)
-}
-
-/// Whether each act is in range in round `number`.
-fn are_in_range(acts: &[Act], number: u32) -> bool
-    ensures { result ≡ list_all (is_in_range number) acts.now }
-{
-    acts.iter().all(|act| act.is_in_range(number))
+    acts.len().checked_mul(times as usize).is_some()
+        && acts.iter().all(|act| act.is_in_range(times))
 }
 
 /// The end of all clients' plans: the value of each timeline, and the pending tops of each buffer above the values, as
