@@ -64,7 +64,7 @@ entry-late listing usage e shown strong =
     let point = rw (le-leb (usage_number e.usage) usage strong) at shown in
     leb-true e.point.value (shown_at listing e.point.ctx) (sym (shows-late listing e.point) ∙ point)
 
-top-more : (e : Entry) (es : List Entry) (usage ctx : ℕ) → raised_to 0 (top (e ∷ es) usage ctx) ≡ put_if (applies e usage ctx) e.point.value (raised_to 0 (top es usage ctx))
+pub top-more : (e : Entry) (es : List Entry) (usage ctx : ℕ) → raised_to 0 (top (e ∷ es) usage ctx) ≡ put_if (applies e usage ctx) e.point.value (raised_to 0 (top es usage ctx))
 top-more e es usage ctx = raised_to-if (applies e usage ctx) 0 e.point.value (top es usage ctx)
 
 -- where no own put is later than what is shown, all are shown

@@ -1,53 +1,24 @@
 -- The latest points of a client's own puts, as points are put one by one.
-use Rattle.std.proofs.Common.{◌≡◌, ◌≢◌, ℕ, ◌+◌, ◌-◌, ◌*◌, ◌<◌, ◌≤◌, max, Bool, true, false, if◌then◌else◌, ◌&&◌, nat_le, nat_lt, List, [], ◌∷◌, ◌++◌, length, get_or, set, replicate, refl, sym, ap, ◌∙◌, subst, inl, inr, arith}
-use Rattle.std.proofs.Math.Bool.{and-false}
-use Rattle.std.proofs.lemmas.Bool.{cases_eq, cases_lt, le-leb, le-ltb, lt-leb, lt-ltb}
-use Rattle.std.proofs.lemmas.Bool.Decides.{eqb_tells, leb_tells}
+use Rattle.std.proofs.Common.{◌≡◌, ◌≢◌, ℕ, zero, suc, ◌+◌, ◌-◌, ◌*◌, ◌<◌, ◌≤◌, ◌==◌, max, Bool, true, false, ◌&&◌, nat_le, List, [], ◌∷◌, ◌++◌, append-nil, length, get_or, set, replicate, refl, sym, ap, ◌∙◌, subst, inl, inr, arith}
+use Rattle.std.specs.Prelude.{filter}
+use Rattle.std.proofs.lemmas.Bool.{cases_lt, eq-eqb, le-leb, lt-leb, ne_eqb}
+use Rattle.std.proofs.lemmas.Bool.Decides.{eqb_tells}
 use Rattle.std.proofs.lemmas.List.{get_or-replicate, get_or-set_other, get_or-set_same, length-replicate, length-set}
-use Rattle.std.proofs.lemmas.List.Elements.{All-cons, All-nil}
+use Rattle.std.proofs.lemmas.List.Elements.{All-cons, All-nil, filter-append}
 use Rattle.point_core.specs.declared.context.TheConstants.{CONTEXTS}
 use Rattle.point_core.specs.declared.entry.Entry.{Entry}
-use Rattle.point_core.specs.Agreement.{HasContexts, applies}
+use Rattle.point_core.specs.declared.entry.Usage.{Usage}
+use Rattle.point_core.specs.declared.entry.Usage.TheVariants.{Kernel, Write, Read, Bookkeep}
+use Rattle.point_core.specs.Agreement.{applies, top}
+use Rattle.point_core.specs.Latest.{raised_to}
 use Rattle.point_core.specs.Usage.{usage_number}
 use Rattle.point_core.proofs.Agreement.{HasContexts-append}
-use Rattle.point_core.proofs.Latest.{put_if, raised_to-top-last}
+use Rattle.point_core.proofs.Latest.{applies-weak, put_if, raised_to-top-last}
 use Rattle.words_core.specs.declared.words.TheConstants.{USAGES}
+use Rattle.words_core.proofs.Laying.{usage_number_le}
 use Rattle.clients_core.specs.declared.own_puts.OwnPuts.{OwnPuts}
-use Rattle.clients_core.specs.OwnPuts.{AreOwnPuts, AreRaised, point_at}
-
--- points that are raised, place by place
-
-pub AreRaised-none : (from value : ℕ) (points : List ℕ) → AreRaised from from value points points
-AreRaised-none from value points = record {
-  full = refl;
-  points = λ p. elim (cases_lt p from) [
-    | inl low ↦ rw (lt-leb from p low) refl
-    | inr high ↦ rw (le-leb from p high, le-ltb p from high) refl
-  ];
-}
-
-before-same : (p i : ℕ) → p ≢ i → nat_lt p i ≡ nat_lt p (i + 1)
-before-same p i apart = elim (cases_lt p i) [
-  | inl low ↦ lt-ltb p i low ∙ sym (lt-ltb p (i + 1) (omega arith))
-  | inr high ↦ le-ltb p i high ∙ sym (le-ltb p (i + 1) (omega arith))
-]
-
-pub AreRaised-more : (from i value : ℕ) (old points : List ℕ) → from ≤ i → i < length points → AreRaised from i value old points → AreRaised from (i + 1) value old (set points i (max (get_or points i 0) value))
-AreRaised-more from i value old points high low h =
-    let raised = max (get_or points i 0) value in
-    let unchanged : get_or points i 0 ≡ get_or old i 0 = rw (le-leb from i high, le-ltb i i (omega arith)) at (h.points i) in
-    let here : get_or (set points i raised) i 0 ≡ (if nat_le from i && nat_lt i (i + 1) then max (get_or old i 0) value else get_or old i 0) =
-    rw (le-leb from i high, lt-ltb i (i + 1) (omega arith)) (get_or-set_same points i raised 0 low ∙ ap (λ (v : ℕ). max v value) unchanged) in
-    record {
-      full = length-set points i raised ∙ h.full;
-      points = λ p. elim (cases_eq p i) [
-        | inl same ↦ subst (λ (k : ℕ). get_or (set points i raised) k 0 ≡ (if nat_le from k && nat_lt k (i + 1) then max (get_or old k 0) value else get_or old k 0)) (sym same) here
-        | inr apart ↦
-            get_or-set_other points i p raised 0 apart
-            ∙ h.points p
-            ∙ ap (λ (b : Bool). if nat_le from p && b then max (get_or old p 0) value else get_or old p 0) (before-same p i apart)
-      ];
-    }
+use Rattle.clients_core.specs.OwnPuts.{AreOwnPuts, is_put_at, latest_put, point_at, point_to, point_up_to}
+use Rattle.clients_core.proofs.Looking.{top-more}
 
 -- nothing was put yet
 pub AreOwnPuts-none : (n : ℕ) (own : OwnPuts) → own.latest.items ≡ replicate (USAGES * n) 0 → AreOwnPuts n own []
@@ -59,43 +30,120 @@ AreOwnPuts-none n own is = record {
       ∙ get_or-replicate (USAGES * n) (USAGES * (ctx - 1) + usage) 0 0 (omega arith);
 }
 
--- one more put: it raises the places of its context from its usage on
+-- one more put: it raises the place of its context and usage
 
-raised-applies : (e : Entry) (usage ctx from to : ℕ) → usage < USAGES → 1 ≤ ctx → 1 ≤ e.point.ctx → from ≡ USAGES * (e.point.ctx - 1) + usage_number e.usage → to ≡ USAGES * (e.point.ctx - 1) + USAGES
-    → (nat_le from (USAGES * (ctx - 1) + usage) && nat_lt (USAGES * (ctx - 1) + usage) to) ≡ applies e usage ctx
-raised-applies e usage ctx from to strong low one begins ends =
-    let place = USAGES * (ctx - 1) + usage in
-    elim (eqb_tells e.point.ctx ctx) [
-      | inl same ↦ let is = same.1 in elim (leb_tells (usage_number e.usage) usage) [
-        | inl within ↦ let h = within.1 in rw (same.0, within.0, le-leb from place (omega arith), lt-ltb place to (omega arith)) refl
-        | inr weak ↦ let h = weak.1 in rw (weak.0, lt-leb from place (omega arith)) refl
-      ]
-      | inr other ↦ let apart = other.1 in rw (other.0, and-false (nat_le (usage_number e.usage) usage)) (elim (cases_lt ctx e.point.ctx) [
-        | inl before ↦ rw (lt-leb from place (omega arith)) refl
-        | inr high ↦ elim (cases_eq ctx e.point.ctx) [
-          | inl is ↦ absurd (apart (sym is))
-          | inr ne ↦ rw (le-ltb place to (omega arith)) (and-false (nat_le from place))
-        ]
-      ])
+latest_put-more : (es : List Entry) (e : Entry) (usage ctx : ℕ) → latest_put (es ++ e ∷ []) usage ctx ≡ put_if (is_put_at usage e && (e.point.ctx == ctx)) e.point.value (latest_put es usage ctx)
+latest_put-more es e usage ctx =
+    let kept = filter (is_put_at usage) es in
+    ap (λ (fs : List Entry). raised_to 0 (top fs usage ctx)) (filter-append (is_put_at usage) es (e ∷ []))
+    ∙ elim (eqb_tells (usage_number e.usage) usage) [
+      | inl same ↦ let is = same.1 in rw same.0 (
+          raised_to-top-last 0 kept e usage ctx
+          ∙ ap (λ (b : Bool). put_if (b && (e.point.ctx == ctx)) e.point.value (latest_put es usage ctx)) (le-leb (usage_number e.usage) usage (omega arith))
+          )
+      | inr other ↦ rw other.0 (ap (λ (fs : List Entry). raised_to 0 (top fs usage ctx)) (append-nil kept))
     ]
 
-as-put_if : (b : Bool) (value before : ℕ) → (if b then max before value else before) ≡ put_if b value before
-as-put_if true value before = omega arith
-as-put_if false value before = refl
+raised-read : (xs : List ℕ) (place k value : ℕ) → place < length xs → get_or (set xs place (max (get_or xs place 0) value)) k 0 ≡ put_if (k == place) value (get_or xs k 0)
+raised-read xs place k value low =
+    let raised = max (get_or xs place 0) value in
+    let swapped : raised ≡ max value (get_or xs place 0) = omega arith in
+    elim (eqb_tells k place) [
+      | inl same ↦ rw same.0 (subst (λ (j : ℕ). get_or (set xs place raised) j 0 ≡ max value (get_or xs j 0)) (sym same.1) (get_or-set_same xs place raised 0 low ∙ swapped))
+      | inr other ↦ rw other.0 (get_or-set_other xs place k raised 0 other.1)
+    ]
 
-pub AreOwnPuts-put : (n : ℕ) (own after : OwnPuts) (es : List Entry) (e : Entry) (from to : ℕ) → 1 ≤ e.point.ctx → e.point.ctx ≤ CONTEXTS → from ≡ USAGES * (e.point.ctx - 1) + usage_number e.usage → to ≡ USAGES * (e.point.ctx - 1) + USAGES
-    → AreRaised from to e.point.value own.latest.items after.latest.items → AreOwnPuts n own es → AreOwnPuts n after (es ++ e ∷ [])
-AreOwnPuts-put n own after es e from to one few begins ends raised h =
+is-place : (e : Entry) (usage ctx place : ℕ) → usage < USAGES → 1 ≤ ctx → 1 ≤ e.point.ctx → place ≡ USAGES * (e.point.ctx - 1) + usage_number e.usage → (USAGES * (ctx - 1) + usage == place) ≡ (is_put_at usage e && (e.point.ctx == ctx))
+is-place e usage ctx place strong low one at =
+    let few = usage_number_le e.usage in
+    let k = USAGES * (ctx - 1) + usage in
+    elim (eqb_tells (usage_number e.usage) usage) [
+      | inl same ↦ let is = same.1 in elim (eqb_tells e.point.ctx ctx) [
+        | inl here ↦ let there = here.1 in rw (same.0, here.0) (eq-eqb k place (omega arith))
+        | inr past ↦ rw (same.0, past.0) (ne_eqb k place (λ equal. past.1 (omega arith)))
+      ]
+      | inr other ↦ rw other.0 (ne_eqb k place (λ equal. other.1 (omega arith)))
+    ]
+
+pub AreOwnPuts-put : (n : ℕ) (own after : OwnPuts) (es : List Entry) (e : Entry) (place : ℕ) → 1 ≤ e.point.ctx → e.point.ctx ≤ CONTEXTS → place ≡ USAGES * (e.point.ctx - 1) + usage_number e.usage → place < length own.latest.items
+    → after.latest.items ≡ set own.latest.items place (max (get_or own.latest.items place 0) e.point.value) → AreOwnPuts n own es → AreOwnPuts n after (es ++ e ∷ [])
+AreOwnPuts-put n own after es e place one few at low raised h =
     let C = λ (f : Entry). (1 ≤ f.point.ctx) × (f.point.ctx ≤ CONTEXTS) in
-    let valid : HasContexts (e ∷ []) = All-cons C e [] (one, few) (All-nil C) in
+    let points = own.latest.items in
     record {
-      valid = HasContexts-append es (e ∷ []) h.valid valid;
-      full = raised.full ∙ h.full;
-      points = λ usage ctx strong low high.
-          let before = point_at own usage ctx in
-          raised.points (USAGES * (ctx - 1) + usage)
-          ∙ ap (λ (b : Bool). if b then max before e.point.value else before) (raised-applies e usage ctx from to strong low one begins ends)
-          ∙ as-put_if (applies e usage ctx) e.point.value before
-          ∙ ap (put_if (applies e usage ctx) e.point.value) (h.points usage ctx strong low high)
-          ∙ sym (raised_to-top-last 0 es e usage ctx);
+      valid = HasContexts-append es (e ∷ []) h.valid (All-cons C e [] (one, few) (All-nil C));
+      full = ap length raised ∙ length-set points place (max (get_or points place 0) e.point.value) ∙ h.full;
+      points = λ usage ctx strong from to.
+          let k = USAGES * (ctx - 1) + usage in
+          ap (λ (ps : List ℕ). get_or ps k 0) raised
+          ∙ raised-read points place k e.point.value low
+          ∙ ap (λ (b : Bool). put_if b e.point.value (point_at own usage ctx)) (is-place e usage ctx place strong from one at)
+          ∙ ap (put_if (is_put_at usage e && (e.point.ctx == ctx)) e.point.value) (h.points usage ctx strong from to)
+          ∙ sym (latest_put-more es e usage ctx);
     }
+
+-- the latest at a usage or a stronger one, by the latest at each
+
+put_if-right : (b : Bool) (p m n : ℕ) → put_if b p (max m n) ≡ max m (put_if b p n)
+put_if-right true p m n = omega arith
+put_if-right false p m n = refl
+
+put_if-left : (b : Bool) (p m n : ℕ) → put_if b p (max m n) ≡ max (put_if b p m) n
+put_if-left true p m n = omega arith
+put_if-left false p m n = refl
+
+stronger-same : (n usage : ℕ) → n ≢ suc usage → nat_le n (suc usage) ≡ nat_le n usage
+stronger-same n usage apart = elim (cases_lt usage n) [
+  | inl above ↦ elim (cases_lt (suc usage) n) [
+    | inl far ↦ lt-leb n (suc usage) far ∙ sym (lt-leb n usage above)
+    | inr near ↦ absurd (apart (omega arith))
+  ]
+  | inr within ↦ le-leb n (suc usage) (omega arith) ∙ sym (le-leb n usage within)
+]
+
+latest-strongest : (es : List Entry) (ctx : ℕ) → raised_to 0 (top es 0 ctx) ≡ latest_put es 0 ctx
+latest-strongest [] ctx = refl
+latest-strongest (e ∷ es) ctx =
+    top-more e es 0 ctx
+    ∙ ap (put_if (applies e 0 ctx) e.point.value) (latest-strongest es ctx)
+    ∙ elim (eqb_tells (usage_number e.usage) 0) [
+      | inl same ↦ rw same.0 (sym (top-more e (filter (is_put_at 0) es) 0 ctx))
+      | inr other ↦ elim (cases_lt 0 (usage_number e.usage)) [
+        | inl weak ↦ rw other.0 (ap (λ (b : Bool). put_if b e.point.value (latest_put es 0 ctx)) (applies-weak e 0 ctx weak))
+        | inr none ↦ absurd (other.1 (omega arith))
+      ]
+    ]
+
+latest-weaker : (es : List Entry) (usage ctx : ℕ) → raised_to 0 (top es (suc usage) ctx) ≡ max (raised_to 0 (top es usage ctx)) (latest_put es (suc usage) ctx)
+latest-weaker [] usage ctx = refl
+latest-weaker (e ∷ es) usage ctx =
+    let value = e.point.value in
+    let strong = raised_to 0 (top es usage ctx) in
+    let here = latest_put es (suc usage) ctx in
+    top-more e es (suc usage) ctx
+    ∙ ap (put_if (applies e (suc usage) ctx) value) (latest-weaker es usage ctx)
+    ∙ elim (eqb_tells (usage_number e.usage) (suc usage)) [
+      | inl same ↦
+          let is = same.1 in
+          let weak : usage < usage_number e.usage = omega arith in
+          rw (same.0, applies-weak e usage ctx weak) (put_if-right (applies e (suc usage) ctx) value strong here ∙ ap (max strong) (sym (top-more e (filter (is_put_at (suc usage)) es) (suc usage) ctx)))
+      | inr other ↦
+          rw other.0 (
+          ap (λ (b : Bool). put_if (b && (e.point.ctx == ctx)) value (max strong here)) (stronger-same (usage_number e.usage) usage other.1)
+          ∙ put_if-left (applies e usage ctx) value strong here
+          ∙ ap (λ (v : ℕ). max v here) (sym (top-more e es usage ctx))
+          )
+    ]
+
+pub point_to-latest : (n : ℕ) (own : OwnPuts) (es : List Entry) (usage ctx : ℕ) → AreOwnPuts n own es → usage < USAGES → 1 ≤ ctx → ctx ≤ n → point_to own usage ctx ≡ raised_to 0 (top es usage ctx)
+point_to-latest n own es zero ctx h strong low high = h.points zero ctx strong low high ∙ sym (latest-strongest es ctx)
+point_to-latest n own es (suc usage) ctx h strong low high =
+    ap (λ (v : ℕ). max v (point_at own (suc usage) ctx)) (point_to-latest n own es usage ctx h (omega arith) low high)
+    ∙ ap (max (raised_to 0 (top es usage ctx))) (h.points (suc usage) ctx strong low high)
+    ∙ sym (latest-weaker es usage ctx)
+
+pub point_to-usages : (own : OwnPuts) (level : Usage) (ctx : ℕ) → max (max (max (point_up_to own level ctx Kernel) (point_up_to own level ctx Write)) (point_up_to own level ctx Read)) (point_up_to own level ctx Bookkeep) ≡ point_to own (usage_number level) ctx
+point_to-usages own Kernel ctx = omega arith
+point_to-usages own Write ctx = omega arith
+point_to-usages own Read ctx = omega arith
+point_to-usages own Bookkeep ctx = omega arith

@@ -10,14 +10,14 @@ ghost use Rattle.point_core.specs.Usage.{usage_number};
 ghost use Rattle.words_core.specs.declared.words.TheConstants.{USAGES};
 ghost use Rattle.clients_core.specs.Acting.{KnowPuts};
 ghost use Rattle.clients_core.specs.Looks.{is_as_late, shows_all, shows_point};
-ghost use Rattle.clients_core.specs.OwnPuts.{AreOwnPuts, AreRaised, point_at};
+ghost use Rattle.clients_core.specs.OwnPuts.{AreOwnPuts, point_to, point_up_to};
 
 use point_core::{Context, Entry, Listing, Point, Refusal, Usage};
 use std::alloc::Global;
 use words_core::USAGES;
 
-/// The latest points that a client has put into a buffer, for each context of the words, at each usage or a stronger one; 0 if
-/// there is none. So a look costs the same, however many puts came before it.
+/// The latest points that a client has put into a buffer, for each context of the words, at each usage; 0 if there is
+/// none. So a look costs the same, however many puts came before it.
 #[derive(Drop)]
 pub(crate) struct OwnPuts {
     // by context, and then by usage
@@ -42,15 +42,9 @@ impl OwnPuts {
             AreOwnPuts contexts self.old es → AreOwnPuts contexts self.new (es ++ entry.now ∷ []) }
     {
         let Point { ctx, value } = entry.point;
-        let first = USAGES * ctx.index();
-        let strongest = usize::from(entry.usage.number());
-        if first + USAGES <= self.latest.len() {
-            raise(
-                self.latest.as_mut_slice(),
-                first + strongest,
-                first + USAGES,
-                value,
-            );
+        let place = USAGES * ctx.index() + usize::from(entry.usage.number());
+        if place < self.latest.len() {
+            self.latest[place] = self.latest[place].max(value);
         }
     }
 
@@ -75,19 +69,25 @@ impl OwnPuts {
     /// The latest point of the context at a place, at a usage or a stronger one.
     fn at(&self, index: usize, usage: Usage) -> u64
         requires context { (index < CONTEXTS) × (USAGES * index + USAGES ≤ vec_len self.now.latest) }
-        ensures { result ≡ point_at self.now (usage_number usage) (index + 1) }
+        ensures { result ≡ point_to self.now (usage_number usage) (index + 1) }
     {
-        self.latest[USAGES * index + usize::from(usage.number())]
+        let kernel = self.up_to(usage, index, Usage::Kernel);
+        let write = self.up_to(usage, index, Usage::Write);
+        let read = self.up_to(usage, index, Usage::Read);
+        let bookkeep = self.up_to(usage, index, Usage::Bookkeep);
+        kernel.max(write).max(read).max(bookkeep)
     }
-}
 
-/// Raises the points from one place up to another to the value, if they are less.
-fn raise(points: &mut [u64], from: usize, to: usize, value: u64)
-    requires places { (from ≤ to) × (to ≤ length points.old) }
-    ensures raised { AreRaised from to value points.old points.new }
-{
-    for place in from..to {
-        points[place] = points[place].max(value);
+    /// The latest point of the context at a place, at a usage; 0 if the usage is weaker than the level.
+    fn up_to(&self, level: Usage, index: usize, usage: Usage) -> u64
+        requires context { (index < CONTEXTS) × (USAGES * index + USAGES ≤ vec_len self.now.latest) }
+        ensures { result ≡ point_up_to self.now level (index + 1) usage }
+    {
+        if usage.number() <= level.number() {
+            self.latest[USAGES * index + usize::from(usage.number())]
+        } else {
+            0
+        }
     }
 }
 

@@ -6,8 +6,9 @@ use Rattle.point_core.specs.Usage.{usage_number}
 use Rattle.words_core.specs.declared.words.TheConstants.{USAGES}
 use Rattle.words_core.proofs.Laying.{usage_number_le}
 use Rattle.clients_core.specs.Looks.{shows_point}
-use Rattle.clients_core.specs.OwnPuts.{point_at}
+use Rattle.clients_core.specs.OwnPuts.{point_to}
 use Rattle.clients_core.proofs.Looking.{points-shown}
+use Rattle.clients_core.proofs.OwnLatest.{point_to-latest}
 use Rattle.clients_core.proofs.own_puts.OwnPuts.are_shown.Goals as goal
 
 is_usage : (usage : Usage) → usage_number usage < USAGES
@@ -17,8 +18,8 @@ pub returns-then-not-shows_point : goal.returns-then-not-shows_point
 returns-then-not-shows_point c = record {
   shown = λ es puts within.
       let usage = usage_number c.args.usage in
-      let own : ℕ → ℕ = point_at c.args.self.now usage in
-      let both = points-shown c.args.listing.now usage c.args.contexts es own c.requires.contexts puts.valid within (λ ctx low high. puts.points usage ctx (is_usage c.args.usage) low high) in
+      let own : ℕ → ℕ = point_to c.args.self.now usage in
+      let both = points-shown c.args.listing.now usage c.args.contexts es own c.requires.contexts puts.valid within (λ ctx low high. point_to-latest c.args.contexts c.args.self.now es usage ctx puts (is_usage c.args.usage) low high) in
       let ctx = c.loop-index.index + 1 in (
         (λ bad. absurd (false≢true bad)),
         (λ all.
@@ -32,8 +33,8 @@ pub returns : goal.returns
 returns c = record {
   shown = λ es puts within.
       let usage = usage_number c.args.usage in
-      let own : ℕ → ℕ = point_at c.args.self.now usage in
-      let both = points-shown c.args.listing.now usage c.args.contexts es own c.requires.contexts puts.valid within (λ ctx low high. puts.points usage ctx (is_usage c.args.usage) low high) in (
+      let own : ℕ → ℕ = point_to c.args.self.now usage in
+      let both = points-shown c.args.listing.now usage c.args.contexts es own c.requires.contexts puts.valid within (λ ctx low high. point_to-latest c.args.contexts c.args.self.now es usage ctx puts (is_usage c.args.usage) low high) in (
         (λ _. both.0 (λ ctx low high. c.loop-index.invariant ctx low (let end = c.loop-index-test.false in omega arith))),
         (λ _. refl),
       );
