@@ -2,7 +2,7 @@
 ghost use Rattle.std.specs.Prelude.{◌≡◌, ◌<◌, ◌≤◌};
 ghost use Rattle.words_core.specs.declared.seat.TheConstants.{PARTS};
 ghost use Rattle.words_core.specs.theorem.Layout.{board_word, IsBoardWord};
-ghost use Rattle.words_core.specs.theorem.Seat.{seen, raised_to, with_step};
+ghost use Rattle.words_core.specs.theorem.Seat.{HasFound, seen, raised_to, with_step};
 ghost use Rattle.words_core.specs.theorem.Trace.{raise, shown, SightsWereRaised};
 ghost use Rattle.words_core.specs.theorem.Words.{sizes_of};
 
@@ -41,16 +41,13 @@ impl Words {
         requires own { seat.old.words ≡ self.now }
         requires buffer { buffer < self.now.buffers }
         requires context { ctx ≤ self.now.contexts }
-        ensures entered { seat.new ≡ with_step seat.old (shown (board_word self.now buffer ctx usage) result) }
-        ensures later { seen seat.old (board_word self.now buffer ctx usage) ≤ result }
-        ensures raises { raised_to seat.old (board_word self.now buffer ctx usage) ≤ result }
-        ensures seen { seen seat.new (board_word self.now buffer ctx usage) ≡ result }
+        ensures { HasFound (board_word self.now buffer ctx usage) result seat.old seat.new }
     {
         self.shown_of(seat, self.sizes.contexts, buffer, ctx, usage)
     }
 
-    /// Like `shown`, by the number of contexts. A caller that looks at one entry after another has it at hand; `shown`
-    /// reads it from memory for each.
+    /// Like `shown`, for a caller that has the number of contexts at hand, because it looks at one entry after another:
+    /// `shown` reads that number from memory for each.
     pub fn shown_of(
         &self,
         seat: &mut Seat,
@@ -63,10 +60,7 @@ impl Words {
         requires contexts { contexts ≡ self.now.contexts }
         requires buffer { buffer < self.now.buffers }
         requires context { ctx ≤ self.now.contexts }
-        ensures entered { seat.new ≡ with_step seat.old (shown (board_word self.now buffer ctx usage) result) }
-        ensures later { seen seat.old (board_word self.now buffer ctx usage) ≤ result }
-        ensures raises { raised_to seat.old (board_word self.now buffer ctx usage) ≤ result }
-        ensures seen { seen seat.new (board_word self.now buffer ctx usage) ≡ result }
+        ensures { HasFound (board_word self.now buffer ctx usage) result seat.old seat.new }
     {
         let place = self.entry_place_of(contexts, buffer, ctx, usage);
         self.shown_at(seat, place)

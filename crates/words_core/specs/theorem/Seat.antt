@@ -1,8 +1,8 @@
 -- A seat, as contracts see it.
-use Rattle.std.specs.Prelude.{ℕ, ◌+◌, ◌-◌, List, [], ◌∷◌, ◌++◌}
+use Rattle.std.specs.Prelude.{◌≡◌, ℕ, ◌≤◌, ◌+◌, ◌-◌, List, [], ◌∷◌, ◌++◌}
 use Rattle.words_core.specs.declared.trace.Step.{Step}
 use Rattle.words_core.specs.theorem.Layout.{value_word}
-use Rattle.words_core.specs.theorem.Trace.{is_test, total, on, greatest, raised, added}
+use Rattle.words_core.specs.theorem.Trace.{is_test, total, on, greatest, raised, added, shown}
 use Rattle.words_core.specs.theorem.Words.{WordsModel}
 
 -- the set of words, its parts, the steps that its parent knew when it was parted, and its own steps
@@ -35,6 +35,14 @@ with_step seat s = record seat { trace = seat.trace ++ s ∷ [] }
 -- the seat with more steps
 abbrev pub with_steps : SeatModel → List Step → SeatModel
 with_steps seat steps = record seat { trace = seat.trace ++ steps }
+
+-- one more step: the word w of the board was read, and v found. It is no less than any value that the seat had seen there
+-- or raised the word to, and the greatest that it has seen there now
+pub record HasFound (w v : ℕ) (before after : SeatModel) : Type 0 where
+  pub entered : after ≡ with_step before (shown w v)
+  pub later : seen before w ≤ v
+  pub raises : raised_to before w ≤ v
+  pub seen : seen after w ≡ v
 
 -- the seat that is left when n parts go
 abbrev pub without_parts : SeatModel → ℕ → SeatModel
