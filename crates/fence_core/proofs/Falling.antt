@@ -1,12 +1,13 @@
 -- Queues that fall: where a watch belongs, one more and one less, and the same queue in rising order.
-use Rattle.std.proofs.Common.{◌≡◌, ◌≢◌, ℕ, zero, suc, ◌+◌, ◌-◌, ◌<◌, ◌≤◌, inl, inr, refl, sym, ap, ◌∙◌, subst, nat_eq, Bool, true, false, not, cond, ◌&&◌, ◌||◌, List, [], ◌∷◌, ◌++◌, length, filter, get_or, take, drop, reverse, arith}
+use Rattle.std.proofs.Common.{◌≡◌, ◌≢◌, ℕ, zero, suc, ◌+◌, ◌-◌, ◌<◌, ◌≤◌, inl, inr, refl, sym, ap, ◌∙◌, subst, nat_eq, Bool, true, false, not, cond, ◌&&◌, ◌||◌, List, [], ◌∷◌, ◌++◌, length, length-append, filter, get_or, set, take, drop, reverse, arith}
 use Rattle.std.specs.declared.cmp.Ordering.TheVariants.{Less, Equal, Greater}
 use Rattle.std.specs.Ordering.{nat_cmp, ordering_then}
-use Rattle.std.specs.List.{insert, remove, AllByRecursion}
+use Rattle.std.specs.List.{insert, remove, copy_within, AllByRecursion}
 use Rattle.std.specs.List.Sorted.{IsStrictlySortedBy}
 use Rattle.std.proofs.lemmas.Bool.{cases_lt, cases_Bool, eq-eqb, lt-ltb, le-ltb}
-use Rattle.std.proofs.lemmas.List.{drop_more, drop_all, reverse-append, get_or-reverse, length-reverse, get_or_default}
-use Rattle.std.proofs.lemmas.List.Edits.{length-insert, get_or-insert_below, get_or-insert_at, get_or-insert_above, length-remove, get_or-remove_below, get_or-remove_above}
+use Rattle.std.proofs.Math.Seq.{take-append_seam}
+use Rattle.std.proofs.lemmas.List.{append-nil, take-append-drop, length-drop, drop_more, drop_all, reverse-append, get_or-reverse, length-reverse, get_or_default}
+use Rattle.std.proofs.lemmas.List.Edits.{take-paste, drop-paste, length-insert, get_or-insert_below, get_or-insert_at, get_or-insert_above, length-remove, get_or-remove_below, get_or-remove_above}
 use Rattle.std.proofs.lemmas.List.Sorted.{list_any-IsPermutation, IsPermutation-reverse, IsPermutation-insert, IsPermutation-remove}
 use Rattle.fence_core.specs.PointIndex.{is_alike, has, number, order, StandsBefore, IsFalling, IsRising, IsPlaceOf, StandsAt}
 use Rattle.fence_core.specs.declared.watches.point_index.point_queue.Standing.{Standing}
@@ -190,17 +191,6 @@ module _ (w : Standing) (p : ℕ) (q : List Standing) (falling : IsFalling q) (a
       ]
 
   -- without the one at the place
-  pub IsFalling-remove : p < length q → IsFalling (remove q p)
-  IsFalling-remove there = λ i j d before low.
-      let less = length-remove q p there in
-      elim (cases_lt j p) [
-        | inl j_low ↦ rw (get_or-remove_below q p d j j_low there, get_or-remove_below q p d i (omega arith) there) (falling i j d before (omega arith))
-        | inr j_high ↦ elim (cases_lt i p) [
-          | inl i_low ↦ rw (get_or-remove_above q p d j j_high there, get_or-remove_below q p d i i_low there) (falling i (j + 1) d (omega arith) (omega arith))
-          | inr i_high ↦ rw (get_or-remove_above q p d j j_high there, get_or-remove_above q p d i i_high there) (falling (i + 1) (j + 1) d (omega arith) (omega arith))
-        ]
-      ]
-
   has-removed_it : StandsAt w p q → has (remove q p) w ≡ false
   has-removed_it stands = has-none (remove q p) w (λ k d low is.
       let less = length-remove q p stands.0 in
@@ -249,18 +239,43 @@ number-removed test (x ∷ q) zero w low is here =
     omega arith
 number-removed test (x ∷ q) (suc p) w low is here = fewer (test x) x (filter test (remove q p)) (filter test q) (number-removed test q p w (omega arith) is here)
 
--- one more at the end, and the last one taken out
-pub insert-end : (q : List Standing) (p : ℕ) (w : Standing) → p ≡ length q → insert q p w ≡ q ++ w ∷ []
-insert-end [] zero w is = refl
-insert-end [] (suc p) w is = absurd (omega arith)
-insert-end (x ∷ q) zero w is = absurd (omega arith)
-insert-end (x ∷ q) (suc p) w is = ap (λ r. x ∷ r) (insert-end q p w (omega arith))
-
+-- the last one taken out
 pub remove-end : (q : List Standing) (p : ℕ) → p + 1 ≡ length q → remove q p ≡ take p q
 remove-end [] p is = absurd (omega arith)
 remove-end (x ∷ []) zero is = refl
 remove-end (x ∷ y ∷ q) zero is = absurd (omega arith)
 remove-end (x ∷ q) (suc p) is = ap (λ r. x ∷ r) (remove-end q p (omega arith))
+
+-- one more at a place: all from the place on were moved up by one
+insert-up : (q : List Standing) (p n : ℕ) (w : Standing) → p + suc n ≡ length q → set (take (suc p) (q ++ w ∷ []) ++ take (suc n) (drop p (q ++ w ∷ []))) p w ≡ insert q p w
+insert-up [] p n w is = absurd (omega arith)
+insert-up (x ∷ q) zero n w is =
+    let same : n ≡ length q = omega arith in
+    ap (λ k. w ∷ x ∷ take k (q ++ w ∷ [])) same ∙ ap (λ r. w ∷ x ∷ r) (take-append_seam q (w ∷ []))
+insert-up (x ∷ q) (suc p) n w is = ap (λ r. x ∷ r) (insert-up q p n w (omega arith))
+
+pub insert-copied : (q : List Standing) (p : ℕ) (w : Standing) → p < length q → set (copy_within (q ++ w ∷ []) p (length q) (p + 1)) p w ≡ insert q p w
+insert-copied q p w low =
+    let all = q ++ w ∷ [] in
+    let n : ℕ = length q - p in
+    let more : length all ≡ length q + 1 = length-append q (w ∷ []) in
+    let few : length (drop p all) ≡ length all - p = length-drop p all in
+    let at : p + 1 ≤ length all = omega (arith, more) in
+    let enough : n ≤ length (drop p all) = omega (arith, more, few) in
+    let copied = copy_within all p (length q) (p + 1) in
+    let front = take-paste all (p + 1) (drop p all) n at enough in
+    let none = drop-paste all (p + 1) (drop p all) n at enough ∙ drop_all (p + 1 + n) all (omega (arith, more)) in
+    let is : copied ≡ take (p + 1) all ++ take n (drop p all) =
+    sym (take-append-drop (p + 1 + n) copied)
+    ∙ ap (λ xs. xs ++ drop (p + 1 + n) copied) front
+    ∙ ap (λ xs. (take (p + 1) all ++ take n (drop p all)) ++ xs) none
+    ∙ append-nil (take (p + 1) all ++ take n (drop p all)) in
+    let next : p + 1 ≡ suc p = omega arith in
+    let some : n ≡ suc (n - 1) = omega arith in
+    ap (λ xs. set xs p w) is
+    ∙ ap (λ k. set (take k all ++ take n (drop p all)) p w) next
+    ∙ ap (λ k. set (take (suc p) all ++ take k (drop p all)) p w) some
+    ∙ insert-up q p (n - 1) w (omega arith)
 
 -- the search for a place
 module _ (w : Standing) (m : ℕ) (q : List Standing) (falling : IsFalling q) (low : m < length q) where
@@ -275,3 +290,13 @@ module _ (w : Standing) (m : ℕ) (q : List Standing) (falling : IsFalling q) (l
     | inl after ↦ here d (before-trans w (get_or q k d) (get_or q m d) is (falling m k d after within))
     | inr at ↦ let same : k ≡ m = omega arith in here d (rw same at is)
   ]
+
+-- a watch is at its place
+pub IsPlaceOf-itself : (w : Standing) (p : ℕ) (q : List Standing) → IsFalling q → StandsAt w p q → IsPlaceOf w p q
+IsPlaceOf-itself w p q falling stands =
+    let here : (d : Standing) → get_or q p d ≡ w = λ d. get_or_default q p d w stands.0 ∙ stands.1 in
+    record {
+      within = omega (arith, stands.0);
+      over = λ k d early. subst (λ s. StandsBefore s (get_or q k d)) (here d) (falling k p d early stands.0);
+      others = from-middle w p q falling stands.0 (λ d before. before-itself w (subst (StandsBefore w) (here d) before));
+    }

@@ -67,7 +67,7 @@ fn report(
     Ok(())
 }
 
-/// Puts the registration in, in its place.
+/// Puts the registration in, in its place: mostly at the end.
 fn put(fired: &mut Vec<Registration>, registration: Registration) -> Result<(), AllocError>
     requires rising { IsStrictlySortedBy nat_cmp fired.old.items }
     ensures put { OnOk result ((r : ℕ) → at (with_cookies fired.new.items) r ≡ (if is_at (nat_cmp registration) r
@@ -78,6 +78,10 @@ fn put(fired: &mut Vec<Registration>, registration: Registration) -> Result<(), 
     let Err(place) = fired.as_slice().binary_search(&registration) else {
         return Ok(());
     };
+    if place == fired.len() {
+        fired.push(registration)?;
+        return Ok(());
+    }
     fired.insert(place, registration)?;
     Ok(())
 }

