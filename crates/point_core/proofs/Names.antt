@@ -1,8 +1,9 @@
 -- A name as it is stored.
-use Rattle.std.proofs.Common.{◌≡◌, ℕ, zero, suc, ◌++◌, ◌+◌, ◌-◌, ◌*◌, ◌%◌, ◌^◌, ◌≤◌, Bool, true, false, ◌&&◌, cond, eqb, nat_eq, List, [], ◌∷◌, length, map, take, drop, take-append-drop, replicate, inl, inr, refl, sym, ap, subst, ◌∙◌, arith, w8}
-use Rattle.std.proofs.Math.Seq.{take-append_seam, take-append-add}
-use Rattle.std.proofs.lemmas.Bool.{and_parts, cases_Bool, eqb-true, eq-eqb}
-use Rattle.std.proofs.lemmas.List.{length-set, get_or-set_same, take-set-le, take-map, take-replicate, map-append, length-map, append-nil, length-take-le, length-drop, drop_all}
+use Rattle.std.proofs.Common.{◌≡◌, ℕ, zero, suc, ◌++◌, ◌+◌, ◌-◌, ◌*◌, ◌%◌, ◌^◌, ◌≤◌, Bool, true, false, ◌&&◌, cond, eqb, ltb, nat_eq, List, [], ◌∷◌, length, map, take, drop, get_or, take-append-drop, replicate, refl, sym, ap, subst, ◌∙◌, arith, w8}
+use Rattle.std.proofs.Math.Seq.{map-set_same, get_or-append_right, take-append_seam}
+use Rattle.std.proofs.lemmas.Bool.Decides.{nat_tests}
+use Rattle.std.proofs.lemmas.Bool.{le-ltb, lt-ltb, and_parts, eqb-true, eq-eqb}
+use Rattle.std.proofs.lemmas.List.{get_or-replicate, length-set, get_or-set_same, take-set-le, map-append, append-nil, length-take-le, length-drop, drop_all}
 use Rattle.std.proofs.lemmas.Slice.{take-put_mid, drop-put_mid}
 use Rattle.std.proofs.lemmas.Simd.{length-zip2, tops_compared, mask_l-mod, length-put_chunk, put_chunk_whole, take_more_put_chunk}
 use Rattle.std.specs.Bool.{one_answer}
@@ -85,21 +86,18 @@ same_names a b x y p q s t =
       λ e. eq-eqb _ _ (omega (arith, mask, power, same-ones a b ((bytes_decides a b).1 (sym s.1 ∙ ap lanes_of (p ∙ e ∙ sym q) ∙ t.1)))),
     ) (bytes_decides x y)
 
--- a space in place of a zero
+-- a space in place of a byte that is less than each byte of a name
 abbrev blank : ℕ → ℕ
-blank b = cond (eqb b 0) 32 b
+blank b = cond (ltb b 45) 32 b
 
-blank_lanes : (lanes : List ℕ) → sel_l (zip2 eqb lanes (replicate (length lanes) 0)) (replicate (length lanes) 32) lanes ≡ map blank lanes
+blank_lanes : (lanes : List ℕ) → sel_l (zip2 ltb lanes (replicate (length lanes) 45)) (replicate (length lanes) 32) lanes ≡ map blank lanes
 blank_lanes [] = refl
 blank_lanes (b ∷ lanes) = ap (λ rest. blank b ∷ rest) (blank_lanes lanes)
 
 blank-name_byte : (b : ℕ) → is_name_byte b ≡ true → blank b ≡ b
-blank-name_byte zero is = absurd (cc)
-blank-name_byte (suc b) is =
-    elim (cases_Bool (eqb (suc b) 0)) [
-      | inl same ↦ absurd (omega (arith, eqb-true _ _ same))
-      | inr other ↦ ap (λ t. cond t 32 (suc b)) other
-    ]
+blank-name_byte b is =
+    let least : 45 ≤ b = grind (arith, nat_tests, is) in
+    ap (λ t. cond t 32 b) (le-ltb b 45 least)
 
 blank-name : (bytes : List ℕ) → list_all is_name_byte bytes ≡ true → map blank bytes ≡ bytes
 blank-name [] all = refl
@@ -111,33 +109,24 @@ blank-zeros : (n : ℕ) → map blank (replicate n 0) ≡ replicate n 32
 blank-zeros zero = refl
 blank-zeros (suc n) = ap (λ rest. 32 ∷ rest) (blank-zeros n)
 
-abbrev column_lanes : List ℕ → List ℕ
-column_lanes lanes = sel_l (map (top 7) (zip2 (λ a b. cond (eqb a b) 255 0) lanes (replicate 32 0))) (replicate 32 32) lanes
+last_zero : (bytes : List ℕ) → length bytes ≤ 31 → get_or (padded bytes) 31 0 ≡ 0
+last_zero bytes few =
+    get_or-append_right bytes (replicate (32 - length bytes) 0) 31 0 few
+    ∙ get_or-replicate (32 - length bytes) (31 - length bytes) 0 0 (omega (arith, few))
 
-column_lanes-blank : (lanes : List ℕ) → IsStored lanes → column_lanes lanes ≡ map blank lanes
-column_lanes-blank lanes is =
-    ap (λ marks. sel_l marks (replicate 32 32) lanes) (tops_compared w8 eqb lanes (replicate 32 0))
-    ∙ ap (λ n. sel_l (zip2 eqb lanes (replicate n 0)) (replicate n 32) lanes) (sym (stored_long lanes is))
-    ∙ blank_lanes lanes
-
-pub length-column_lanes : (lanes : List ℕ) → IsStored lanes → length (sel_l (map (top 7) (zip2 (λ a b. cond (eqb a b) 255 0) lanes (replicate 32 0))) (replicate 32 32) lanes) ≡ 32
-length-column_lanes lanes is = ap length (column_lanes-blank lanes is) ∙ length-map lanes blank ∙ stored_long lanes is
-
--- the bytes of a name with spaces in place of its zeros, and without its length
+-- the bytes of a name, with spaces in place of its zeros and of its length
 pub name-column : (lanes name : List ℕ) → bytes_of lanes ≡ name → IsStored lanes
-    → take 31 (sel_l (map (top 7) (zip2 (λ a b. cond (eqb a b) 255 0) lanes (replicate 32 0))) (replicate 32 32) lanes) ≡ name ++ replicate (31 - length name) 32
+    → sel_l (map (top 7) (zip2 (λ a b. cond (ltb a b) 255 0) lanes (replicate 32 45))) (replicate 32 32) lanes ≡ name ++ replicate (32 - length name) 32
 name-column lanes name named is =
     let bytes = bytes_of lanes in
-    let after = 31 - length bytes in
-    let zeros : List ℕ = replicate (32 - length bytes) 0 in
-    let most : 31 ≡ length bytes + after = omega (arith, is.0.1) in
-    let front : take 31 lanes ≡ bytes ++ replicate after 0 =
-    ap (take 31) (sym is.1) ∙ take-set-le 31 (padded bytes) 31 (length bytes) (omega arith)
-    ∙ ap (λ n. take n (padded bytes)) most ∙ take-append-add bytes zeros after
-    ∙ ap (λ rest. bytes ++ rest) (take-replicate after (32 - length bytes) 0 (omega arith)) in
-    ap (take 31) (column_lanes-blank lanes is)
-    ∙ take-map blank 31 lanes
-    ∙ ap (map blank) front
+    let after = 32 - length bytes in
+    let length_blank : blank (length bytes) ≡ 32 = ap (λ t. cond t 32 (length bytes)) (lt-ltb (length bytes) 45 (omega (arith, is.0.1))) in
+    let last : blank (length bytes) ≡ blank (get_or (padded bytes) 31 0) = length_blank ∙ sym (ap blank (last_zero bytes is.0.1)) in
+    ap (λ marks. sel_l marks (replicate 32 32) lanes) (tops_compared w8 ltb lanes (replicate 32 45))
+    ∙ ap (λ n. sel_l (zip2 ltb lanes (replicate n 45)) (replicate n 32) lanes) (sym (stored_long lanes is))
+    ∙ blank_lanes lanes
+    ∙ ap (map blank) (sym is.1)
+    ∙ map-set_same blank (padded bytes) 31 (length bytes) 0 last
     ∙ map-append blank bytes (replicate after 0)
     ∙ (λ i. blank-name bytes is.0.2 i ++ blank-zeros after i)
-    ∙ ap (λ text. text ++ replicate (31 - length text) 32) named
+    ∙ ap (λ text. text ++ replicate (32 - length text) 32) named

@@ -1,6 +1,6 @@
 //! `Name`: a valid name of a timeline, a file or a buffer, in one vector of 32 bytes, so that it is compared and hashed
 //! as a whole.
-ghost use Rattle.std.specs.Prelude.{◌≡◌, ◌≤◌, ◌<◌, ◌-◌, ◌++◌, ◌↔◌, true, IsSome, IfSome, length, replicate};
+ghost use Rattle.std.specs.Prelude.{◌≡◌, ◌≤◌, ◌<◌, ◌+◌, ◌-◌, ◌++◌, ◌↔◌, true, IsSome, IfSome, length, replicate};
 ghost use Rattle.std.specs.List.{list_all};
 ghost use Rattle.point_core.specs.Name.{IsName, is_name_byte, padded};
 
@@ -16,6 +16,9 @@ const _: () = prove!(NAME_BYTES == 31);
 
 // 2 ^ 64 divided by the golden ratio, which spreads numbers that are close together, as in Fibonacci hashing.
 const GOLDEN_FACTOR: u64 = 0x9e37_79b9_7f4a_7c15;
+
+/// The least of the allowed bytes. The zeros of a name's lanes and its length are less.
+const LEAST_BYTE: u8 = b'-';
 
 /// For each high half of a byte, a bit: 2 for `-` and `.`, 4 for the digits, 8 for `A` to `O` and `a` to `o`, 16 for `P` to `Z` and
 /// `_`, 32 for `p` to `z`, and 1 for each high half that no allowed byte has.
@@ -109,16 +112,14 @@ impl Name {
         }
     }
 
-    /// Its bytes, padded with spaces for a column of a report.
+    /// Its bytes, padded with spaces for a column of a report and the space after it, so that all lanes are stored at once.
     #[inline(always)]
-    pub fn in_column(&self) -> [u8; NAME_BYTES]
-        ensures { result ≡ self.now ++ replicate (NAME_BYTES - length self.now) 32 }
+    pub fn in_column(&self) -> [u8; NAME_BYTES + 1]
+        ensures text { result ≡ self.now ++ replicate (NAME_BYTES + 1 - length self.now) 32 }
+        ensures len { length self.now ≤ NAME_BYTES }
     {
-        let none = self.lanes.simd_eq(u8x32::splat(0));
-        let lanes = none.select(u8x32::splat(b' '), self.lanes).to_array();
-        let mut column = [b' '; NAME_BYTES];
-        column.copy_from_slice(&lanes[..NAME_BYTES]);
-        column
+        let none = self.lanes.simd_lt(u8x32::splat(LEAST_BYTE));
+        none.select(u8x32::splat(b' '), self.lanes).to_array()
     }
 
     /// A number whose high half few other names share. It takes fewer instructions than a hash.

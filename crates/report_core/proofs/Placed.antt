@@ -2,8 +2,7 @@
 use Rattle.std.proofs.Common.{◌≡◌, ℕ, ◌+◌, ◌-◌, ◌≤◌, List, [], ◌∷◌, ◌++◌, length, take, drop, sym, ap, ◌∙◌, slice_set, min, arith, append_assoc, ◌<◌, length-append}
 use Rattle.std.proofs.Math.Nat.{min-le_left}
 use Rattle.std.proofs.Math.Seq.{take-append_seam, drop-append_seam}
-use Rattle.std.proofs.lemmas.List.{take-append-drop, take-append-le, take-replicate, drop-append-le, drop-drop, drop-replicate, length-replicate, length-take-le, replicate-append-replicate, append-nil}
-use Rattle.report_core.proofs.Widths.{length-left}
+use Rattle.std.proofs.lemmas.List.{take-append-drop, take-append-le, take-replicate, drop-append-le, drop-drop, drop-replicate, length-replicate, length-take-le, replicate-append-replicate}
 use Rattle.report_core.specs.declared.rows.TheConstants.{KIND_BYTES, KIND_WIDTH, SUBJECT_WIDTH, NUMBER_WIDTH, COUNT_WIDTH, ROW_BYTES}
 use Rattle.report_core.specs.Columns.{spaces, left, column, right}
 
@@ -42,46 +41,9 @@ put-next row one two place room first is =
 pub set-last : (row : List ℕ) (last : ℕ) → row ≡ spaces ROW_BYTES → slice_set row 61 last ≡ spaces 61 ++ last ∷ []
 set-last row last blank = ap (λ bytes. slice_set bytes 61 last) blank
 
-regroup : (k s a o b d l : List ℕ) → k ++ (s ++ ((a ++ (o ++ b)) ++ (d ++ l))) ≡ ((k ++ ((s ++ a) ++ o)) ++ (b ++ d)) ++ l
-regroup k s a o b d l =
-    let rest = d ++ l in
-    let gap : (a ++ (o ++ b)) ++ rest ≡ a ++ (o ++ (b ++ rest)) = append_assoc a (o ++ b) rest ∙ ap (λ x. a ++ x) (append_assoc o b rest) in
-    let middle : ((s ++ a) ++ o) ++ (b ++ rest) ≡ s ++ (a ++ (o ++ (b ++ rest))) = append_assoc (s ++ a) o (b ++ rest) ∙ append_assoc s a (o ++ (b ++ rest)) in
-    let front = k ++ ((s ++ a) ++ o) in
-    let whole : (front ++ (b ++ d)) ++ l ≡ k ++ (((s ++ a) ++ o) ++ (b ++ rest)) =
-    append_assoc front (b ++ d) l ∙ ap (λ x. front ++ x) (append_assoc b d l) ∙ append_assoc k ((s ++ a) ++ o) (b ++ rest) in
-    ap (λ x. k ++ (s ++ x)) gap ∙ sym (whole ∙ ap (λ x. k ++ x) middle)
-
-row-parts : (kind subject digits blank numbered named row : List ℕ) (start last : ℕ) → length kind ≡ KIND_BYTES → length subject ≤ SUBJECT_WIDTH → length digits ≤ NUMBER_WIDTH → length numbered ≡ ROW_BYTES → start + length digits ≡ 61 → blank ≡ spaces 61 ++ last ∷ [] → drop start numbered ≡ digits ++ drop 61 blank → take start numbered ≡ take start blank → named ≡ take KIND_BYTES numbered ++ subject ++ drop (KIND_BYTES + length subject) numbered → row ≡ take 0 named ++ kind ++ drop (0 + length kind) named → row ≡ kind ++ column SUBJECT_WIDTH subject ++ right NUMBER_WIDTH digits ++ last ∷ []
-row-parts kind subject digits blank numbered named row start last word fits few size end none written before put is =
-    let from = KIND_BYTES + length subject in
-    let gap = SUBJECT_WIDTH - length subject in
-    let room = NUMBER_WIDTH - length digits in
-    let tail : drop 61 blank ≡ last ∷ [] = ap (drop 61) none in
-    let front : take start blank ≡ spaces start = ap (take start) none ∙ take-append-le start (spaces 61) (last ∷ []) (omega arith) ∙ take-replicate start 61 32 (omega arith) in
-    let whole : numbered ≡ spaces start ++ (digits ++ last ∷ []) =
-    sym (take-append-drop start numbered)
-    ∙ ap (λ x. x ++ drop start numbered) (before ∙ front)
-    ∙ ap (λ x. spaces start ++ x) (written ∙ ap (λ x. digits ++ x) tail) in
-    let within : from ≤ length (spaces start) = omega (arith, length-replicate {A = ℕ} start 32) in
-    let parts : start - from ≡ gap + (1 + room) = omega arith in
-    let between : spaces (start - from) ≡ spaces gap ++ (32 ∷ [] ++ spaces room) =
-    ap spaces parts
-    ∙ sym (replicate-append-replicate gap (1 + room) 32)
-    ∙ ap (λ x. spaces gap ++ x) (sym (replicate-append-replicate 1 room 32)) in
-    let behind : drop from numbered ≡ (spaces gap ++ (32 ∷ [] ++ spaces room)) ++ (digits ++ last ∷ []) =
-    ap (drop from) whole
-    ∙ drop-append-le from (spaces start) (digits ++ last ∷ []) within
-    ∙ ap (λ x. x ++ (digits ++ last ∷ [])) (drop-replicate from start 32 ∙ between) in
-    let first : length (take KIND_BYTES numbered) ≡ KIND_BYTES = length-take-le KIND_BYTES numbered (omega (arith, size)) in
-    let rest : drop KIND_BYTES named ≡ subject ++ drop from numbered =
-    ap (drop KIND_BYTES) (put ∙ append_assoc (take KIND_BYTES numbered) subject (drop from numbered))
-    ∙ drop-front (take KIND_BYTES numbered) (subject ++ drop from numbered) KIND_BYTES first in
-    let at : 0 + length kind ≡ KIND_BYTES = omega (arith, word) in
-    is
-    ∙ ap (λ k. kind ++ drop k named) at
-    ∙ ap (λ x. kind ++ x) (rest ∙ ap (λ x. subject ++ x) behind)
-    ∙ regroup kind subject (spaces gap) (32 ∷ []) (spaces room) digits (last ∷ [])
+regroup : (k s b d l : List ℕ) → k ++ (s ++ (b ++ (d ++ l))) ≡ ((k ++ s) ++ (b ++ d)) ++ l
+regroup k s b d l =
+    sym (append_assoc (k ++ s) (b ++ d) l ∙ ap (λ x. (k ++ s) ++ x) (append_assoc b d l) ∙ append_assoc k s (b ++ (d ++ l)))
 
 -- a kind that fills its column: the space after it was there
 pub kind-space : (kind blank numbered named row rest : List ℕ) (start last : ℕ) → length kind ≡ KIND_WIDTH → KIND_BYTES ≤ start → start ≤ 61 → blank ≡ spaces 61 ++ last ∷ [] → take start numbered ≡ take start blank → named ≡ take KIND_BYTES numbered ++ rest → row ≡ take 0 named ++ kind ++ drop (0 + length kind) named → row ≡ take 0 named ++ (kind ++ 32 ∷ []) ++ drop (0 + length (kind ++ 32 ∷ [])) named
@@ -101,34 +63,54 @@ kind-space kind blank numbered named row rest start last word far near none befo
     ∙ ap (λ n. (kind ++ 32 ∷ []) ++ drop n (spaces 9 ++ rest)) (sym two)
     ∙ ap (λ m. take 0 m ++ (kind ++ 32 ∷ []) ++ drop (0 + length (kind ++ 32 ∷ [])) m) (sym all)
 
--- a text that fills its column is not moved by it
-column-left : (subject : List ℕ) → length subject ≤ SUBJECT_WIDTH → column SUBJECT_WIDTH (left SUBJECT_WIDTH subject) ≡ column SUBJECT_WIDTH subject
+-- a column and the space after it
+column-left : (subject : List ℕ) → length subject ≤ SUBJECT_WIDTH → left (SUBJECT_WIDTH + 1) subject ≡ column SUBJECT_WIDTH subject
 column-left subject fits =
-    let full = left SUBJECT_WIDTH subject in
-    ap (λ n. (full ++ spaces (SUBJECT_WIDTH - n)) ++ 32 ∷ []) (length-left SUBJECT_WIDTH subject fits)
-    ∙ ap (λ text. text ++ 32 ∷ []) (append-nil full)
+    let gap = SUBJECT_WIDTH - length subject in
+    let more : SUBJECT_WIDTH + 1 - length subject ≡ gap + 1 = omega (arith, fits) in
+    ap (λ n. subject ++ spaces n) more
+    ∙ ap (λ x. subject ++ x) (sym (replicate-append-replicate gap 1 32))
+    ∙ sym (append_assoc subject (spaces gap) (32 ∷ []))
 
 -- the number is written first, then the subject with its spaces, then the kind
-pub row-columns : (kind subject digits blank numbered named row : List ℕ) (start last : ℕ) → length kind ≡ KIND_BYTES → length subject ≤ SUBJECT_WIDTH → length digits ≤ NUMBER_WIDTH → length numbered ≡ ROW_BYTES → start + length digits ≡ 61 → blank ≡ spaces 61 ++ last ∷ [] → drop start numbered ≡ digits ++ drop 61 blank → take start numbered ≡ take start blank → named ≡ take KIND_BYTES numbered ++ left SUBJECT_WIDTH subject ++ drop (KIND_BYTES + SUBJECT_WIDTH) numbered → row ≡ take 0 named ++ kind ++ drop (0 + length kind) named → row ≡ kind ++ column SUBJECT_WIDTH subject ++ right NUMBER_WIDTH digits ++ last ∷ []
+pub row-columns : (kind subject digits blank numbered named row : List ℕ) (start last : ℕ) → length kind ≡ KIND_BYTES → length subject ≤ SUBJECT_WIDTH → length digits ≤ NUMBER_WIDTH → length numbered ≡ ROW_BYTES → start + length digits ≡ 61 → blank ≡ spaces 61 ++ last ∷ [] → drop start numbered ≡ digits ++ drop 61 blank → take start numbered ≡ take start blank → named ≡ take KIND_BYTES numbered ++ left (SUBJECT_WIDTH + 1) subject ++ drop (KIND_BYTES + SUBJECT_WIDTH + 1) numbered → row ≡ take 0 named ++ kind ++ drop (0 + length kind) named → row ≡ kind ++ column SUBJECT_WIDTH subject ++ right NUMBER_WIDTH digits ++ last ∷ []
 row-columns kind subject digits blank numbered named row start last word fits few size end none written before put is =
-    let full = left SUBJECT_WIDTH subject in
-    let wide : length full ≡ SUBJECT_WIDTH = length-left SUBJECT_WIDTH subject fits in
-    let placed : named ≡ take KIND_BYTES numbered ++ full ++ drop (KIND_BYTES + length full) numbered =
-    put ∙ ap (λ n. take KIND_BYTES numbered ++ full ++ drop (KIND_BYTES + n) numbered) (sym wide) in
-    row-parts kind full digits blank numbered named row start last word (omega (arith, wide)) few size end none written before placed is
+    let full = left (SUBJECT_WIDTH + 1) subject in
+    let room = NUMBER_WIDTH - length digits in
+    let tail : drop 61 blank ≡ last ∷ [] = ap (drop 61) none in
+    let front : take start blank ≡ spaces start = ap (take start) none ∙ take-append-le start (spaces 61) (last ∷ []) (omega arith) ∙ take-replicate start 61 32 (omega arith) in
+    let whole : numbered ≡ spaces start ++ (digits ++ last ∷ []) =
+    sym (take-append-drop start numbered)
+    ∙ ap (λ x. x ++ drop start numbered) (before ∙ front)
+    ∙ ap (λ x. spaces start ++ x) (written ∙ ap (λ x. digits ++ x) tail) in
+    let within : 41 ≤ length (spaces start) = omega (arith, length-replicate {A = ℕ} start 32) in
+    let between : start - 41 ≡ room = omega arith in
+    let behind : drop 41 numbered ≡ spaces room ++ (digits ++ last ∷ []) =
+    ap (drop 41) whole
+    ∙ drop-append-le 41 (spaces start) (digits ++ last ∷ []) within
+    ∙ ap (λ x. x ++ (digits ++ last ∷ [])) (drop-replicate 41 start 32 ∙ ap spaces between) in
+    let first : length (take KIND_BYTES numbered) ≡ KIND_BYTES = length-take-le KIND_BYTES numbered (omega (arith, size)) in
+    let rest : drop KIND_BYTES named ≡ full ++ drop 41 numbered =
+    ap (drop KIND_BYTES) (put ∙ append_assoc (take KIND_BYTES numbered) full (drop 41 numbered))
+    ∙ drop-front (take KIND_BYTES numbered) (full ++ drop 41 numbered) KIND_BYTES first in
+    let at : 0 + length kind ≡ KIND_BYTES = omega (arith, word) in
+    is
+    ∙ ap (λ k. kind ++ drop k named) at
+    ∙ ap (λ x. kind ++ x) (rest ∙ ap (λ x. full ++ x) behind)
+    ∙ regroup kind full (spaces room) digits (last ∷ [])
     ∙ ap (λ text. kind ++ text ++ right NUMBER_WIDTH digits ++ last ∷ []) (column-left subject fits)
 
--- a text with its spaces is written in the second column
-pub put-column : (row subject text put : List ℕ) → length text ≡ SUBJECT_WIDTH → text ≡ left SUBJECT_WIDTH subject → put ≡ take KIND_BYTES row ++ text ++ drop (KIND_BYTES + length text) row → put ≡ take KIND_BYTES row ++ left SUBJECT_WIDTH subject ++ drop (KIND_BYTES + SUBJECT_WIDTH) row
+-- a text with its spaces is written in the second column, and one space after it
+pub put-column : (row subject text put : List ℕ) → length text ≡ SUBJECT_WIDTH + 1 → text ≡ left (SUBJECT_WIDTH + 1) subject → put ≡ take KIND_BYTES row ++ text ++ drop (KIND_BYTES + length text) row → put ≡ take KIND_BYTES row ++ left (SUBJECT_WIDTH + 1) subject ++ drop (KIND_BYTES + SUBJECT_WIDTH + 1) row
 put-column row subject text put wide is placed =
     placed ∙ ap (λ n. take KIND_BYTES row ++ text ++ drop (KIND_BYTES + n) row) wide
-    ∙ ap (λ x. take KIND_BYTES row ++ x ++ drop (KIND_BYTES + SUBJECT_WIDTH) row) is
+    ∙ ap (λ x. take KIND_BYTES row ++ x ++ drop (KIND_BYTES + SUBJECT_WIDTH + 1) row) is
 
 -- a letter and digits that are written at the start of spaces
-pub numbered-left : (letter : ℕ) (digits text : List ℕ) → length digits < SUBJECT_WIDTH → text ≡ letter ∷ digits ++ drop (length digits) (spaces 30) → text ≡ left SUBJECT_WIDTH (letter ∷ digits)
+pub numbered-left : (letter : ℕ) (digits text : List ℕ) → length digits < SUBJECT_WIDTH → text ≡ letter ∷ digits ++ drop (length digits) (spaces 31) → text ≡ left (SUBJECT_WIDTH + 1) (letter ∷ digits)
 numbered-left letter digits text few is =
-    let less : 30 - length digits ≡ SUBJECT_WIDTH - length (letter ∷ digits) = omega arith in
-    is ∙ ap (λ rest. letter ∷ digits ++ rest) (drop-replicate (length digits) 30 32 ∙ ap spaces less)
+    let less : 31 - length digits ≡ SUBJECT_WIDTH + 1 - length (letter ∷ digits) = omega arith in
+    is ∙ ap (λ rest. letter ∷ digits ++ rest) (drop-replicate (length digits) 31 32 ∙ ap spaces less)
 
 -- a number that is written before the last byte of spaces, from at most a column's width on
 pub drop-count : (digits blank text : List ℕ) (first start : ℕ) → first + length digits ≡ NUMBER_WIDTH → start ≡ min first (NUMBER_WIDTH - COUNT_WIDTH) → blank ≡ spaces 20 ++ 10 ∷ [] → drop first text ≡ digits ++ drop 20 blank → take first text ≡ take first blank → drop start text ≡ right COUNT_WIDTH digits ++ 10 ∷ []

@@ -83,12 +83,12 @@ fn write_file_columns(row: &mut [u8], file: &FileRow)
     put_at(row, 0, &RowKind::File.column());
 }
 
-/// Writes the subject left-aligned into the second column, with spaces after it.
+/// Writes the subject left-aligned into the second column, with spaces after it, and one after the column.
 #[inline(always)]
 fn put_subject(row: &mut [u8], subject: Subject<'_>)
     requires width { length row.old ≡ ROW_BYTES }
-    ensures text { row.new ≡ take KIND_BYTES row.old ++ left SUBJECT_WIDTH (subject_text subject.entry)
-        ++ drop (KIND_BYTES + SUBJECT_WIDTH) row.old }
+    ensures text { row.new ≡ take KIND_BYTES row.old ++ left (SUBJECT_WIDTH + 1) (subject_text subject.entry)
+        ++ drop (KIND_BYTES + SUBJECT_WIDTH + 1) row.old }
     ensures len { length (subject_text subject.entry) ≤ SUBJECT_WIDTH }
 {
     match subject {
@@ -99,14 +99,14 @@ fn put_subject(row: &mut [u8], subject: Subject<'_>)
     }
 }
 
-/// The letter and the number, left-aligned in a column.
-fn numbered_column(letter: u8, number: u64) -> [u8; SUBJECT_WIDTH]
-    ensures text { result ≡ left SUBJECT_WIDTH (letter ∷ decimal number) }
+/// The letter and the number, left-aligned in a column, and the space after it.
+fn numbered_column(letter: u8, number: u64) -> [u8; SUBJECT_WIDTH + 1]
+    ensures text { result ≡ left (SUBJECT_WIDTH + 1) (letter ∷ decimal number) }
     ensures len { length (decimal number) < SUBJECT_WIDTH }
 {
     let mut buffer = Buffer::new();
     let digits = buffer.format(number).as_bytes();
-    let mut column = [b' '; SUBJECT_WIDTH];
+    let mut column = [b' '; SUBJECT_WIDTH + 1];
     column[0] = letter;
     column[1..1 + digits.len()].copy_from_slice(digits);
     column

@@ -70,10 +70,10 @@ fn put_next(row: &mut [u8], place: usize, text: &[u8]) -> usize
     place + text.len()
 }
 
-/// Writes the name at a place, and spaces after it up to the longest name's width.
+/// Writes the name at a place, and at least one space after it.
 #[inline(always)]
 fn put_name(row: &mut [u8], place: usize, name: &Name) -> usize
-    requires room { place + SUBJECT_WIDTH ≤ length row.old }
+    requires room { place + SUBJECT_WIDTH + 1 ≤ length row.old }
     ensures text { take result row.new ≡ take place row.old ++ name.now }
     ensures end { result ≤ place + SUBJECT_WIDTH }
     ensures len { length row.new ≡ length row.old }

@@ -14,6 +14,6 @@ returns-clause-text c =
     let size : 1 + length text - 1 ≡ length text = omega arith in
     let same : text ≡ decimal c.args.number = c.as_bytes-digits.ensures.value ∙ c.format.ensures.text in
     numbered-left letter (decimal c.args.number) _ (omega (arith, few))
-    (ap (λ k. letter ∷ put ++ drop k (spaces 30)) size
-    ∙ ap (λ x. letter ∷ x ++ drop (length text) (spaces 30)) c.copy_from_slice.ensures.after
-    ∙ ap (λ x. letter ∷ x ++ drop (length x) (spaces 30)) same)
+    (ap (λ k. letter ∷ put ++ drop k (spaces 31)) size
+    ∙ ap (λ x. letter ∷ x ++ drop (length text) (spaces 31)) c.copy_from_slice.ensures.after
+    ∙ ap (λ x. letter ∷ x ++ drop (length x) (spaces 31)) same)

@@ -10,8 +10,8 @@ returns-clause-text c =
     let place = c.args.place in
     let name = c.args.name.now in
     let column = c.in_column-column.result in
-    let rest = spaces (31 - length name) in
+    let rest = spaces (32 - length name) in
     let is : take (place + length column) new ≡ take place row ++ (name ++ rest) =
-    take-next row column new place (omega arith) c.put_at.ensures ∙ ap (λ x. take place row ++ x) c.in_column-column.ensures in
-    let fits : length name ≤ length column = omega (arith, ap length c.in_column-column.ensures, length-append name rest) in
+    take-next row column new place (omega arith) c.put_at.ensures ∙ ap (λ x. take place row ++ x) c.in_column-column.ensures.text in
+    let fits : length name ≤ length column = omega (arith, ap length c.in_column-column.ensures.text, length-append name rest) in
     ap (λ bytes. take (place + length bytes) new) c.as_bytes-bytes.ensures.value ∙ take-part row name rest new place (length column) (omega arith) fits is
