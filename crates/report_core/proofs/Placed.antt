@@ -1,9 +1,9 @@
 -- A row whose parts are written at their places.
-use Rattle.std.proofs.Common.{◌≡◌, ℕ, ◌+◌, ◌-◌, ◌≤◌, List, [], ◌∷◌, ◌++◌, length, take, drop, sym, ap, ◌∙◌, slice_set, min, arith, append_assoc, ◌<◌, length-append}
-use Rattle.std.proofs.Math.Nat.{min-le_left}
-use Rattle.std.proofs.Math.Seq.{take-append_seam, drop-append_seam}
-use Rattle.std.proofs.lemmas.List.{take-append-drop, take-append-le, take-replicate, drop-append-le, drop-drop, drop-replicate, length-replicate, length-take-le, replicate-append-replicate}
-use Rattle.report_core.specs.declared.rows.TheConstants.{KIND_BYTES, KIND_WIDTH, SUBJECT_WIDTH, NUMBER_WIDTH, COUNT_WIDTH, ROW_BYTES}
+use Rattle.std.proofs.Common.{◌≡◌, ℕ, ◌+◌, ◌-◌, ◌≤◌, List, [], ◌∷◌, ◌++◌, length, take, drop, sym, ap, ◌∙◌, set, slice_set, arith, append_assoc, ◌<◌, length-append}
+use Rattle.std.proofs.Math.Seq.{take-append_seam, take-append-add, drop-append_seam}
+use Rattle.std.proofs.lemmas.List.{take-append-drop, take-append-le, take-replicate, drop-append-le, drop-drop, drop-replicate, length-replicate, length-take-le, replicate-append-replicate, take_more_set}
+use Rattle.report_core.specs.declared.rows.TheConstants.{KIND_BYTES, KIND_WIDTH, SUBJECT_WIDTH, NUMBER_WIDTH, COUNT_WIDTH, ROW_BYTES, STATUS_BYTES}
+use Rattle.report_core.proofs.Widths.{length-right}
 use Rattle.report_core.specs.Columns.{spaces, left, column, right}
 
 take-front : (front rest : List ℕ) (n : ℕ) → length front ≡ n → take n (front ++ rest) ≡ front
@@ -112,19 +112,31 @@ numbered-left letter digits text few is =
     let less : 31 - length digits ≡ SUBJECT_WIDTH + 1 - length (letter ∷ digits) = omega arith in
     is ∙ ap (λ rest. letter ∷ digits ++ rest) (drop-replicate (length digits) 31 32 ∙ ap spaces less)
 
--- a number that is written before the last byte of spaces, from at most a column's width on
-pub drop-count : (digits blank text : List ℕ) (first start : ℕ) → first + length digits ≡ NUMBER_WIDTH → start ≡ min first (NUMBER_WIDTH - COUNT_WIDTH) → blank ≡ spaces 20 ++ 10 ∷ [] → drop first text ≡ digits ++ drop 20 blank → take first text ≡ take first blank → drop start text ≡ right COUNT_WIDTH digits ++ 10 ∷ []
-drop-count digits blank text first start size is none written before =
-    let tail : drop 20 blank ≡ 10 ∷ [] = ap (drop 20) none in
-    let front : take first blank ≡ spaces first = ap (take first) none ∙ take-append-le first (spaces 20) (10 ∷ []) (omega arith) ∙ take-replicate first 20 32 (omega arith) in
-    let whole : text ≡ spaces first ++ (digits ++ 10 ∷ []) =
-    sym (take-append-drop first text)
-    ∙ ap (λ x. x ++ drop first text) (before ∙ front)
-    ∙ ap (λ x. spaces first ++ x) (written ∙ ap (λ x. digits ++ x) tail) in
-    let less : start ≤ first = omega (arith, is, min-le_left first 17) in
-    let within : start ≤ length (spaces first) = omega (arith, less, length-replicate {A = ℕ} first 32) in
-    let room : first - start ≡ COUNT_WIDTH - length digits = omega (arith, is) in
-    ap (drop start) whole
-    ∙ drop-append-le start (spaces first) (digits ++ 10 ∷ []) within
-    ∙ ap (λ x. x ++ (digits ++ 10 ∷ [])) (drop-replicate start first 32 ∙ ap spaces room)
-    ∙ sym (append_assoc (spaces (COUNT_WIDTH - length digits)) digits (10 ∷ []))
+-- a status that is right-aligned already
+pub right-right : (text : List ℕ) → length text ≤ STATUS_BYTES → right NUMBER_WIDTH (right STATUS_BYTES text) ≡ right NUMBER_WIDTH text
+right-right text short =
+    let gap = STATUS_BYTES - length text in
+    let room : 18 + gap ≡ NUMBER_WIDTH - length text = omega (arith, short) in
+    ap (λ n. spaces (NUMBER_WIDTH - n) ++ right STATUS_BYTES text) (length-right STATUS_BYTES text short)
+    ∙ sym (append_assoc (spaces 18) (spaces gap) text)
+    ∙ ap (λ x. x ++ text) (replicate-append-replicate 18 gap 32 ∙ ap spaces room)
+
+-- a count that is written after the columns, in at least its column's width, and a line feed after it
+pub count-put : (front digits row new : List ℕ) (start end : ℕ) → length front ≡ ROW_BYTES → row ≡ front ++ spaces 21 → end ≤ 82 → start + length digits ≡ end → ROW_BYTES + (COUNT_WIDTH - length digits) ≡ start → length new ≡ 83 → drop start new ≡ digits ++ drop end row → take start new ≡ take start row → take (end + 1) (set new end 10) ≡ front ++ (right COUNT_WIDTH digits ++ 10 ∷ [])
+count-put front digits row new start end wide is least at from size written before =
+    let gap = COUNT_WIDTH - length digits in
+    let blank : take start row ≡ front ++ spaces gap =
+    ap (take start) is
+    ∙ ap (λ n. take n (front ++ spaces 21)) (sym from ∙ ap (λ n. n + gap) (sym wide))
+    ∙ take-append-add front (spaces 21) gap
+    ∙ ap (λ x. front ++ x) (take-replicate gap 21 32 (omega (arith, wide))) in
+    let text : List ℕ = (front ++ spaces gap) ++ digits in
+    let long : length text ≡ end = omega (arith, length-append (front ++ spaces gap) digits, length-append front (spaces gap), length-replicate {A = ℕ} gap 32, wide) in
+    let whole : new ≡ text ++ drop end row =
+    sym (take-append-drop start new)
+    ∙ ap (λ x. x ++ drop start new) (before ∙ blank)
+    ∙ ap (λ x. (front ++ spaces gap) ++ x) written
+    ∙ sym (append_assoc (front ++ spaces gap) digits (drop end row)) in
+    take_more_set new end 10 (omega (arith, size))
+    ∙ ap (λ x. x ++ 10 ∷ []) (ap (take end) whole ∙ take-front text (drop end row) end long ∙ append_assoc front (spaces gap) digits)
+    ∙ append_assoc front (right COUNT_WIDTH digits) (10 ∷ [])

@@ -8,7 +8,7 @@ use Rattle.point_core.specs.declared.status.Status.TheVariants.{Active, Signalle
 use Rattle.point_core.specs.declared.entry.Usage.TheVariants.{Kernel, Write, Read, Bookkeep}
 use Rattle.report_core.specs.declared.row_kind.RowKind.{RowKind}
 use Rattle.report_core.specs.declared.row_kind.RowKind.TheVariants.{Timeline, Closed, File, Buffer, Level}
-use Rattle.report_core.specs.declared.rows.TheConstants.{KIND_WIDTH, SUBJECT_WIDTH, NUMBER_WIDTH, COUNT_WIDTH, ROW_BYTES, FILE_ROW_BYTES}
+use Rattle.report_core.specs.declared.rows.TheConstants.{KIND_WIDTH, SUBJECT_WIDTH, NUMBER_WIDTH, COUNT_WIDTH, ROW_BYTES, FILE_ROW_BYTES, STATUS_BYTES}
 use Rattle.report_core.proofs.Statuses.{text-Active, text-Signalled, text-Cancelled}
 use Rattle.report_core.specs.Columns.{left, column, right}
 use Rattle.report_core.specs.RowKind.{kind_word}
@@ -21,7 +21,7 @@ length-left width text h = omega (arith, length-append text (replicate {A = ℕ}
 length-column : (width : ℕ) (text : List ℕ) → length text ≤ width → length (column width text) ≡ width + 1
 length-column width text h = omega (arith, length-append (left width text) (32 ∷ []), length-left width text h)
 
-length-right : (width : ℕ) (text : List ℕ) → length text ≤ width → length (right width text) ≡ width
+pub length-right : (width : ℕ) (text : List ℕ) → length text ≤ width → length (right width text) ≡ width
 length-right width text h = omega (arith, length-append (replicate {A = ℕ} (width - length text) 32) text, length-replicate {A = ℕ} (width - length text) 32)
 
 length-kind_word : (kind : RowKind) → length (kind_word kind) ≤ KIND_WIDTH
@@ -61,7 +61,7 @@ length-row old new kind subject number s n e =
     let text : length (row_text kind subject number) ≡ length (columns kind subject (decimal number)) + 1 = length-append (columns kind subject (decimal number)) (10 ∷ []) in
     rw e (omega (arith, whole, text, length-columns kind subject (decimal number) s (length-decimal number n)))
 
-length-status : (status : Status) → length (status_text status) ≤ NUMBER_WIDTH
+pub length-status : (status : Status) → length (status_text status) ≤ STATUS_BYTES
 length-status Active = omega (arith, sym (ap length text-Active))
 length-status Signalled = omega (arith, sym (ap length text-Signalled))
 length-status Cancelled = omega (arith, sym (ap length text-Cancelled))
@@ -77,6 +77,6 @@ length-file_row old new file s few e =
     let whole : length (old ++ file_row_text file) ≡ length old + length (file_row_text file) = length-append old (file_row_text file) in
     let text : length (file_row_text file) ≡ length (first ++ 32 ∷ last) + 1 = length-append (first ++ 32 ∷ last) (10 ∷ []) in
     let front : length (first ++ 32 ∷ last) ≡ length first + length (32 ∷ last) = length-append first (32 ∷ last) in
-    let a : length first + 1 ≡ ROW_BYTES = length-columns File file.name (status_text file.status) s (length-status file.status) in
+    let a : length first + 1 ≡ ROW_BYTES = length-columns File file.name (status_text file.status) s (omega (arith, length-status file.status)) in
     let b : length last ≡ COUNT_WIDTH = length-right COUNT_WIDTH (decimal file.count) (length-decimal-le 3 file.count (omega arith) few (omega arith)) in
     rw e (omega (arith, whole, text, front, a, b))

@@ -6,17 +6,17 @@ ghost use Rattle.report_core.specs.Columns.{spaces, left, right};
 ghost use Rattle.report_core.specs.Status.{status_text};
 ghost use Rattle.report_core.specs.Subject.{subject_text};
 ghost use Rattle.report_core.specs.declared.row_kind.RowKind.TheVariants.{File};
-ghost use Rattle.report_core.specs.Row.{columns, row_text};
+ghost use Rattle.report_core.specs.Row.{columns, file_row_text, row_text};
 
-use crate::number_line::push_bytes;
+use crate::fence_line::digit_count;
 use crate::row_kind::RowKind;
-use crate::rows::{COUNT_WIDTH, KIND_BYTES, NUMBER_WIDTH, ROW_BYTES, SUBJECT_WIDTH, status_text};
+use crate::rows::{COUNT_WIDTH, KIND_BYTES, NUMBER_WIDTH, ROW_BYTES, STATUS_BYTES, SUBJECT_WIDTH};
 use command_core::FileRow;
 use itoa::{Buffer, write_digits};
-use point_core::{Name, Refusal};
+use point_core::{Name, Refusal, Status};
 
-/// The most bytes of a file row's last column and its line feed.
-const COUNT_BYTES: usize = NUMBER_WIDTH + 1;
+/// The most bytes of a file's row, with its line feed.
+const FILE_BYTES: usize = ROW_BYTES + NUMBER_WIDTH + 1;
 
 /// The subject of a row: an object with a name, or one with a letter and a number, as the client `c1`.
 #[derive(Clone, Copy)]
@@ -46,16 +46,16 @@ pub(crate) fn push_row(
     Ok(())
 }
 
-/// Appends a file's row up to its count to `out`, as `push_row` does.
-pub(crate) fn push_file_columns(out: &mut Vec<u8>, file: &FileRow) -> Result<(), Refusal>
-    ensures ok { OnOk result (out.new.items
-        ≡ out.old.items ++ (columns File file.now.name (status_text file.now.status) ++ 32 ∷ [])) }
+/// Appends a file's row to `out`, as `push_row` does.
+pub(crate) fn push_file_row(out: &mut Vec<u8>, file: &FileRow) -> Result<(), Refusal>
+    ensures ok { OnOk result (out.new.items ≡ out.old.items ++ file_row_text file.now) }
     ensures err { OnErr result ((result ≡ Err Memory) × StartsWith out.new.items out.old.items) }
 {
     let start = out.len();
-    out.extend_from_slice(&[b' '; ROW_BYTES])?;
+    out.extend_from_slice(&[b' '; FILE_BYTES])?;
     let row = &mut out.as_mut_slice()[start..];
-    write_file_columns(row, file);
+    let end = write_file_row(row, file);
+    out.truncate(start + end);
     Ok(())
 }
 
@@ -71,16 +71,43 @@ fn write_row(row: &mut [u8], kind: RowKind, subject: Subject<'_>, number: u64)
     put_at(row, 0, &kind.column());
 }
 
+/// Writes a file's row into spaces, and answers where it ends. A count that is too wide for its column makes the row longer.
+#[inline(always)]
+fn write_file_row(row: &mut [u8], file: &FileRow) -> usize
+    requires blank { row.old ≡ spaces FILE_BYTES }
+    ensures text { take result row.new ≡ file_row_text file.now }
+    ensures end { result ≤ FILE_BYTES }
+    ensures len { length row.new ≡ FILE_BYTES }
+{
+    write_file_columns(&mut row[..ROW_BYTES], file);
+    let end = ROW_BYTES + digit_count(file.count).max(COUNT_WIDTH);
+    write_digits(file.count, row, end);
+    row[end] = b'\n';
+    end + 1
+}
+
 /// Writes a file's row up to its count into a row of spaces.
 #[inline(always)]
 fn write_file_columns(row: &mut [u8], file: &FileRow)
     requires blank { row.old ≡ spaces ROW_BYTES }
     ensures { row.new ≡ columns File file.now.name (status_text file.now.status) ++ 32 ∷ [] }
 {
-    let status = status_text(file.status);
-    put_at(row, ROW_BYTES - 1 - status.len(), status);
+    let status = status_column(file.status);
+    put_at(row, ROW_BYTES - 1 - STATUS_BYTES, &status);
     put_subject(row, Subject::Named(&file.name));
     put_at(row, 0, &RowKind::File.column());
+}
+
+/// The status, right-aligned.
+#[inline(always)]
+fn status_column(status: Status) -> [u8; STATUS_BYTES]
+    ensures { result ≡ right STATUS_BYTES (status_text status) }
+{
+    match status {
+        Status::Active => *b" 0",
+        Status::Signalled => *b" 1",
+        Status::Cancelled => *b"-2",
+    }
 }
 
 /// Writes the subject left-aligned into the second column, with spaces after it, and one after the column.
@@ -119,22 +146,4 @@ pub(crate) fn put_at(row: &mut [u8], place: usize, text: &[u8])
     ensures { row.new ≡ take place row.old ++ text.now ++ drop (place + length text.now) row.old }
 {
     row[place..place + text.len()].copy_from_slice(text);
-}
-
-/// Appends the count, right-aligned in a file row's last column, and a line feed to `out`.
-///
-/// Fails only with Memory, and then leaves `out` as it was. It is pushed byte by byte, as in `push_numbered`.
-pub(crate) fn push_count(out: &mut Vec<u8>, count: u64) -> Result<(), Refusal>
-    ensures ok { OnOk result (out.new.items ≡ out.old.items ++ (right COUNT_WIDTH (decimal count) ++ 10 ∷ [])) }
-    ensures err { OnErr result ((result ≡ Err Memory) × (out.new.items ≡ out.old.items)) }
-{
-    if out.capacity() - out.len() < COUNT_BYTES {
-        out.reserve(COUNT_BYTES)?;
-    }
-    let mut text = [b' '; COUNT_BYTES];
-    text[NUMBER_WIDTH] = b'\n';
-    let digits = write_digits(count, &mut text, NUMBER_WIDTH);
-    let start = digits.min(NUMBER_WIDTH - COUNT_WIDTH);
-    push_bytes(&text[start..], out);
-    Ok(())
 }

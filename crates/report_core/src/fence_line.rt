@@ -130,7 +130,7 @@ fn put_status(row: &mut [u8], place: usize, status: Status) -> usize
 
 /// How many digits the number has.
 #[inline(always)]
-fn digit_count(number: u64) -> usize
+pub(crate) fn digit_count(number: u64) -> usize
     ensures count { result ≡ length (decimal number) }
     ensures few { result ≤ NUMBER_WIDTH }
 {

@@ -89,7 +89,7 @@ fn push_many(number: u64, out: &mut Vec<u8>)
 
 /// Appends the bytes to `out`, which has room for them.
 #[inline(always)]
-pub(crate) fn push_bytes(bytes: &[u8], out: &mut Vec<u8>)
+fn push_bytes(bytes: &[u8], out: &mut Vec<u8>)
     requires { vec_len out.old + length bytes.now ≤ vec_capacity out.old }
     ensures items { out.new.items ≡ out.old.items ++ bytes.now }
     ensures len { vec_len out.new ≡ vec_len out.old + length bytes.now }

@@ -5,7 +5,7 @@ ghost use Rattle.point_core.specs.declared.refusal.Refusal.TheVariants.{Memory};
 ghost use Rattle.report_core.specs.Row.{row_text, file_row_text};
 ghost use Rattle.report_core.specs.Status.{status_text};
 
-use crate::columns::{Subject, push_count, push_file_columns, push_row};
+use crate::columns::{Subject, push_file_row, push_row};
 use crate::row_kind::RowKind;
 use command_core::FileRow;
 use point_core::{NAME_BYTES, Name, Refusal, Status};
@@ -76,8 +76,7 @@ pub fn file_row(file: &FileRow, out: &mut Vec<u8>) -> Result<(), Refusal>
 {
     // for the proof: the invariant of a name
     prove!(file.name.as_bytes().len() <= NAME_BYTES);
-    push_file_columns(out, file)?;
-    push_count(out, file.count)?;
+    push_file_row(out, file)?;
     Ok(())
 }
 
