@@ -192,4 +192,16 @@ impl Clocks {
         self.clocks[ctx.index()].closed = true;
         self.reach.close(ctx);
     }
+
+    /// The clocks after a context closes. Its value stays. For users of the library; no program here calls it.
+    pub fn shut(&self, ctx: Context) -> Clocks
+        ensures clocks { result ≡ with_clock self.now ctx (closed_clock (clock_at self.now ctx)) }
+        ensures reach { reach_of_clocks result ≡ shut_value (reach_of_clocks self.now) ctx }
+        ensures full { length self.now ≡ CONTEXTS }
+        ensures context { (1 ≤ ctx) × (ctx ≤ CONTEXTS) }
+    {
+        let mut shut = *self;
+        shut.close(ctx);
+        shut
+    }
 }

@@ -106,6 +106,18 @@ impl Reach {
         self.values.raise(ctx.index(), u64::MAX);
     }
 
+    /// The reach after a context closes: every point of it is reached. For users of the library; no program here calls
+    /// it.
+    pub fn shut(&self, ctx: Context) -> Reach
+        ensures value { result ≡ shut_value self.now ctx }
+        ensures full { length self.now ≡ CONTEXTS }
+        ensures context { (1 ≤ ctx) × (ctx ≤ CONTEXTS) }
+    {
+        let mut shut = *self;
+        shut.close(ctx);
+        shut
+    }
+
     /// The number of contexts up to the last whose value is not 0. A loop over reached contexts can end there.
     pub fn used(&self) -> usize
         ensures last { result ≡ used_of self.now }
@@ -129,6 +141,17 @@ impl Reach {
         ensures { IsTrue result ↔ IsAtLeast self.now other.now }
     {
         self.values.at_least(other.values.in_use())
+    }
+
+    /// The pointwise greatest of two reaches: for each context the greater value. For users of the library; no program
+    /// here calls it.
+    pub fn joined(&self, other: &Reach) -> Reach
+        ensures values { result ≡ later_values self.now other.now }
+        ensures full { (length self.now ≡ CONTEXTS) × (length other.now ≡ CONTEXTS) }
+    {
+        let mut joined = *self;
+        joined.values.join(other.values.in_use());
+        joined
     }
 
     /// Raises each value to the floor's, if that is greater.

@@ -245,6 +245,16 @@ impl Timelines {
     }
 
     /// The value of each context, and which are closed; 0 and open if no timeline was made.
+    ///
+    /// Users of the library call it; no program here does.
+    pub fn clocks(&self) -> Clocks
+        ensures value { result ≡ clocks_of self.now }
+        ensures timelines { AreTimelines self.now }
+    {
+        *self.as_clocks()
+    }
+
+    /// Borrows the clocks instead of copying them.
     pub fn as_clocks(&self) -> &Clocks
         ensures value { result.now ≡ clocks_of self.now }
         ensures timelines { AreTimelines self.now }
