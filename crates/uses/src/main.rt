@@ -17,6 +17,7 @@ mod reservations;
 mod running;
 mod scripts;
 mod seats;
+mod surface;
 mod timelines;
 
 use calls::Calls;

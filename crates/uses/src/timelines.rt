@@ -1,6 +1,6 @@
 //! Calls of `timeline_core`, on two timelines.
 use crate::calls::{Calls, name};
-use point_core::{Context, Name, Refusal};
+use point_core::{Context, Name, Point, Reach, Refusal};
 use timeline_core::Timelines;
 
 pub(crate) fn make_calls(rt: &HostRuntime, calls: &mut Calls) {
@@ -55,6 +55,23 @@ fn shut(rt: &HostRuntime, calls: &mut Calls, timelines: &mut Timelines, timeline
     calls.tell(rt, "inc", &timelines.inc(timeline, 1));
     calls.tell(rt, "value", &timelines.value(timeline));
     raised(rt, calls, timelines, timeline);
+    copies(rt, calls, timelines);
+}
+
+/// The status of a point of the first timeline before and after its clock closes, and the joined reach of that closed
+/// context and of both timelines.
+fn copies(rt: &HostRuntime, calls: &mut Calls, timelines: &Timelines) {
+    let late = Point {
+        ctx: Context::at(0),
+        value: 7,
+    };
+    let clocks = timelines.clocks();
+    calls.tell(rt, "clocks", &clocks.status(late));
+    calls.tell(rt, "Clocks::shut", &clocks.shut(late.ctx).status(late));
+    let closed = Reach::zero().shut(late.ctx);
+    calls.tell(rt, "Reach::shut", &[closed.at(0), closed.at(1)]);
+    let joined = closed.joined(&timelines.reach());
+    calls.tell(rt, "joined", &[joined.at(0), joined.at(1)]);
 }
 
 fn raised(rt: &HostRuntime, calls: &mut Calls, timelines: &Timelines, timeline: &Name) {
