@@ -14,7 +14,7 @@ ghost use Rattle.dmabuf_core.specs.Buffers.{AreBuffers, OnlyChanges, cause_by_fl
 use crate::flags::SyncFlags;
 use indexmap::IndexMap;
 use point_core::{
-    BUFFERS, Hints, Items, LatestPoints, LimitKind, Listing, Name, Point, Reach, Refusal, TopRow,
+    BUFFERS, Items, LatestPoints, LimitKind, Listing, Name, Point, Reach, Refusal, TopRow,
     Usage,
 };
 use resv_core::TopTable;
@@ -26,8 +26,6 @@ use syncfile_core::SyncFile;
 #[derive(Drop)]
 pub struct Buffers {
     by_name: IndexMap<Name, TopTable>,
-    // at the indexes of the names
-    hints: Hints,
 }
 
 impl Model for Buffers {
@@ -48,7 +46,6 @@ impl Buffers {
     {
         Ok(Buffers {
             by_name: IndexMap::new(alloc),
-            hints: Hints::new(alloc),
         })
     }
 
@@ -75,8 +72,6 @@ impl Buffers {
         if self.by_name.len() >= BUFFERS {
             return Err(Refusal::Limit(LimitKind::Buffers));
         }
-        self.hints.prepare(self.by_name.keys().as_slice())?;
-        self.hints.put(&name, self.by_name.len());
         let table = TopTable::new(self.allocator());
         match self.by_name.insert(name, table) {
             Ok(_) => Ok(()),
@@ -110,7 +105,7 @@ impl Buffers {
         ensures unchanged { OnErr result (self.new ≡ self.old) }
         ensures kept { AreBuffers self.new }
     {
-        let index = index_of(&self.by_name, &self.hints, name)?;
+        let index = index_of(&self.by_name, name)?;
         self.by_name[index].put(point, usage)
     }
 
@@ -135,7 +130,7 @@ impl Buffers {
         ensures unchanged { OnErr result (self.new ≡ self.old) }
         ensures kept { AreBuffers self.new }
     {
-        let index = index_of(&self.by_name, &self.hints, name)?;
+        let index = index_of(&self.by_name, name)?;
         let usage = SyncFlags::of(flags)?.import_usage();
         self.by_name[index].put_all(file.points.as_slice(), usage)
     }
@@ -205,7 +200,7 @@ impl Buffers {
         ensures unchanged { OnErr result (self.new ≡ self.old) }
         ensures kept { AreBuffers self.new }
     {
-        let index = index_of(&self.by_name, &self.hints, name)?;
+        let index = index_of(&self.by_name, name)?;
         self.by_name[index].trim(reach);
         Ok(())
     }
@@ -234,7 +229,7 @@ impl Buffers {
         ensures unknown { IfErr result (λ e. e ≡ NoEntry) }
         ensures absent { OnErr result (has_buffer self.now name.now ≡ false) }
     {
-        let index = index_of(&self.by_name, &self.hints, name)?;
+        let index = index_of(&self.by_name, name)?;
         Ok(&self.by_name[index])
     }
 
@@ -243,9 +238,8 @@ impl Buffers {
     }
 }
 
-/// The index of the buffer with that name, by its hint if that is right. Fails with `NoEntry`.
-#[inline(always)]
-fn index_of(map: &IndexMap<Name, TopTable>, hints: &Hints, name: &Name) -> Result<usize, Refusal>
+/// The index of the buffer with that name. Fails with `NoEntry`.
+fn index_of(map: &IndexMap<Name, TopTable>, name: &Name) -> Result<usize, Refusal>
     ensures index { IfOk result (λ index. Some index ≡ position (same_name name.now) (names_of map.now.entries)) }
     ensures within { IfOk result (λ index. index < length map.now.entries) }
     ensures table { IfOk result (λ index.
@@ -253,17 +247,5 @@ fn index_of(map: &IndexMap<Name, TopTable>, hints: &Hints, name: &Name) -> Resul
     ensures unknown { IfErr result (λ e. e ≡ NoEntry) }
     ensures absent { OnErr result (table_at map.now.entries name.now ≡ None) }
 {
-    match hints.find(name, map.keys().as_slice()) {
-        Some(index) => Ok(index),
-        None => index_by_search(map, name).ok_or(Refusal::NoEntry),
-    }
-}
-
-/// The index of the buffer with that name. It is a function of its own, so that its registers are saved only if a hint
-/// is wrong.
-#[inline(never)]
-fn index_by_search(by_name: &IndexMap<Name, TopTable>, name: &Name) -> Option<usize>
-    ensures index { result ≡ position (same_name name.now) (names_of by_name.now.entries) }
-{
-    by_name.get_index_of(name)
+    map.get_index_of(name).ok_or(Refusal::NoEntry)
 }

@@ -14,9 +14,6 @@ pub const NAME_BYTES: usize = 31;
 
 const _: () = prove!(NAME_BYTES == 31);
 
-// 2 ^ 64 divided by the golden ratio, which spreads numbers that are close together, as in Fibonacci hashing.
-const GOLDEN_FACTOR: u64 = 0x9e37_79b9_7f4a_7c15;
-
 /// The least of the allowed bytes. The zeros of a name's lanes and its length are less.
 const LEAST_BYTE: u8 = b'-';
 
@@ -120,14 +117,6 @@ impl Name {
     {
         let none = self.lanes.simd_lt(u8x32::splat(LEAST_BYTE));
         none.select(u8x32::splat(b' '), self.lanes).to_array()
-    }
-
-    /// A number whose high half few other names share. It takes fewer instructions than a hash.
-    #[inline(always)]
-    pub(crate) fn mixed(&self) -> u64 {
-        let [a, b, c, d] = u64x4::from_le_bytes(self.lanes).to_array();
-        let sum = (a ^ d).wrapping_add(b ^ c.rotate_left(32));
-        sum.wrapping_mul(GOLDEN_FACTOR)
     }
 
     /// Its bytes.

@@ -16,7 +16,7 @@ use crate::draft::Draft;
 use crate::files::FILES;
 use crate::sync_file::SyncFile;
 use indexmap::IndexSet;
-use point_core::{Hints, LimitKind, Name, Refusal};
+use point_core::{LimitKind, Name, Refusal};
 use std::alloc::{AllocError, Global};
 use std::marker::Model;
 
@@ -40,8 +40,6 @@ struct NumberedName {
 pub(crate) struct FileSlots {
     // the names of the open files, at the indexes that these have in `made`
     names: IndexSet<Name>,
-    // at the indexes of the names
-    hints: Hints,
     // the open files, and after them closed ones, whose memory the next files reuse
     made: Vec<NumberedFile>,
     // greater than each open file's number
@@ -67,7 +65,6 @@ impl FileSlots {
     {
         FileSlots {
             names: IndexSet::new(alloc),
-            hints: Hints::new(alloc),
             made: Vec::new(alloc),
             next: 0,
         }
@@ -85,7 +82,7 @@ impl FileSlots {
     pub(crate) fn get(&self, name: &Name) -> Option<&SyncFile>
         ensures found { option_copied result ≡ file_at self.now name.now }
     {
-        match index_of(&self.names, &self.hints, name) {
+        match self.names.get_index_of(name) {
             Some(index) => Some(&self.made[index].file),
             None => None,
         }
@@ -177,9 +174,6 @@ impl FileSlots {
         ensures last { result ≡ true → self.new ≡ self.old ++ drafted name draft.old ∷ [] }
         ensures unchanged { result ≡ false → self.new ≡ self.old }
     {
-        if self.hints.prepare(self.names.as_slice()).is_err() {
-            return false;
-        }
         let count = self.names.len();
         let Ok(()) = add_place(alloc, &mut self.made, count, name) else {
             return false;
@@ -192,7 +186,6 @@ impl FileSlots {
             Ok(true) => {
                 self.made[count].take_up(name, draft, number);
                 self.next = number + 1;
-                self.hints.put(&name, count);
                 true
             }
             Ok(false) => false,
@@ -206,41 +199,13 @@ impl FileSlots {
         ensures known { result ≡ has_file self.old name.now }
         ensures without { self.new ≡ without_file self.old name.now }
     {
-        let Some(index) = index_of(&self.names, &self.hints, name) else {
+        let Some(index) = self.names.get_index_of(name) else {
             return false;
         };
         self.names.swap_remove_index(index);
-        note_at(&mut self.hints, &self.names, index);
         let last = self.names.len();
         self.made.swap(index, last);
         true
-    }
-}
-
-/// The index of the name in the set, by its hint if that is right.
-#[inline(always)]
-fn index_of(names: &IndexSet<Name>, hints: &Hints, name: &Name) -> Option<usize>
-    ensures index { result ≡ position (same_name name.now) names.now.keys }
-{
-    match hints.find(name, names.as_slice()) {
-        Some(index) => Some(index),
-        None => index_by_search(names, name),
-    }
-}
-
-/// The index of the name in the set. It is a function of its own, so that its registers are saved only if a hint is
-/// wrong.
-#[inline(never)]
-fn index_by_search(names: &IndexSet<Name>, name: &Name) -> Option<usize>
-    ensures index { result ≡ position (same_name name.now) names.now.keys }
-{
-    names.get_index_of(name)
-}
-
-/// Notes the index of the name at it, if one is there.
-fn note_at(hints: &mut Hints, names: &IndexSet<Name>, index: usize) {
-    if let Some(name) = names.get_index(index) {
-        hints.put(name, index);
     }
 }
 

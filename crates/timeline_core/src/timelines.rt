@@ -1,13 +1,12 @@
 //! `Timelines`: the timelines of a service, by name and by context. Names are distinct, contexts are given out in order
 //! of making, and the clocks of all other contexts are new. The desk keeps one.
 ghost use Rattle.std.specs.Prelude.{◌≡◌, List, ℕ, ◌+◌, ◌<◌, ◌≤◌, ◌^◌, ◌↔◌, [], ◌∷◌, ◌++◌, true, false, length, map, is_ok, is_some, IsTrue, IsSome, IsOk, IfSome, IfOk, IfErr, OnOk, OnErr, MatchOption};
-ghost use Rattle.indexmap.specs.IndexSet.{index_of_by, contains_by, index_set_len};
 ghost use Rattle.point_core.specs.declared.context.TheConstants.{CONTEXTS};
 ghost use Rattle.point_core.specs.Named.{same_name};
 
 use indexmap::IndexSet;
 use point_core::{
-    CONTEXTS, Clock, Clocks, Context, Hints, LimitKind, Name, Point, Reach, Refusal, TimelineRow,
+    CONTEXTS, Clock, Clocks, Context, LimitKind, Name, Point, Reach, Refusal, TimelineRow,
 };
 use std::alloc::Global;
 use std::marker::Model;
@@ -19,8 +18,6 @@ use std::marker::Model;
 #[derive(Debug, Drop)]
 pub struct Timelines {
     names: IndexSet<Name>,
-    // at the indexes of the names
-    hints: Hints,
     clocks: Clocks,
 }
 
@@ -51,7 +48,6 @@ impl Timelines {
     {
         Ok(Timelines {
             names: IndexSet::new(alloc),
-            hints: Hints::new(alloc),
             clocks: Clocks::zero(),
         })
     }
@@ -91,8 +87,6 @@ impl Timelines {
         if index == CONTEXTS {
             return Err(Refusal::Limit(LimitKind::Timelines));
         }
-        self.hints.prepare(self.names.as_slice())?;
-        self.hints.put(&name, index);
         self.names.insert(name).map_err(|_| Refusal::Memory)?;
         Ok(Context::at(index))
     }
@@ -223,17 +217,13 @@ impl Timelines {
         Ok(self.clocks.value(ctx))
     }
 
-    /// The context of the timeline of that name, by its hint if that is right.
-    #[inline(always)]
+    /// The context of the timeline of that name.
     pub fn context(&self, name: &Name) -> Option<Context>
         ensures found { IsSome result ↔ IsTrue (has_timeline self.now name.now) }
         ensures value { IfSome result (λ ctx. ctx ≡ context_of self.now name.now) }
         ensures made { IfSome result (λ ctx. (1 ≤ ctx) × (ctx ≤ length self.now)) }
     {
-        if let Some(hinted) = self.hints.find(name, self.names.as_slice()) {
-            return Some(Context::at(hinted));
-        }
-        let index = index_by_search(&self.names, name)?;
+        let index = self.names.get_index_of(name)?;
         Some(Context::at(index))
     }
 
@@ -298,15 +288,4 @@ impl Timelines {
         }
         Ok(rows)
     }
-}
-
-/// The index of the name in the set. It is a function of its own, so that its registers are saved only if a hint is
-/// wrong.
-#[inline(never)]
-fn index_by_search(names: &IndexSet<Name>, name: &Name) -> Option<usize>
-    ensures index { result ≡ index_of_by (same_name name.now) names.now }
-    ensures found { is_some result ≡ contains_by (same_name name.now) names.now }
-    ensures within { IfSome result (λ index. index < index_set_len names.now) }
-{
-    names.get_index_of(name)
 }

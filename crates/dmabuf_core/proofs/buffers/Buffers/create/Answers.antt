@@ -22,8 +22,8 @@ kept c =
     (AreBuffers-append c.args.self.now c.args.name empty (subst AreBuffers c.self.view_is c.self.invariant) IsTable-empty room
     (subst (λ bs. IsDistinct (pointwise nat_eq) (names_of bs)) (last c) c.in-Ok.ensures.unique))
 
-pub invariant_of-self-in-Ok : goal.invariant_of-self-in-Ok
-invariant_of-self-in-Ok c = kept c
+pub invariant_of-self : goal.invariant_of-self
+invariant_of-self c = kept c
 
 pub returns-in-Ok-clause-last : goal.returns-in-Ok-clause-last
 returns-in-Ok-clause-last c = last c

@@ -68,21 +68,13 @@ pub returns-then-index-eq-CONTEXTS-clause-limit : goal.returns-then-index-eq-CON
 returns-then-index-eq-CONTEXTS-clause-limit c =
     (λ _. (absent_at_limit c, sym (length-stored c.args.self.now (names-seen c.self.invariant c.self.view_is)) ∙ sym c.len-index.ensures.len ∙ c.if-index-eq-CONTEXTS.true), λ _. refl)
 
-absent_on_refusal : (c : goal.After-from_residual-in_err-map_err) → has_timeline c.args.self.now c.args.name ≡ false
+absent_on_refusal : (c : goal.After-from_residual) → has_timeline c.args.self.now c.args.name ≡ false
 absent_on_refusal c = has_timeline-told c.args.self.now c.args.name (names-seen c.self.invariant c.self.view_is) c.contains.ensures c.if-contains.false
 
 pub returns-in_err-map_err-clause-exists : goal.returns-in_err-map_err-clause-exists
 returns-in_err-map_err-clause-exists c =
-    let memory : IfErr c.from_residual-in_err-map_err.result (λ e. e ≡ Memory) = search rules in
-    (λ is. let same : Exists ≡ Memory = IfErr-at_err (λ e. e ≡ Memory) is memory in cc, λ has. absurd (true≢false (sym has ∙ absent_on_refusal c)))
-
-absent_unprepared : (c : goal.After-from_residual) → has_timeline c.args.self.now c.args.name ≡ false
-absent_unprepared c = has_timeline-told c.args.self.now c.args.name (names-seen c.self.invariant c.self.view_is) c.contains.ensures c.if-contains.false
-
-pub returns-in_err-prepare-clause-exists : goal.returns-in_err-prepare-clause-exists
-returns-in_err-prepare-clause-exists c =
     let memory : IfErr c.from_residual.result (λ e. e ≡ Memory) = search rules in
-    (λ is. let same : Exists ≡ Memory = IfErr-at_err (λ e. e ≡ Memory) is memory in cc, λ has. absurd (true≢false (sym has ∙ absent_unprepared c)))
+    (λ is. let same : Exists ≡ Memory = IfErr-at_err (λ e. e ≡ Memory) is memory in cc, λ has. absurd (true≢false (sym has ∙ absent_on_refusal c)))
 
 pub returns-clause-leaves : goal.returns-clause-leaves
 returns-clause-leaves c = ((absent c, room c), returns-clause-added c)
