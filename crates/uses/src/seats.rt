@@ -1,4 +1,4 @@
-//! Calls on words and seats, and on a seat that is lost.
+//! Calls on words and seats, on a context that is closed, and on a seat that is lost.
 ghost use Rattle.std.specs.Prelude.{◌≡◌, ◌<◌, ◌≤◌, IfOk, IfSome};
 ghost use Rattle.words_core.specs.declared.seat.TheConstants.{PARTS};
 
@@ -10,6 +10,10 @@ use words_core::{Driver, Seat, Words};
 const LOST: u32 = 10;
 
 pub(crate) fn make_calls(rt: &HostRuntime, calls: &mut Calls) {
+    if let Ok((words, mut seat)) = words_of(rt, calls, 1, 0, 0) {
+        close(rt, calls, &words, &mut seat);
+        drop(words);
+    }
     if let Ok((words, seat)) = words_of(rt, calls, 1, 0, 0) {
         lose(rt, calls, &words, seat);
         drop(words);
@@ -33,6 +37,35 @@ pub(crate) fn words_of(
     };
     calls.tell_made(rt, "Words::new", &made);
     made
+}
+
+/// Drives the first context to 3 and closes it, and looks at its clock before and after.
+fn close(rt: &HostRuntime, calls: &mut Calls, words: &Words, seat: &mut Seat)
+    requires own { (seat.old.words ≡ words.now) × (1 < seat.old.parts) }
+    requires context { 1 ≤ words.now.contexts }
+{
+    if let Some(driver) = drive(rt, calls, words, seat, 3) {
+        look(rt, calls, words, seat);
+        let closed = match driver.close(words) {
+            Ok(_) => Ok(()),
+            Err((refusal, _)) => Err(refusal),
+        };
+        calls.tell(rt, "Driver::close", &closed);
+        look(rt, calls, words, seat);
+    }
+}
+
+/// Asks whether the first context is closed, and loads the clocks of all.
+fn look(rt: &HostRuntime, calls: &mut Calls, words: &Words, seat: &mut Seat)
+    requires own { seat.old.words ≡ words.now }
+    requires context { 1 ≤ words.now.contexts }
+    ensures own { seat.new.words ≡ words.now }
+{
+    let ctx = Context::at(0);
+    let closed = words.closed(seat, ctx);
+    calls.tell(rt, "Words::closed", &closed);
+    let clocks = words.load_clocks(seat);
+    calls.tell(rt, "load_clocks", &clocks.clock(ctx));
 }
 
 /// Loses a seat of ten parts, and asks twice for the whole.

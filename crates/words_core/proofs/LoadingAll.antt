@@ -1,7 +1,8 @@
 -- One load after another.
-use Rattle.std.proofs.Common.{◌≡◌, ◌≢◌, ℕ, zero, suc, ◌+◌, ◌-◌, ◌<◌, ◌≤◌, max, Bool, true, false, cond, List, [], ◌∷◌, ◌++◌, length, get_or, set, map, replicate, refl, sym, ap, ◌∙◌, subst, inl, inr, arith}
+use Rattle.std.proofs.Common.{◌≡◌, ◌≢◌, ℕ, zero, suc, ◌+◌, ◌-◌, ◌<◌, ◌≤◌, max, nat_lt, Bool, true, false, cond, List, [], ◌∷◌, ◌++◌, length, get_or, set, map, replicate, refl, sym, ap, ◌∙◌, subst, inl, inr, arith}
 use Rattle.std.specs.List.{range_with_len}
-use Rattle.std.proofs.lemmas.Bool.{le-leb, lt-leb, ne_eqb, cases_lt}
+use Rattle.std.proofs.lemmas.Bool.{le-leb, lt-leb, lt-ltb, ne_eqb, cases_lt}
+use Rattle.std.proofs.lemmas.Bool.Decides.{nat_tests}
 use Rattle.std.proofs.lemmas.List.{append-nil, append_assoc, length-set, length-replicate, get_or_past, get_or-set_same, get_or-set_other, ext_get_or}
 use Rattle.std.proofs.lemmas.List.FromFn.{length-map-range_with_len, get_or-map-range_with_len}
 use mathlib.Core.List.{map-map}
@@ -10,7 +11,7 @@ use native.Mathlib.Decide.{ℕ_discrete}
 use Rattle.point_core.specs.declared.clocks.Clock.{Clock}
 use Rattle.point_core.specs.declared.context.TheConstants.{CONTEXTS}
 use Rattle.point_core.specs.Agreement.{contexts}
-use Rattle.point_core.specs.Clocks.{clock_of, clock_at, open_clock, new_clock, reached_by, reach_of_clocks}
+use Rattle.point_core.specs.Clocks.{clock_of, clock_at, with_clock, raised_clock, closed_clock, open_clock, new_clock, reached_by, reach_of_clocks}
 use Rattle.point_core.specs.Reach.{value_at, with_value, IsAtLeast}
 use Rattle.point_core.proofs.Values.{IsAtLeast-below}
 use Rattle.words_core.specs.declared.trace.Step.{Step}
@@ -26,6 +27,9 @@ use Rattle.words_core.proofs.Seen.{seen-with_steps, seen_stays}
 
 max_zero : (n : ℕ) → max n 0 ≡ n
 max_zero n = grind arith
+
+zero_max : (n : ℕ) → max 0 n ≡ n
+zero_max n = grind arith
 
 seen_unloaded : (seat : SeatModel) (w : ℕ) (steps : List Step) → on w steps ≡ [] → seen (with_steps seat steps) w ≡ seen seat w
 seen_unloaded seat w steps none = seen-with_steps seat w steps ∙ ap (λ (l : List Step). max (seen seat w) (greatest l)) none ∙ max_zero (seen seat w)
@@ -48,6 +52,21 @@ clock_seen-other seat ctx c clock low low' other =
 
 pub clock_marked-closed : (m v : ℕ) → 0 < m → clock_marked m v ≡ clock_of (m - 1) true
 clock_marked-closed m v set = ap (λ (b : Bool). cond b (open_clock v) (clock_of (m - 1) true)) (ne_eqb m 0 (λ bad. absurd (omega arith)))
+
+-- a mark above 0 is a closed context's
+pub clock_marked_test : (m v : ℕ) → nat_lt 0 m ≡ (clock_marked m v).closed
+clock_marked_test m v = dite (ℕ_discrete m 0)
+    (λ e. subst (λ (k : ℕ). nat_lt 0 k ≡ (clock_marked k v).closed) (sym e) refl)
+    (λ ne. let set : 0 < m = omega arith in lt-ltb 0 m set ∙ sym (ap (λ (k : Clock). k.closed) (clock_marked-closed m v set)))
+
+pub marked_if_closed : (m v : ℕ) → (clock_marked m v).closed ≡ true → 0 < m
+marked_if_closed m v closed = let b : nat_lt 0 m ≡ true = clock_marked_test m v ∙ closed in grind (arith, nat_tests)
+
+-- a closed context's clock doesn't depend on the value that was seen
+pub clock_marked_stays : (m n u v : ℕ) → m ≡ n → (clock_marked n u).closed ≡ true → clock_marked m v ≡ clock_marked n u
+clock_marked_stays m n u v same closed =
+    let set = marked_if_closed n u closed in
+    ap (λ (k : ℕ). clock_marked k v) same ∙ clock_marked-closed n v set ∙ sym (clock_marked-closed n u set)
 
 -- a step on the value doesn't change what is seen of the mark
 pub seen_mark-loaded : (seat : SeatModel) (ctx v : ℕ) → seen (with_steps seat (load (value_word ctx) v ∷ [])) (mark_word ctx) ≡ seen seat (mark_word ctx)
@@ -152,6 +171,21 @@ HasFound-none {A} f d = record {
   full = length-replicate {A = A} CONTEXTS d;
 }
 
+set_twice : {A : Type 0} (xs : List A) (i : ℕ) (x y : A) → set (set xs i x) i y ≡ set xs i y
+set_twice [] i x y = refl
+set_twice (a ∷ xs) zero x y = refl
+set_twice (a ∷ xs) (suc i) x y = ap (λ l. a ∷ l) (set_twice xs i x y)
+
+-- a new clock is raised, and then closed
+pub put_closed : (clocks raised : List Clock) (ctx : ℕ) (clock : Clock) → clock_at clocks ctx ≡ new_clock → raised ≡ with_clock clocks ctx (raised_clock (clock_at clocks ctx) clock.value) → 1 ≤ ctx → ctx ≤ length clocks → clock.closed ≡ true
+    → with_clock raised ctx (closed_clock (clock_at raised ctx)) ≡ with_clock clocks ctx clock
+put_closed clocks raised ctx clock new was low fits closed =
+    let first : Clock = raised_clock (clock_at clocks ctx) clock.value in
+    let is : first ≡ open_clock clock.value = ap (λ (k : Clock). raised_clock k clock.value) new ∙ ap open_clock (zero_max clock.value) in
+    let there : clock_at raised ctx ≡ first = ap (λ (cs : List Clock). clock_at cs ctx) was ∙ get_or-set_same clocks (ctx - 1) first new_clock (omega arith) in
+    let last : closed_clock (clock_at raised ctx) ≡ clock = ap closed_clock (there ∙ is) ∙ (λ i. clock_of clock.value (sym closed i)) in
+    ap (λ (k : Clock). with_clock raised ctx k) last ∙ ap (λ (cs : List Clock). with_clock cs ctx clock) was ∙ set_twice clocks (ctx - 1) first clock
+
 -- the next one was put into it
 pub HasFound-more : {A : Type 0} (f g : ℕ → A) (d x : A) (n ctx : ℕ) (xs : List A) → ctx ≡ n + 1 → ctx ≤ CONTEXTS → HasFound f d n xs → ((c : ℕ) → 1 ≤ c → c ≤ n → g c ≡ f c) → x ≡ g ctx → HasFound g d (n + 1) (set xs (ctx - 1) x)
 HasFound-more {A} f g d x n ctx xs is fits h same new = record {
@@ -255,3 +289,11 @@ HasLoadedClocks-all before after n all loaded =
       };
       found = refl;
     }
+
+pub HasLoadedClocks-loaded : (before after : SeatModel) (n : ℕ) (clocks : List Clock) → n ≡ before.words.contexts → HasLoaded before after n → HasFound (clock_seen after) new_clock n clocks → HasLoadedClocks before after clocks
+HasLoadedClocks-loaded before after n clocks all loaded found =
+    let own : after.words ≡ before.words = ap (λ (s : SeatModel). s.words) loaded.entered in
+    let count : after.words.contexts ≡ before.words.contexts = ap (λ (w : WordsModel). w.contexts) own in
+    let is : clocks ≡ clocks_seen after = HasFound-all (clock_seen after) (known_clock after) new_clock n clocks found
+    (λ c low high. known_clock-within after c (omega arith)) (λ c past. known_clock-past after c (omega arith)) in
+    subst (HasLoadedClocks before after) (sym is) (HasLoadedClocks-all before after n all loaded)
