@@ -14,8 +14,7 @@ ghost use Rattle.dmabuf_core.specs.Buffers.{AreBuffers, OnlyChanges, cause_by_fl
 use crate::flags::SyncFlags;
 use indexmap::IndexMap;
 use point_core::{
-    BUFFERS, Items, LatestPoints, LimitKind, Listing, Name, Point, Reach, Refusal, TopRow,
-    Usage,
+    BUFFERS, Items, LatestPoints, LimitKind, Listing, Name, Point, Reach, Refusal, TopRow, Usage,
 };
 use resv_core::TopTable;
 use std::alloc::Global;

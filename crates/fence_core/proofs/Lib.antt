@@ -7,7 +7,7 @@ pub mod Pending
 pub mod PointIndex
 pub mod Registered
 pub mod Indexed
-mod Falling
+mod Queued
 pub mod InOrder
 pub mod ByCookie
 pub mod Moved

@@ -1,6 +1,6 @@
 -- The points that pending watches wait for.
-use Rattle.std.specs.Prelude.{◌≡◌, ℕ, ◌<◌, ◌≤◌, ◌⊎◌, zero, suc, nat_eq, nat_le, Bool, true, false, ◌&&◌, List, [], filter, length, slice_index_or}
-use Rattle.std.specs.List.{list_any, AllPairs}
+use Rattle.std.specs.Prelude.{◌≡◌, ℕ, zero, suc, nat_eq, nat_le, Bool, true, false, ◌&&◌, List, [], filter, length, slice_index_or}
+use Rattle.std.specs.List.{list_any}
 use Rattle.std.specs.List.Sorted.{IsStrictlySortedBy}
 use Rattle.std.specs.Ordering.{nat_cmp, ordering_then}
 use Rattle.std.specs.declared.cmp.Ordering.{Ordering}
@@ -72,30 +72,6 @@ AreAbove queues reach = (k : WaitingPoint) → holds queues k ≡ true → is_du
 -- by value, and by registration at one value
 abbrev pub order : Standing → Standing → Ordering
 order a b = ordering_then (nat_cmp a.value b.value) (nat_cmp a.registration b.registration)
-
--- at a lower value, or at the same value with an earlier registration
-abbrev pub StandsBefore : Standing → Standing → Type 0
-StandsBefore a b = (a.value < b.value) ⊎ ((a.value ≡ b.value) × (a.registration < b.registration))
-
--- the last in that order comes first, and no watch comes twice
-abbrev pub IsFalling : List Standing → Type 0
-IsFalling queue = AllPairs (λ a b. StandsBefore b a) queue
-
--- the place of a watch: after those that it precedes, and after no others
-pub record IsPlaceOf (watch : Standing) (place : ℕ) (queue : List Standing) : Type 0 where
-  pub within : place ≤ length queue
-  pub over : (k : ℕ) (d : Standing) → k < place → StandsBefore watch (slice_index_or queue k d)
-  pub others : (k : ℕ) (d : Standing) → place ≤ k → k < length queue → ¬ StandsBefore watch (slice_index_or queue k d)
-
--- a range of places that has the place of the watch
-pub record IsRangeOf (watch : Standing) (low high : ℕ) (queue : List Standing) : Type 0 where
-  pub within : (low ≤ high) × (high ≤ length queue)
-  pub over : (k : ℕ) (d : Standing) → k < low → StandsBefore watch (slice_index_or queue k d)
-  pub others : (k : ℕ) (d : Standing) → high ≤ k → k < length queue → ¬ StandsBefore watch (slice_index_or queue k d)
-
--- the watch is the one at the place
-abbrev pub StandsAt : Standing → ℕ → List Standing → Type 0
-StandsAt watch place queue = (place < length queue) × (slice_index_or queue place watch ≡ watch)
 
 -- the watches are in that order, and none comes twice
 abbrev pub IsRising : List Standing → Type 0

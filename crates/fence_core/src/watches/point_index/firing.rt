@@ -34,8 +34,7 @@ pub(super) fn report_low(
         IsReported pending.now.entries (reaching reach.now point.now) fired.new.items s.registration) }
     ensures some_fires { OnErr result (Fires pending.now.entries (reaching reach.now point.now)) }
 {
-    for place in 0..queue.len() {
-        let watch = queue.at(place);
+    for watch in queue.watches().iter() {
         if watch.value > value {
             return Ok(());
         }

@@ -1,8 +1,8 @@
-use Rattle.fence_core.proofs.Falling.{has-least, least-of}
+use Rattle.std.proofs.Common.{◌∙◌, sym, subst}
+use Rattle.fence_core.specs.PointIndex.{IsRising}
+use Rattle.fence_core.proofs.PointIndex.{first-least}
 use Rattle.fence_core.proofs.watches.point_index.point_queue.PointQueue.first.Goals as goal
 
-pub returns-clause-some : goal.returns-clause-some
-returns-clause-some c = has-least c.args.self.now c.at.result c.at.ensures.steps
-
-pub returns-clause-least : goal.returns-clause-least
-returns-clause-least c = least-of c.args.self.now c.at.result c.at.ensures.steps c.len.ensures.rising
+pub returns-in-Some-clause-least : goal.returns-in-Some-clause-least
+returns-in-Some-clause-least c = λ s there.
+    first-least c.args.self.now c.next.new.self c.in-Some.first.now s (subst IsRising c.self.view_is c.iter.ensures.ordered) (sym c.self.view_is ∙ sym c.iter.ensures.rest ∙ c.in-Some.ensures.steps) there
