@@ -5,19 +5,17 @@ ghost use Rattle.std.specs.Io.{StartsWith};
 ghost use Rattle.std.specs.Iterator.{Drains, IsFinite};
 ghost use Rattle.point_core.specs.declared.refusal.Refusal.TheVariants.{Memory};
 ghost use Rattle.command_core.specs.declared.answer.FenceRow.{FenceRow as FenceRowModel};
-ghost use Rattle.command_core.specs.declared.answer.ShowRow.{ShowRow as ShowRowModel};
 ghost use Rattle.report_core.specs.Status.{status_text};
 ghost use Rattle.report_core.specs.Answer.{line_text, fired_text, raised_text, fence_text, info_line, info_text, show_text};
 ghost use Rattle.report_core.specs.Answer.{report_text, refusal_text, details, value_line, text_of};
 ghost use Rattle.report_core.specs.LineEnd.{line_end};
-ghost use Rattle.report_core.specs.Tables.{show_text as rows_text};
 
 use crate::fence_line::push_fence;
 use crate::line::{TEXT_LINE_BYTES, TextLine};
 use crate::number_line::push_numbered;
-use crate::report::report_text;
+use crate::report::{report_text, show_text};
 use crate::rows::{NUMBER_WIDTH, status_text};
-use crate::table_item::TableItem;
+use crate::table_item::push_each;
 use command_core::{Answer, FenceRow, Info, Report, ShowRow};
 use itoa::Buffer;
 use point_core::{Name, Refusal, Status};
@@ -76,9 +74,9 @@ fn push_answer(line: u32, answer: &Answer, out: &mut Vec<u8>) -> Result<(), Refu
 {
     match answer {
         Answer::Done => push_done(out),
-        Answer::Value(value) => push_value(*value, out),
+        Answer::Value(value) => value_text(*value, out),
         Answer::Raised(value, fired) => push_raised(*value, fired.as_slice(), out),
-        Answer::Info(info) => push_info(info, out),
+        Answer::Info(info) => info_text(info, out),
         Answer::Show(rows) => push_show(rows.as_slice(), out),
         Answer::Report(report) => push_report(report, out),
         Answer::Refused(refusal) => push_refusal(line, *refusal, out),
@@ -95,9 +93,9 @@ pub(crate) fn push_owned(line: u32, answer: Answer, out: &mut Vec<u8>) -> Result
 {
     match answer {
         Answer::Done => push_done(out),
-        Answer::Value(value) => push_value(value, out),
+        Answer::Value(value) => value_text(value, out),
         Answer::Raised(value, fired) => push_raised(value, fired.as_slice(), out),
-        Answer::Info(info) => push_info(&info, out),
+        Answer::Info(info) => info_text(&info, out),
         Answer::Show(rows) => push_show(rows.as_slice(), out),
         Answer::Report(report) => push_report(&report, out),
         Answer::Refused(refusal) => push_refusal(line, refusal, out),
@@ -118,8 +116,11 @@ fn push_done(out: &mut Vec<u8>) -> Result<(), Refusal>
     Ok(())
 }
 
+/// Appends the text of an answer that is a number to `out`. The answer of `show` begins with it.
+///
+/// Fails only with Memory. `out` then begins with its old bytes.
 #[inline(always)]
-fn push_value(value: u64, out: &mut Vec<u8>) -> Result<(), Refusal>
+pub fn value_text(value: u64, out: &mut Vec<u8>) -> Result<(), Refusal>
     ensures ok { OnOk result (out.new.items ≡ out.old.items ++ value_line value) }
     ensures err { OnErr result ((result ≡ Err Memory) × StartsWith out.new.items out.old.items) }
 {
@@ -131,7 +132,7 @@ fn push_raised(value: u64, fired: &[u64], out: &mut Vec<u8>) -> Result<(), Refus
     ensures ok { OnOk result (out.new.items ≡ out.old.items ++ raised_text value fired.now) }
     ensures err { OnErr result ((result ≡ Err Memory) × StartsWith out.new.items out.old.items) }
 {
-    push_value(value, out)?;
+    value_text(value, out)?;
     for cookie in fired {
         push_fired(*cookie, out)?;
     }
@@ -146,42 +147,30 @@ fn push_fired(cookie: u64, out: &mut Vec<u8>) -> Result<(), Refusal>
     push_numbered(b"fired", cookie, out)
 }
 
+/// Appends the answer of `info` to `out`: a line for the file, with the number of its fences, and a line for each of them.
+///
+/// Fails only with Memory. `out` then begins with its old bytes.
 #[inline(never)]
-fn push_info(info: &Info, out: &mut Vec<u8>) -> Result<(), Refusal>
+pub fn info_text(info: &Info, out: &mut Vec<u8>) -> Result<(), Refusal>
     ensures ok { OnOk result (out.new.items ≡ out.old.items ++ info_text info.now) }
     ensures err { OnErr result ((result ≡ Err Memory) × StartsWith out.new.items out.old.items) }
 {
     let fences = info.fences.as_slice();
-    let rows = fences.iter().copied();
-    info_text(&info.name, info.status, fences.len(), rows, out)
-}
-
-/// Appends the information on a file to `out`: a line for the file, with the number of its fences, and a line for each of them.
-///
-/// Fails only with Memory. `out` then begins with its old bytes.
-#[inline(always)]
-pub fn info_text<I: Iterator<Item = FenceRow> + Drop>(
-    name: &Name,
-    status: Status,
-    count: usize,
-    fences: I,
-    out: &mut Vec<u8>,
-) -> Result<(), Refusal>
-    requires can { I.can_next fences }
-    requires ends { IsFinite (I.remaining fences) }
-    ensures ok { OnOk result ((rows : List FenceRowModel) × Drains I.next_gives fences rows
-        × (out.new.items ≡ out.old.items ++ (info_line name.now status count ++ flat_map fence_text rows))) }
-    ensures err { OnErr result ((result ≡ Err Memory) × StartsWith out.new.items out.old.items) }
-{
-    push_file(name, status, count, out)?;
-    for fence in fences {
-        push_fence(&fence, out)?;
-    }
+    info_line_text(&info.name, info.status, fences.len(), out)?;
+    push_each(fences, out)?;
     Ok(())
 }
 
+/// Appends the first line of the answer of `info` to `out`, for a file with `count` fences.
+///
+/// Fails only with Memory. `out` then begins with its old bytes.
 #[inline(never)]
-fn push_file(name: &Name, status: Status, count: usize, out: &mut Vec<u8>) -> Result<(), Refusal>
+pub fn info_line_text(
+    name: &Name,
+    status: Status,
+    count: usize,
+    out: &mut Vec<u8>,
+) -> Result<(), Refusal>
     ensures ok { OnOk result (out.new.items ≡ out.old.items ++ info_line name.now status count) }
     ensures err { OnErr result ((result ≡ Err Memory) × StartsWith out.new.items out.old.items) }
 {
@@ -193,34 +182,33 @@ fn push_file(name: &Name, status: Status, count: usize, out: &mut Vec<u8>) -> Re
     line.push_to(out)
 }
 
+/// Appends the line of each of the fences to `out`, as `info_text`: an iterator makes each as it is asked for.
+///
+/// Fails only with Memory. `out` then begins with its old bytes.
+#[inline(always)]
+pub fn fences_text<I: Iterator<Item = FenceRow> + Drop>(
+    fences: I,
+    out: &mut Vec<u8>,
+) -> Result<(), Refusal>
+    requires can { I.can_next fences }
+    requires ends { IsFinite (I.remaining fences) }
+    ensures ok { OnOk result ((rows : List FenceRowModel) × Drains I.next_gives fences rows
+        × (out.new.items ≡ out.old.items ++ flat_map fence_text rows)) }
+    ensures err { OnErr result ((result ≡ Err Memory) × StartsWith out.new.items out.old.items) }
+{
+    for fence in fences {
+        push_fence(&fence, out)?;
+    }
+    Ok(())
+}
+
 #[inline(never)]
 fn push_show(rows: &[ShowRow], out: &mut Vec<u8>) -> Result<(), Refusal>
     ensures ok { OnOk result (out.new.items ≡ out.old.items ++ show_text rows.now) }
     ensures err { OnErr result ((result ≡ Err Memory) × StartsWith out.new.items out.old.items) }
 {
-    let shown = rows.iter().copied();
-    show_text(rows.len(), shown, out)
-}
-
-/// Appends the answer of `show` to `out`: the number of its rows, which is `count`, and the rows.
-///
-/// Fails only with Memory. `out` then begins with its old bytes.
-#[inline(always)]
-pub fn show_text<I: Iterator<Item = ShowRow> + Drop>(
-    count: usize,
-    rows: I,
-    out: &mut Vec<u8>,
-) -> Result<(), Refusal>
-    requires can { I.can_next rows }
-    requires ends { IsFinite (I.remaining rows) }
-    ensures ok { OnOk result ((shown : List ShowRowModel) × Drains I.next_gives rows shown
-        × (out.new.items ≡ out.old.items ++ (value_line count ++ rows_text shown))) }
-    ensures err { OnErr result ((result ≡ Err Memory) × StartsWith out.new.items out.old.items) }
-{
-    push_value(count as u64, out)?;
-    for row in rows {
-        row.push(out)?;
-    }
+    value_text(rows.len() as u64, out)?;
+    show_text(rows, out)?;
     Ok(())
 }
 

@@ -4,15 +4,42 @@ ghost use Rattle.std.specs.Io.{StartsWith};
 ghost use Rattle.std.specs.Iterator.{Drains, IsFinite};
 ghost use Rattle.point_core.specs.declared.refusal.Refusal.TheVariants.{Memory};
 ghost use Rattle.command_core.specs.declared.answer.ShowRow.{ShowRow as ShowRowModel};
-ghost use Rattle.report_core.specs.declared.row_kind.RowKind.TheVariants.{Buffer};
-ghost use Rattle.report_core.specs.Row.{row_text};
 ghost use Rattle.report_core.specs.Tables.{show_text, report_text};
 
-use crate::row_kind::RowKind;
-use crate::rows::row;
 use crate::table_item::{TableItem, push_each};
 use command_core::{Report, ShowRow};
-use point_core::{Name, Refusal};
+use point_core::Refusal;
+
+/// Appends the table of one buffer to `out`, a row for each of `rows`.
+///
+/// Fails only with Memory. `out` then begins with its old bytes.
+pub fn show_text(rows: &[ShowRow], out: &mut Vec<u8>) -> Result<(), Refusal>
+    ensures ok { OnOk result (out.new.items ≡ out.old.items ++ show_text rows.now) }
+    ensures err { OnErr result ((result ≡ Err Memory) × StartsWith out.new.items out.old.items) }
+{
+    push_each(rows, out)?;
+    Ok(())
+}
+
+/// As `show_text`: an iterator makes each row as it is asked for.
+///
+/// Fails only with Memory. `out` then begins with its old bytes.
+#[inline(always)]
+pub fn rows_text<I: Iterator<Item = ShowRow> + Drop>(
+    rows: I,
+    out: &mut Vec<u8>,
+) -> Result<(), Refusal>
+    requires can { I.can_next rows }
+    requires ends { IsFinite (I.remaining rows) }
+    ensures ok { OnOk result ((shown : List ShowRowModel) × Drains I.next_gives rows shown
+        × (out.new.items ≡ out.old.items ++ show_text shown)) }
+    ensures err { OnErr result ((result ≡ Err Memory) × StartsWith out.new.items out.old.items) }
+{
+    for row in rows {
+        row.push(out)?;
+    }
+    Ok(())
+}
 
 /// Appends a report to `out`: a row for each timeline with its value, one for each file, and for each buffer a row with
 /// the number of its rows, followed by these.
@@ -25,28 +52,5 @@ pub fn report_text(report: &Report, out: &mut Vec<u8>) -> Result<(), Refusal>
     push_each(report.timelines.as_slice(), out)?;
     push_each(report.files.as_slice(), out)?;
     push_each(report.buffers.as_slice(), out)?;
-    Ok(())
-}
-
-/// Appends a buffer's part of a report to `out`: a row with the number of its rows, which is `count`, followed by these.
-///
-/// Fails only with Memory. `out` then begins with its old bytes.
-#[inline(always)]
-pub fn buffer_rows_text<I: Iterator<Item = ShowRow> + Drop>(
-    name: &Name,
-    count: usize,
-    rows: I,
-    out: &mut Vec<u8>,
-) -> Result<(), Refusal>
-    requires can { I.can_next rows }
-    requires ends { IsFinite (I.remaining rows) }
-    ensures ok { OnOk result ((shown : List ShowRowModel) × Drains I.next_gives rows shown
-        × (out.new.items ≡ out.old.items ++ (row_text Buffer name.now count ++ show_text shown))) }
-    ensures err { OnErr result ((result ≡ Err Memory) × StartsWith out.new.items out.old.items) }
-{
-    row(RowKind::Buffer, name, count as u64, out)?;
-    for row in rows {
-        row.push(out)?;
-    }
     Ok(())
 }

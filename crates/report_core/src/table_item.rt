@@ -1,21 +1,23 @@
-//! `TableItem`: what is appended to a table as rows. `push_each` appends a list of any of them.
+//! `TableItem`: what is appended as a line or as rows. `push_each` appends a list of any of them.
 ghost use Rattle.std.specs.Prelude.{◌≡◌, ◌++◌, OnOk, OnErr, Err};
 ghost use Rattle.std.specs.List.{flat_map};
 ghost use Rattle.std.specs.Io.{StartsWith};
 ghost use Rattle.point_core.specs.declared.refusal.Refusal.TheVariants.{Memory};
+ghost use Rattle.report_core.specs.Answer.{fence_text};
 ghost use Rattle.report_core.specs.Row.{file_row_text};
 ghost use Rattle.report_core.specs.Settled.{top_text};
 ghost use Rattle.report_core.specs.Tables.{buffer_text, show_row_text, timeline_text};
 
 use crate::columns::push_row;
-use crate::report::buffer_rows_text;
+use crate::fence_line::push_fence;
+use crate::report::show_text;
 use crate::row_kind::RowKind;
 use crate::rows::{file_row, row};
 use crate::settled::client;
-use command_core::{BufferRows, FileRow, ShowRow};
+use command_core::{BufferRows, FenceRow, FileRow, ShowRow};
 use point_core::{Refusal, TimelineRow, TopRow};
 
-/// An item of a table.
+/// An item of a table, or of a list of lines.
 pub(crate) trait TableItem {
     ghost use Rattle.std.specs.Prelude.{◌≡◌, ◌++◌, ℕ, List, OnOk, OnErr, Err};
     ghost use Rattle.std.specs.Io.{StartsWith};
@@ -43,6 +45,15 @@ pub(crate) fn push_each<T: TableItem>(items: &[T], out: &mut Vec<u8>) -> Result<
         item.push(out)?;
     }
     Ok(())
+}
+
+impl TableItem for FenceRow {
+    ghost text = { fence_text };
+
+    #[inline(always)]
+    fn push(&self, out: &mut Vec<u8>) -> Result<(), Refusal> {
+        push_fence(self, out)
+    }
 }
 
 impl TableItem for ShowRow {
@@ -80,8 +91,9 @@ impl TableItem for BufferRows {
 
     fn push(&self, out: &mut Vec<u8>) -> Result<(), Refusal> {
         let rows = self.rows.as_slice();
-        let shown = rows.iter().copied();
-        buffer_rows_text(&self.name, rows.len(), shown, out)
+        row(RowKind::Buffer, &self.name, rows.len() as u64, out)?;
+        show_text(rows, out)?;
+        Ok(())
     }
 }
 

@@ -25,13 +25,13 @@ use Rattle.report_core.proofs.Yielded.{drained}
 use Rattle.script_core.specs.Output.{tops_text}
 
 -- the rows of a buffer's tops were written
-pub told-buffer : (desk : DeskState) (b : BufferTops) (tops : List TopRow) (shown : List ShowRow) (before out : List ℕ) (count : ℕ) (rows : List ShowRow) → tops ≡ b.tops → shown ≡ map (show_row desk.timelines) tops → count ≡ length tops → Drains (YieldsFirst (λ (s : List ShowRow). s)) shown rows → out ≡ before ++ (row_text BufferKind b.name count ++ show_text rows) → out ≡ before ++ tops_text desk b
-told-buffer desk b tops shown before out count rows of_buffer made all drains is =
+pub told-buffer : (desk : DeskState) (b : BufferTops) (tops : List TopRow) (shown : List ShowRow) (before line out : List ℕ) (count : ℕ) (rows : List ShowRow) → tops ≡ b.tops → shown ≡ map (show_row desk.timelines) tops → count ≡ length tops → Drains (YieldsFirst (λ (s : List ShowRow). s)) shown rows → line ≡ before ++ row_text BufferKind b.name count → out ≡ line ++ show_text rows → out ≡ before ++ tops_text desk b
+told-buffer desk b tops shown before line out count rows of_buffer made all drains first is =
     let text = λ (n : ℕ) (rs : List ShowRow). before ++ (row_text BufferKind b.name n ++ show_text rs) in
     let whole : rows ≡ shown = drained rows drains (YieldsList-from_first (λ (x : ShowRow). x) (λ (s : List ShowRow). s) shown refl) in
     let named : shown ≡ map (show_row desk.timelines) b.tops = made ∙ ap (map (show_row desk.timelines)) of_buffer in
     let each : count ≡ length (map (show_row desk.timelines) b.tops) = all ∙ ap length of_buffer ∙ sym (length-map b.tops (show_row desk.timelines)) in
-    is ∙ ap (λ n. text n rows) each ∙ ap (text (length (map (show_row desk.timelines) b.tops))) (whole ∙ named)
+    is ∙ ap (λ bytes. bytes ++ show_text rows) first ∙ append_assoc before (row_text BufferKind b.name count) (show_text rows) ∙ ap (λ n. text n rows) each ∙ ap (text (length (map (show_row desk.timelines) b.tops))) (whole ∙ named)
 
 -- the objects and the buffers make the report
 pub told-report : (desk : DeskState) (report : ReportTops) (count : ℕ) (timelines : List TimelineRow) (files : List FileRow) (buffers : List BufferTops) → count ≡ row_count (named_tables desk.timelines report) → timelines ≡ report.timelines → files ≡ report.files → buffers ≡ report.buffers → objects_text count timelines files ++ flat_map (tops_text desk) buffers ≡ report_text (named_tables desk.timelines report)

@@ -15,7 +15,10 @@ use command_core::{Answer, Command};
 use desk_core::Desk;
 use line_core::Body;
 use point_core::{Name, Refusal};
-use report_core::{info_text, pass_answer, pass_objects, show_text, write_many, write_out};
+use report_core::{
+    fences_text, info_line_text, pass_answer, pass_objects, rows_text, value_text, write_many,
+    write_out,
+};
 use std::alloc::Global;
 use std::io::Write;
 use std::marker::Model;
@@ -155,7 +158,8 @@ impl Answers {
         match self.desk.file_info(name) {
             Ok((status, fences)) => {
                 self.totals = self.totals.with(&Answer::Done);
-                info_text(name, status, fences.len(), fences, &mut self.out)?;
+                info_line_text(name, status, fences.len(), &mut self.out)?;
+                fences_text(fences, &mut self.out)?;
                 write_many(writer, &mut self.out)?;
                 Ok(None)
             }
@@ -178,7 +182,8 @@ impl Answers {
         match self.desk.buffer_rows(name) {
             Ok(tops) => {
                 self.totals = self.totals.with(&Answer::Done);
-                show_text(tops.len(), self.desk.show_rows(&tops), &mut self.out)?;
+                value_text(tops.len() as u64, &mut self.out)?;
+                rows_text(self.desk.show_rows(&tops), &mut self.out)?;
                 write_many(writer, &mut self.out)?;
                 Ok(None)
             }

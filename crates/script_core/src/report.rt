@@ -8,7 +8,7 @@ ghost use Rattle.script_core.specs.Output.{tops_text};
 
 use desk_core::{BufferTops, Desk};
 use point_core::Refusal;
-use report_core::{buffer_rows_text, write_many};
+use report_core::{RowKind, row, rows_text, write_many};
 use std::io::Write;
 
 /// Appends the buffers' parts of a report to `out`, and writes `out` if enough is pending after a part. The rows of a buffer are
@@ -30,7 +30,8 @@ pub(crate) fn pass_buffers<W: Write>(
 {
     for buffer in buffers {
         let tops = buffer.tops.as_slice();
-        buffer_rows_text(&buffer.name, tops.len(), desk.show_rows(tops), out)?;
+        row(RowKind::Buffer, &buffer.name, tops.len() as u64, out)?;
+        rows_text(desk.show_rows(tops), out)?;
         write_many(writer, out)?;
     }
     Ok(())

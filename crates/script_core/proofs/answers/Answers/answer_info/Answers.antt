@@ -19,11 +19,11 @@ returns-in_err-write_many-in-Ok g c =
     let info = command.Info c.args.name.now in
     let given = info_answer c.args.name.now told.status told.fences in
     let accepted = accepted-alike (cause_of before.desk info) (told.status, told.fences) given told.ensures.refused in
-    let w = c.in_ok-info_text-in-Ok.ensures.ok in
-    let text = told-text c.args.number c.args.name.now told.status told.fences before.out c.info_text.new.out.items c.len.result w.0 w.1 c.len.ensures w.2 in
+    let w = c.in_ok-fences_text-in-Ok.ensures.ok in
+    let text = told-text c.args.number c.args.name.now told.status told.fences before.out c.info_line_text.new.out.items c.fences_text.new.out.items c.len.result w.0 w.1 c.len.ensures c.in_ok-info_line_text-in-Ok.ensures.ok w.2 in
     let is : c.in_err-write_many-in-Ok.field-0.0 ≡ WriteFault = ap error_of c.in_err-write_many-in-Ok.ensures.refused in
     record {
-      answered = rw (← c.self.view_is, p.1, p.2) (IsAnswered-unwritten c.args.number info given before _ refl accepted told.ensures.done refl c.with-self-inside.ensures.lines c.with-self-inside.ensures.refused c.info_text.new.out.items _ _ text _ is c.in_err-write_many-in-Ok.ensures.err);
+      answered = rw (← c.self.view_is, p.1, p.2) (IsAnswered-unwritten c.args.number info given before _ refl accepted told.ensures.done refl c.with-self-inside.ensures.lines c.with-self-inside.ensures.refused c.fences_text.new.out.items _ _ text _ is c.in_err-write_many-in-Ok.ensures.err);
     }
 
 pub returns-in_ok-write_many-in-Ok : goal.returns-in_ok-write_many-in-Ok
@@ -33,10 +33,10 @@ returns-in_ok-write_many-in-Ok g c =
     let info = command.Info c.args.name.now in
     let given = info_answer c.args.name.now told.status told.fences in
     let accepted = accepted-alike (cause_of before.desk info) (told.status, told.fences) given told.ensures.refused in
-    let w = c.in_ok-info_text-in-Ok.ensures.ok in
-    let text = told-text c.args.number c.args.name.now told.status told.fences before.out c.info_text.new.out.items c.len.result w.0 w.1 c.len.ensures w.2 in
+    let w = c.in_ok-fences_text-in-Ok.ensures.ok in
+    let text = told-text c.args.number c.args.name.now told.status told.fences before.out c.info_line_text.new.out.items c.fences_text.new.out.items c.len.result w.0 w.1 c.len.ensures c.in_ok-info_line_text-in-Ok.ensures.ok w.2 in
     record {
-      answered = rw (← c.self.view_is) (IsAnswered-written c.args.number info given before _ refl accepted told.ensures.done refl c.with-self-inside.ensures.lines c.with-self-inside.ensures.refused c.info_text.new.out.items _ _ text c.in_ok-write_many-in-Ok.ensures.ok);
+      answered = rw (← c.self.view_is) (IsAnswered-written c.args.number info given before _ refl accepted told.ensures.done refl c.with-self-inside.ensures.lines c.with-self-inside.ensures.refused c.fences_text.new.out.items _ _ text c.in_ok-write_many-in-Ok.ensures.ok);
     }
 
 pub returns-in-Err : goal.returns-in-Err

@@ -24,12 +24,12 @@ returns-in_err-write_many-in-Ok g c =
     let shown = c.show_rows.result in
     let accepted = accepted-alike (cause_of before.desk show) c.in-Ok.tops (answer.Show shown) c.in-Ok.ensures.refused in
     let done = IsDone-tops before.desk c.args.name.now c.deref.result.now shown (c.deref.ensures.value ∙ c.in-Ok.ensures.rows) c.show_rows.ensures.rows in
-    let w = c.in_ok-show_text-in-Ok.ensures.ok in
+    let w = c.in_ok-rows_text-in-Ok.ensures.ok in
     let count = c.len.ensures ∙ c.in-Ok.tops.ok.0 ∙ ap length (sym c.deref.ensures.value) in
-    let text = shown-text c.args.number before.desk c.deref.result.now shown before.out c.show_text.new.out.items c.len.result w.0 c.show_rows.ensures.rows count w.1 w.2 in
+    let text = shown-text c.args.number before.desk c.deref.result.now shown before.out c.value_text.new.out.items c.rows_text.new.out.items c.len.result w.0 c.show_rows.ensures.rows count w.1 c.in_ok-value_text-in-Ok.ensures.ok w.2 in
     let is : c.in_err-write_many-in-Ok.field-0.0 ≡ WriteFault = ap error_of c.in_err-write_many-in-Ok.ensures.refused in
     record {
-      answered = rw (← c.self.view_is, p.1, p.2) (IsAnswered-unwritten c.args.number show (answer.Show shown) before _ refl accepted done refl c.with-self-inside.ensures.lines c.with-self-inside.ensures.refused c.show_text.new.out.items _ _ text _ is c.in_err-write_many-in-Ok.ensures.err);
+      answered = rw (← c.self.view_is, p.1, p.2) (IsAnswered-unwritten c.args.number show (answer.Show shown) before _ refl accepted done refl c.with-self-inside.ensures.lines c.with-self-inside.ensures.refused c.rows_text.new.out.items _ _ text _ is c.in_err-write_many-in-Ok.ensures.err);
     }
 
 pub returns-in_ok-write_many-in-Ok : goal.returns-in_ok-write_many-in-Ok
@@ -39,11 +39,11 @@ returns-in_ok-write_many-in-Ok g c =
     let shown = c.show_rows.result in
     let accepted = accepted-alike (cause_of before.desk show) c.in-Ok.tops (answer.Show shown) c.in-Ok.ensures.refused in
     let done = IsDone-tops before.desk c.args.name.now c.deref.result.now shown (c.deref.ensures.value ∙ c.in-Ok.ensures.rows) c.show_rows.ensures.rows in
-    let w = c.in_ok-show_text-in-Ok.ensures.ok in
+    let w = c.in_ok-rows_text-in-Ok.ensures.ok in
     let count = c.len.ensures ∙ c.in-Ok.tops.ok.0 ∙ ap length (sym c.deref.ensures.value) in
-    let text = shown-text c.args.number before.desk c.deref.result.now shown before.out c.show_text.new.out.items c.len.result w.0 c.show_rows.ensures.rows count w.1 w.2 in
+    let text = shown-text c.args.number before.desk c.deref.result.now shown before.out c.value_text.new.out.items c.rows_text.new.out.items c.len.result w.0 c.show_rows.ensures.rows count w.1 c.in_ok-value_text-in-Ok.ensures.ok w.2 in
     record {
-      answered = rw (← c.self.view_is) (IsAnswered-written c.args.number show (answer.Show shown) before _ refl accepted done refl c.with-self-inside.ensures.lines c.with-self-inside.ensures.refused c.show_text.new.out.items _ _ text c.in_ok-write_many-in-Ok.ensures.ok);
+      answered = rw (← c.self.view_is) (IsAnswered-written c.args.number show (answer.Show shown) before _ refl accepted done refl c.with-self-inside.ensures.lines c.with-self-inside.ensures.refused c.rows_text.new.out.items _ _ text c.in_ok-write_many-in-Ok.ensures.ok);
     }
 
 pub returns-in-Err : goal.returns-in-Err
