@@ -21,3 +21,4 @@ pub mod Seen
 pub mod Knowing
 pub mod Laying
 pub mod Loads
+mod Ruling

@@ -1,15 +1,19 @@
 //! Theorems about all words and seats: each law is the contract of a function with an empty body.
-ghost use Rattle.std.specs.Prelude.{◌≡◌, ◌≢◌, ◌↔◌, ℕ, ◌+◌, ◌/◌, ◌<◌, ◌≤◌, ◌⊎◌, List};
+ghost use Rattle.std.specs.Prelude.{◌≡◌, ◌≢◌, ◌↔◌, ℕ, ◌+◌, ◌/◌, ◌<◌, ◌≤◌, ◌⊎◌, List, Some, slice_get, slice_index};
 ghost use Rattle.point_core.specs.Clocks.{common_status};
 ghost use Rattle.point_core.specs.declared.entry.Point.{Point};
 ghost use Rattle.point_core.specs.declared.entry.Usage.{Usage};
 ghost use Rattle.point_core.specs.declared.status.Status.TheVariants.{Active};
 ghost use Rattle.words_core.specs.declared.trace.Step.{Step};
+ghost use Rattle.words_core.specs.declared.trace.View.{View};
 ghost use Rattle.words_core.specs.declared.words.TheConstants.{LINE_WORDS};
 ghost use Rattle.words_core.specs.declared.words.Sizes.{Sizes};
-ghost use Rattle.words_core.specs.theorem.Layout.{board_word, value_word, word_count, IsValueOf, IsMarkOf, IsClaimOrFlag, IsBoardWord, IsUnused};
+ghost use Rattle.words_core.specs.Rule.{IsKept};
+ghost use Rattle.words_core.specs.theorem.Layout.{board_word, claim_word, value_word, word_count, IsValueOf, IsMarkOf, IsClaimOrFlag, IsBoardWord, IsUnused};
 ghost use Rattle.words_core.specs.theorem.Loads.{clocks_seen, HasLoadedAll};
 ghost use Rattle.words_core.specs.theorem.Seat.{SeatModel, seen, tests_of, with_step, parted, both_of};
+ghost use Rattle.words_core.specs.theorem.Trace.{wins_of};
+ghost use Rattle.words_core.specs.theorem.Views.{HasOneWinner, HasNotDriven, IsDrivenBy, IsGreatestRaise};
 ghost use Rattle.words_core.specs.theorem.Words.{WordsModel};
 
 /// No two entries of the board are one word, and entries of two buffers or two contexts are on two lines. An entry is
@@ -53,4 +57,28 @@ pub fn what_is_settled_stays_so()
     ensures { (before after : SeatModel) (reach : List ℕ) (points : List Point) →
         HasLoadedAll before after reach → common_status (clocks_seen before) points ≢ Active →
         common_status (clocks_seen after) points ≡ common_status (clocks_seen before) points }
+{}
+
+/// Whenever the rule holds, no word was won twice, by all seats together, lost ones among them: a flag has one winner,
+/// and the claim of a context one driver.
+pub fn no_word_is_won_twice()
+    ensures { (sizes : Sizes) (words : List ℕ) (views : List View) (w : ℕ) →
+        IsKept sizes words views → HasOneWinner w views }
+{}
+
+/// Whenever the rule holds, only the seat that has won a context's claim has changed its value and its mark. The value
+/// is the sum of this seat's additions, and the mark is set if it has closed the context, once, at that value.
+pub fn only_its_driver_changes_a_context()
+    ensures driver { (sizes : Sizes) (words : List ℕ) (views : List View) (ctx i : ℕ) (v : View) →
+        IsKept sizes words views → 1 ≤ ctx → ctx ≤ sizes.contexts → slice_get views i ≡ Some v →
+        0 < wins_of (claim_word ctx) v.trace → IsDrivenBy ctx words v }
+    ensures others { (sizes : Sizes) (words : List ℕ) (views : List View) (ctx i : ℕ) (v : View) →
+        IsKept sizes words views → 1 ≤ ctx → ctx ≤ sizes.contexts → slice_get views i ≡ Some v →
+        wins_of (claim_word ctx) v.trace ≡ 0 → HasNotDriven ctx v }
+{}
+
+/// Whenever the rule holds, an entry of the board is the greatest point to which any seat has raised it, or 0.
+pub fn an_entry_is_the_greatest_raise()
+    ensures { (sizes : Sizes) (words : List ℕ) (views : List View) (w : ℕ) →
+        IsKept sizes words views → IsBoardWord sizes w → IsGreatestRaise w (slice_index words w) views }
 {}

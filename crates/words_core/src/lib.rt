@@ -22,7 +22,8 @@ mod words;
 pub use driver::Driver;
 pub use flags::{Once, Won};
 pub use laws::{
-    each_word_has_a_kind, entries_lie_apart, what_is_known_stays_known, what_is_settled_stays_so,
+    an_entry_is_the_greatest_raise, each_word_has_a_kind, entries_lie_apart, no_word_is_won_twice,
+    only_its_driver_changes_a_context, what_is_known_stays_known, what_is_settled_stays_so,
 };
 pub use seat::{PARTS, Seat};
 pub use whole::Whole;
