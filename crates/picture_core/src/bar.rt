@@ -1,7 +1,4 @@
 //! `Bar`: a sync file in the picture, from the column that makes it to the one that closes it.
-ghost use Rattle.std.specs.Prelude.{◌≡◌};
-ghost use Rattle.picture_core.specs.Bars.{bar_of, closed_if, goes_on, is_open_of};
-ghost use Rattle.picture_core.specs.Lanes.{bar_place};
 
 use point_core::{Name, Status};
 
@@ -27,9 +24,7 @@ pub struct Bar {
 
 impl Bar {
     /// A bar for a file that the command of column `made` creates.
-    pub(crate) fn of(name: &Name, made: usize) -> Bar
-        ensures { result ≡ bar_of name.now made }
-    {
+    pub(crate) fn of(name: &Name, made: usize) -> Bar {
         Bar {
             name: *name,
             made,
@@ -39,33 +34,18 @@ impl Bar {
     }
 
     /// Whether it is the bar of an open file with this name.
-    pub(crate) fn is_open_of(&self, name: &Name) -> bool
-        ensures { result ≡ is_open_of name.now self.now }
-    {
+    pub(crate) fn is_open_of(&self, name: &Name) -> bool {
         self.closed.is_none() && self.name == *name
     }
 
     /// Whether it is neither settled nor closed.
-    pub(crate) fn goes_on(&self) -> bool
-        ensures { result ≡ goes_on self.now }
-    {
+    pub fn goes_on(&self) -> bool {
         self.settled.is_none() && self.closed.is_none()
-    }
-
-    /// Closes it in that column, if it is the open bar with that name.
-    pub(crate) fn close_if(&mut self, column: usize, name: &Name)
-        ensures { self.new ≡ closed_if column name.now self.old }
-    {
-        if self.is_open_of(name) {
-            self.closed = Some(column);
-        }
     }
 }
 
 /// The index of the open bar with this name.
-pub(crate) fn open_place(bars: &[Bar], name: &Name) -> Option<usize>
-    ensures { result ≡ bar_place bars.now name.now }
-{
+pub(crate) fn open_place(bars: &[Bar], name: &Name) -> Option<usize> {
     for (place, bar) in bars.iter().enumerate() {
         if bar.is_open_of(name) {
             return Some(place);

@@ -1,25 +1,17 @@
 //! Enters an accepted command into the history: the bars, steps, marks, links and watches that it adds or changes.
-ghost use Rattle.std.specs.Prelude.{◌≡◌, ◌∷◌, ◌++◌, [], suc, map, if◌then◌else◌, ◌==◌, IfErr, OnOk};
-ghost use Rattle.point_core.specs.declared.refusal.Refusal.TheVariants.{Memory};
-ghost use Rattle.picture_core.specs.Bars.{bar_of, bars_after, closed_if, with_closed};
-ghost use Rattle.picture_core.specs.Watches.{AreWatchesAfter, IsRegistered, ended_if, fired_all, fired_by, with_ended};
-ghost use Rattle.picture_core.specs.Timelines.{made_in, models_of, raised_by, shut_if, stepped_if, timelines_after};
-ghost use Rattle.picture_core.specs.Lanes.{bar_lane, buffer_lane, buffer_of, buffer_place, buffers_after, joined, joined_all, last_watch, links_after, marked, marks_after, sources, target, timeline_lane};
+ghost use Rattle.std.specs.Prelude.{◌≡◌};
 
 use crate::bar::{Bar, open_place};
 use crate::history::{
     Access, BufferLane, BufferMark, History, Lane, Lanes, Link, TimelineLane, ValueStep, WatchEnd,
     WatchLane,
 };
-use crate::list::push;
 use command_core::{Answer, Command};
-use point_core::{Name, Point, Refusal};
+use point_core::{Name, Point};
 use std::alloc::{AllocError, Global};
 
 impl History {
     /// Enters an accepted command in its column, which is 0 if it is not drawn. For a watch, `points` are its file's.
-    ///
-    /// Fails only with `Memory`.
     pub fn enter(
         &mut self,
         alloc: Global,
@@ -27,36 +19,20 @@ impl History {
         command: &Command,
         answer: &Answer,
         points: &[Point],
-    ) -> Result<(), Refusal>
-        ensures memory { IfErr result (λ e. e ≡ Memory) }
-        ensures columns { self.new.columns ≡ self.old.columns }
-        ensures bars { OnOk result (self.new.bars.items ≡ bars_after column command.now self.old.bars.items) }
-        ensures waits { self.new.waits ≡ self.old.waits }
+    ) -> Result<(), AllocError>
         ensures refused { self.new.refused ≡ self.old.refused }
-        ensures timelines { OnOk result (models_of self.new.lanes.timelines.items
-            ≡ timelines_after column command.now answer.now (models_of self.old.lanes.timelines.items)) }
-        ensures buffers { OnOk result (self.new.lanes.buffers.items
-            ≡ buffers_after column command.now self.old.lanes.buffers.items) }
-        ensures marks { OnOk result (self.new.lanes.marks.items
-            ≡ marks_after column self.new.lanes.buffers.items command.now self.old.lanes.marks.items) }
-        ensures links { OnOk result (self.new.lanes.links.items
-            ≡ links_after column self.new.lanes self.new.bars.items command.now self.old.lanes.links.items) }
-        ensures watches { OnOk result (AreWatchesAfter column points.now command.now answer.now
-            self.old.lanes.watches.items self.new.lanes.watches.items) }
     {
         enter_file(&mut self.bars, column, command)?;
         self.lanes.enter(alloc, column, command, answer, points)?;
         if column == 0 {
             return Ok(());
         }
-        Ok(self.lanes.link_all(column, command, self.bars.as_slice())?)
+        self.lanes.link_all(column, command, self.bars.as_slice())
     }
 }
 
 /// The bars after a command, which makes a file, closes one, or neither.
-fn enter_file(bars: &mut Vec<Bar>, column: usize, command: &Command) -> Result<(), AllocError>
-    ensures { OnOk result (bars.new.items ≡ bars_after column command.now bars.old.items) }
-{
+fn enter_file(bars: &mut Vec<Bar>, column: usize, command: &Command) -> Result<(), AllocError> {
     match command {
         Command::Fence(name, _, _) => push_bar(bars, column, name),
         Command::Merge(name, _, _) => push_bar(bars, column, name),
@@ -69,28 +45,21 @@ fn enter_file(bars: &mut Vec<Bar>, column: usize, command: &Command) -> Result<(
     }
 }
 
-fn push_bar(bars: &mut Vec<Bar>, column: usize, name: &Name) -> Result<(), AllocError>
-    ensures { OnOk result (bars.new.items ≡ bars.old.items ++ bar_of name.now column ∷ []) }
-{
-    push(bars, Bar::of(name, column))
+fn push_bar(bars: &mut Vec<Bar>, column: usize, name: &Name) -> Result<(), AllocError> {
+    bars.push(Bar::of(name, column))?;
+    Ok(())
 }
 
 /// A file that was closed before the first column is not drawn.
-fn close_bar(bars: &mut Vec<Bar>, column: usize, name: &Name)
-    ensures { bars.new.items ≡ with_closed column name.now bars.old.items }
-{
+fn close_bar(bars: &mut Vec<Bar>, column: usize, name: &Name) {
     if column == 0 {
         bars.retain(|bar| !bar.is_open_of(name));
-    } else {
-        close_drawn_bars(bars.as_mut_slice(), column, name);
+        return;
     }
-}
-
-fn close_drawn_bars(bars: &mut [Bar], column: usize, name: &Name)
-    ensures { bars.new ≡ map (closed_if column name.now) bars.old }
-{
     for bar in bars.iter_mut() {
-        bar.close_if(column, name);
+        if bar.is_open_of(name) {
+            bar.closed = Some(column);
+        }
     }
 }
 
@@ -102,16 +71,7 @@ impl Lanes {
         command: &Command,
         answer: &Answer,
         points: &[Point],
-    ) -> Result<(), AllocError>
-        ensures timelines { OnOk result (models_of self.new.timelines.items
-            ≡ timelines_after column command.now answer.now (models_of self.old.timelines.items)) }
-        ensures buffers { OnOk result (self.new.buffers.items ≡ buffers_after column command.now self.old.buffers.items) }
-        ensures marks { OnOk result (self.new.marks.items
-            ≡ marks_after column self.new.buffers.items command.now self.old.marks.items) }
-        ensures links { self.new.links ≡ self.old.links }
-        ensures watches { OnOk result (AreWatchesAfter column points.now command.now answer.now
-            self.old.watches.items self.new.watches.items) }
-    {
+    ) -> Result<(), AllocError> {
         match command {
             Command::Timeline(name) => push_timeline(&mut self.timelines, alloc, column, name),
             Command::Inc(name, _) => self.raise(column, name, answer),
@@ -138,14 +98,7 @@ impl Lanes {
     }
 
     /// The new value of a timeline, and the watches that fired.
-    fn raise(&mut self, column: usize, name: &Name, answer: &Answer) -> Result<(), AllocError>
-        ensures timelines { OnOk result (models_of self.new.timelines.items
-            ≡ raised_by column name.now answer.now (models_of self.old.timelines.items)) }
-        ensures watches { self.new.watches.items ≡ fired_by column answer.now self.old.watches.items }
-        ensures buffers { self.new.buffers ≡ self.old.buffers }
-        ensures marks { self.new.marks ≡ self.old.marks }
-        ensures links { self.new.links ≡ self.old.links }
-    {
+    fn raise(&mut self, column: usize, name: &Name, answer: &Answer) -> Result<(), AllocError> {
         let Answer::Raised(value, fired) = answer else {
             return Ok(());
         };
@@ -157,50 +110,34 @@ impl Lanes {
         push_step(self.timelines.as_mut_slice(), name, &step)
     }
 
-    fn shut(&mut self, column: usize, name: &Name, answer: &Answer) -> Result<(), AllocError>
-        ensures timelines { OnOk result (models_of self.new.timelines.items
-            ≡ map (shut_if column name.now) (raised_by column name.now answer.now (models_of self.old.timelines.items))) }
-        ensures watches { self.new.watches.items ≡ fired_by column answer.now self.old.watches.items }
-        ensures buffers { self.new.buffers ≡ self.old.buffers }
-        ensures marks { self.new.marks ≡ self.old.marks }
-        ensures links { self.new.links ≡ self.old.links }
-    {
+    fn shut(&mut self, column: usize, name: &Name, answer: &Answer) -> Result<(), AllocError> {
         self.raise(column, name, answer)?;
         close_timeline(self.timelines.as_mut_slice(), column, name);
         Ok(())
     }
 
-    fn access(&mut self, column: usize, name: &Name, access: Access) -> Result<(), AllocError>
-        ensures marks { OnOk result (self.new.marks.items ≡ if column == 0 then self.old.marks.items
-            else marked column (buffer_place self.old.buffers.items name.now) access self.old.marks.items) }
-        ensures timelines { self.new.timelines ≡ self.old.timelines }
-        ensures buffers { self.new.buffers ≡ self.old.buffers }
-        ensures links { self.new.links ≡ self.old.links }
-        ensures watches { self.new.watches ≡ self.old.watches }
-    {
+    fn access(&mut self, column: usize, name: &Name, access: Access) -> Result<(), AllocError> {
         if column == 0 {
             return Ok(());
         }
         let Some(buffer) = self.buffer_place(name) else {
             return Ok(());
         };
-        push(
-            &mut self.marks,
-            BufferMark {
-                buffer,
-                column,
-                access,
-            },
-        )
+        self.marks.push(BufferMark {
+            buffer,
+            column,
+            access,
+        })?;
+        Ok(())
     }
 
     /// A link from each lane that the command reads to the lane that it makes or changes.
-    fn link_all(&mut self, column: usize, command: &Command, bars: &[Bar]) -> Result<(), AllocError>
-        ensures links { OnOk result (self.new.links.items
-            ≡ joined_all column (sources self.old bars.now command.now) (target self.old bars.now command.now)
-            self.old.links.items) }
-        ensures others { self.new ≡ record self.old { links = self.new.links } }
-    {
+    fn link_all(
+        &mut self,
+        column: usize,
+        command: &Command,
+        bars: &[Bar],
+    ) -> Result<(), AllocError> {
         match command {
             Command::Fence(name, timeline, _) => {
                 self.link(column, self.timeline_lane(timeline), bar_lane(bars, name))
@@ -230,22 +167,18 @@ impl Lanes {
         column: usize,
         from: Option<Lane>,
         to: Option<Lane>,
-    ) -> Result<(), AllocError>
-        ensures links { OnOk result (self.new.links.items ≡ joined column from to self.old.links.items) }
-        ensures others { self.new ≡ record self.old { links = self.new.links } }
-    {
+    ) -> Result<(), AllocError> {
         let Some(from) = from else {
             return Ok(());
         };
         let Some(to) = to else {
             return Ok(());
         };
-        push(&mut self.links, Link { column, from, to })
+        self.links.push(Link { column, from, to })?;
+        Ok(())
     }
 
-    fn timeline_lane(&self, name: &Name) -> Option<Lane>
-        ensures { result ≡ timeline_lane self.now name.now }
-    {
+    fn timeline_lane(&self, name: &Name) -> Option<Lane> {
         for (place, lane) in self.timelines.iter().enumerate() {
             if lane.name == *name {
                 return Some(Lane::Timeline(place));
@@ -254,9 +187,7 @@ impl Lanes {
         None
     }
 
-    fn buffer_place(&self, name: &Name) -> Option<usize>
-        ensures { result ≡ buffer_place self.now.buffers.items name.now }
-    {
+    fn buffer_place(&self, name: &Name) -> Option<usize> {
         for (place, lane) in self.buffers.iter().enumerate() {
             if lane.name == *name {
                 return Some(place);
@@ -265,22 +196,16 @@ impl Lanes {
         None
     }
 
-    fn buffer_lane(&self, name: &Name) -> Option<Lane>
-        ensures { result ≡ buffer_lane self.now name.now }
-    {
+    fn buffer_lane(&self, name: &Name) -> Option<Lane> {
         Some(Lane::Buffer(self.buffer_place(name)?))
     }
 
-    fn last_watch(&self) -> Option<Lane>
-        ensures { result ≡ last_watch self.now }
-    {
+    fn last_watch(&self) -> Option<Lane> {
         Some(Lane::Watch(self.watches.len().checked_sub(1)?))
     }
 }
 
-fn bar_lane(bars: &[Bar], name: &Name) -> Option<Lane>
-    ensures { result ≡ bar_lane bars.now name.now }
-{
+fn bar_lane(bars: &[Bar], name: &Name) -> Option<Lane> {
     Some(Lane::Bar(open_place(bars, name)?))
 }
 
@@ -289,48 +214,53 @@ fn push_timeline(
     alloc: Global,
     column: usize,
     name: &Name,
-) -> Result<(), AllocError>
-    ensures { OnOk result (models_of timelines.new.items ≡ models_of timelines.old.items ++ made_in column name.now ∷ []) }
-{
+) -> Result<(), AllocError> {
     let mut steps = Vec::new(alloc);
-    push(&mut steps, ValueStep { column, value: 0 })?;
-    push(
-        timelines,
-        TimelineLane {
-            name: *name,
-            steps,
-            closed: None,
-        },
-    )
+    steps.push(ValueStep { column, value: 0 })?;
+    timelines.push(TimelineLane {
+        name: *name,
+        steps,
+        closed: None,
+    })?;
+    Ok(())
 }
 
-fn push_step(lanes: &mut [TimelineLane], name: &Name, step: &ValueStep) -> Result<(), AllocError>
-    ensures { OnOk result (models_of lanes.new ≡ map (stepped_if name.now step.now) (models_of lanes.old)) }
-{
+fn push_step(lanes: &mut [TimelineLane], name: &Name, step: &ValueStep) -> Result<(), AllocError> {
     for lane in lanes.iter_mut() {
-        lane.step_if(name, step)?;
+        if lane.name == *name {
+            add_step(&mut lane.steps, step)?;
+        }
     }
     Ok(())
 }
 
-fn close_timeline(lanes: &mut [TimelineLane], column: usize, name: &Name)
-    ensures { models_of lanes.new ≡ map (shut_if column name.now) (models_of lanes.old) }
-{
+/// Adds a step. Before the first column only the last value counts.
+fn add_step(steps: &mut Vec<ValueStep>, step: &ValueStep) -> Result<(), AllocError> {
+    if step.column == 0 {
+        steps.clear();
+    }
+    steps.push(*step)?;
+    Ok(())
+}
+
+fn close_timeline(lanes: &mut [TimelineLane], column: usize, name: &Name) {
     for lane in lanes.iter_mut() {
-        lane.close_if(column, name);
+        if lane.name == *name {
+            lane.closed = Some(column);
+        }
     }
 }
 
-fn push_buffer(buffers: &mut Vec<BufferLane>, column: usize, name: &Name) -> Result<(), AllocError>
-    ensures { OnOk result (buffers.new.items ≡ buffers.old.items ++ buffer_of name.now column ∷ []) }
-{
-    push(
-        buffers,
-        BufferLane {
-            name: *name,
-            made: column,
-        },
-    )
+fn push_buffer(
+    buffers: &mut Vec<BufferLane>,
+    column: usize,
+    name: &Name,
+) -> Result<(), AllocError> {
+    buffers.push(BufferLane {
+        name: *name,
+        made: column,
+    })?;
+    Ok(())
 }
 
 fn push_watch(
@@ -339,45 +269,33 @@ fn push_watch(
     column: usize,
     cookie: u64,
     points: &[Point],
-) -> Result<(), AllocError>
-    ensures { OnOk result (IsRegistered column cookie points.now watches.old.items watches.new.items) }
-{
+) -> Result<(), AllocError> {
     let points = Vec::from_slice(alloc, points)?;
-    push(
-        watches,
-        WatchLane {
-            cookie,
-            made: column,
-            end: WatchEnd::Pending,
-            points,
-        },
-    )
+    watches.push(WatchLane {
+        cookie,
+        made: column,
+        end: WatchEnd::Pending,
+        points,
+    })?;
+    Ok(())
 }
 
 /// Ends the watches that fired in this column.
-fn end_watches(watches: &mut Vec<WatchLane>, cookies: &[u64], column: usize)
-    ensures { watches.new.items ≡ fired_all column cookies.now watches.old.items }
-{
+fn end_watches(watches: &mut Vec<WatchLane>, cookies: &[u64], column: usize) {
     for cookie in cookies {
         end_watch(watches, column, *cookie, WatchEnd::Fired(column));
     }
 }
 
 /// A watch that ended before the first column is not drawn.
-fn end_watch(watches: &mut Vec<WatchLane>, column: usize, cookie: u64, end: WatchEnd)
-    ensures { watches.new.items ≡ with_ended column cookie end watches.old.items }
-{
+fn end_watch(watches: &mut Vec<WatchLane>, column: usize, cookie: u64, end: WatchEnd) {
     if column == 0 {
         watches.retain(|watch| watch.cookie != cookie);
-    } else {
-        end_drawn_watch(watches.as_mut_slice(), cookie, end);
+        return;
     }
-}
-
-fn end_drawn_watch(watches: &mut [WatchLane], cookie: u64, end: WatchEnd)
-    ensures { watches.new ≡ map (ended_if cookie end) watches.old }
-{
     for watch in watches.iter_mut() {
-        watch.end_if(cookie, end);
+        if watch.cookie == cookie && watch.end.is_pending() {
+            watch.end = end;
+        }
     }
 }

@@ -1,13 +1,8 @@
 //! `Graph`: the waiters at the end of a run, and the points for which they wait. Each point on an edge is a node.
-ghost use Rattle.std.specs.Prelude.{◌≡◌, ◌⊎◌, ◌∷◌, ◌++◌, [], IfErr, OnOk};
-ghost use Rattle.point_core.specs.declared.refusal.Refusal.TheVariants.{Memory};
-ghost use Rattle.picture_core.specs.declared.graph.Node.TheVariants as kind;
-ghost use Rattle.picture_core.specs.Waits.{edge_to};
 
-use crate::list::push;
 use command_core::FileRow;
-use point_core::{Name, Refusal, TimelineRow, Usage};
-use std::alloc::Global;
+use point_core::{Name, TimelineRow, Usage};
+use std::alloc::{AllocError, Global};
 use std::collections::HashSet;
 
 /// A point that is not reached, and how far its timeline has to go.
@@ -67,10 +62,7 @@ pub struct Graph {
 
 impl Graph {
     /// An empty graph.
-    pub fn new(alloc: Global) -> Graph
-        ensures nodes { result.nodes.items ≡ [] }
-        ensures edges { result.edges.items ≡ [] }
-    {
+    pub fn new(alloc: Global) -> Graph {
         Graph {
             nodes: Vec::new(alloc),
             edges: Vec::new(alloc),
@@ -79,31 +71,18 @@ impl Graph {
     }
 
     /// Adds a node.
-    ///
-    /// Fails only with `Memory`.
-    pub fn add_node(&mut self, node: Node) -> Result<(), Refusal>
-        ensures memory { IfErr result (λ e. e ≡ Memory) }
-        ensures nodes { OnOk result (self.new.nodes.items ≡ self.old.nodes.items ++ node ∷ []) }
-        ensures edges { self.new.edges ≡ self.old.edges }
-    {
-        Ok(push(&mut self.nodes, node)?)
+    pub fn add_node(&mut self, node: Node) -> Result<(), AllocError> {
+        self.nodes.push(node)?;
+        Ok(())
     }
 
     /// Adds an edge to a point, which becomes a node if it is none yet.
-    ///
-    /// Fails only with `Memory`.
-    pub fn add_wait(&mut self, waiter: &Waiter, waiting: &Waiting) -> Result<(), Refusal>
-        ensures memory { IfErr result (λ e. e ≡ Memory) }
-        ensures nodes { OnOk result ((self.new.nodes ≡ self.old.nodes)
-            ⊎ (self.new.nodes.items ≡ self.old.nodes.items ++ kind.Point waiting.now ∷ [])) }
-        ensures edges { OnOk result (self.new.edges.items
-            ≡ self.old.edges.items ++ edge_to waiter.now waiting.now.timeline waiting.now.point ∷ []) }
-    {
+    pub fn add_wait(&mut self, waiter: &Waiter, waiting: &Waiting) -> Result<(), AllocError> {
         let point = NamedPoint {
             timeline: waiting.timeline,
             value: waiting.point,
         };
-        let new = self.points.insert(point).map_err(|_| Refusal::Memory)?;
+        let new = self.points.insert(point).map_err(|_| AllocError)?;
         if new {
             self.add_node(Node::Point(*waiting))?;
         }
@@ -112,6 +91,7 @@ impl Graph {
             timeline: waiting.timeline,
             point: waiting.point,
         };
-        Ok(push(&mut self.edges, edge)?)
+        self.edges.push(edge)?;
+        Ok(())
     }
 }

@@ -1,14 +1,9 @@
 //! `History`: the columns and lanes of a run, as `draw_core` records them. The picture shows exactly this.
-ghost use Rattle.std.specs.Prelude.{◌≡◌, ◌∷◌, ◌++◌, [], false, IfErr, OnOk};
-ghost use Rattle.point_core.specs.declared.refusal.Refusal.TheVariants.{Memory};
-ghost use Rattle.picture_core.specs.Lanes.{AreNone};
-ghost use Rattle.picture_core.specs.Timelines.{model_of, shut_if, stepped_if, steps_with};
-ghost use Rattle.picture_core.specs.Watches.{ended_if, is_pending};
+ghost use Rattle.std.specs.Prelude.{◌≡◌, false};
 
 use crate::bar::Bar;
 use crate::graph::Waiting;
-use crate::list::push;
-use point_core::{Name, Point, Refusal, Usage};
+use point_core::{Name, Point, Usage};
 use std::alloc::{AllocError, Global};
 
 /// A line of the script that has an answer. Columns are numbered from 1; 0 is before the first.
@@ -37,37 +32,6 @@ pub struct TimelineLane {
     pub steps: Vec<ValueStep>,
     /// The column of the command that closed it.
     pub closed: Option<usize>,
-}
-
-impl TimelineLane {
-    /// Adds a step, if it has that name.
-    pub(crate) fn step_if(&mut self, name: &Name, step: &ValueStep) -> Result<(), AllocError>
-        ensures { OnOk result (model_of self.new ≡ stepped_if name.now step.now (model_of self.old)) }
-    {
-        if self.name == *name {
-            return add_step(&mut self.steps, step);
-        }
-        Ok(())
-    }
-
-    /// Closes it in that column, if it has that name.
-    pub(crate) fn close_if(&mut self, column: usize, name: &Name)
-        ensures { model_of self.new ≡ shut_if column name.now (model_of self.old) }
-    {
-        if self.name == *name {
-            self.closed = Some(column);
-        }
-    }
-}
-
-/// Adds a step. Before the first column only the last value counts.
-fn add_step(steps: &mut Vec<ValueStep>, step: &ValueStep) -> Result<(), AllocError>
-    ensures { OnOk result (steps.new.items ≡ steps_with step.now steps.old.items) }
-{
-    if step.column == 0 {
-        steps.clear();
-    }
-    push(steps, *step)
 }
 
 /// A buffer.
@@ -109,13 +73,8 @@ pub enum WatchEnd {
 }
 
 impl WatchEnd {
-    fn is_pending(self) -> bool
-        ensures { result ≡ is_pending self }
-    {
-        match self {
-            WatchEnd::Pending => true,
-            WatchEnd::Fired(_) | WatchEnd::Removed(_) => false,
-        }
+    pub(crate) fn is_pending(self) -> bool {
+        matches!(self, WatchEnd::Pending)
     }
 }
 
@@ -128,17 +87,6 @@ pub struct WatchLane {
     pub end: WatchEnd,
     /// The points that its file listed then.
     pub points: Vec<Point>,
-}
-
-impl WatchLane {
-    /// Ends it so, if it is pending and has that cookie.
-    pub(crate) fn end_if(&mut self, cookie: u64, end: WatchEnd)
-        ensures { self.new ≡ ended_if cookie end self.old }
-    {
-        if self.cookie == cookie && self.end.is_pending() {
-            self.end = end;
-        }
-    }
 }
 
 /// A lane, by its index among the lanes of its kind.
@@ -176,9 +124,7 @@ pub struct Lanes {
 }
 
 impl Lanes {
-    fn new(alloc: Global) -> Lanes
-        ensures { AreNone result }
-    {
+    fn new(alloc: Global) -> Lanes {
         Lanes {
             timelines: Vec::new(alloc),
             buffers: Vec::new(alloc),
@@ -205,10 +151,6 @@ pub struct History {
 impl History {
     /// An empty history.
     pub fn new(alloc: Global) -> History
-        ensures columns { result.columns.items ≡ [] }
-        ensures bars { result.bars.items ≡ [] }
-        ensures lanes { AreNone result.lanes }
-        ensures waits { result.waits.items ≡ [] }
         ensures refused { result.refused ≡ false }
     {
         History {
@@ -221,30 +163,10 @@ impl History {
     }
 
     /// Adds a column.
-    ///
-    /// Fails only with `Memory`.
-    pub fn add_column(&mut self, column: Column) -> Result<(), Refusal>
-        ensures memory { IfErr result (λ e. e ≡ Memory) }
-        ensures columns { OnOk result (self.new.columns.items ≡ self.old.columns.items ++ column ∷ []) }
-        ensures bars { self.new.bars ≡ self.old.bars }
-        ensures lanes { self.new.lanes ≡ self.old.lanes }
-        ensures waits { self.new.waits ≡ self.old.waits }
+    pub fn add_column(&mut self, column: Column) -> Result<(), AllocError>
         ensures refused { self.new.refused ≡ self.old.refused }
     {
-        Ok(push(&mut self.columns, column)?)
-    }
-
-    /// Adds a point for which the file of a bar waits.
-    ///
-    /// Fails only with `Memory`.
-    pub fn add_wait(&mut self, wait: BarWait) -> Result<(), Refusal>
-        ensures memory { IfErr result (λ e. e ≡ Memory) }
-        ensures columns { self.new.columns ≡ self.old.columns }
-        ensures bars { self.new.bars ≡ self.old.bars }
-        ensures lanes { self.new.lanes ≡ self.old.lanes }
-        ensures refused { self.new.refused ≡ self.old.refused }
-        ensures waits { OnOk result (self.new.waits.items ≡ self.old.waits.items ++ wait ∷ []) }
-    {
-        Ok(push(&mut self.waits, wait)?)
+        self.columns.push(column)?;
+        Ok(())
     }
 }

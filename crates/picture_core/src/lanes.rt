@@ -1,7 +1,4 @@
 //! Draws the lanes: the steps of timelines, the bars of files, the marks of buffers and watches.
-ghost use Rattle.std.specs.Prelude.{◌≡◌, ◌++◌, ◌∷◌, [], true, false, OnOk, None};
-ghost use Rattle.picture_core.specs.Shapes.{end_of, end_sign, fill_of, is_bar_fill, is_link, is_told_mark, mark_of, part_of, parts_of, registered_sign, shapes_of, shapes_of_all, sign_of, signs_of_all, told_on, waiting_in, waitings, waits_on, watch_signs, watch_signs_of_all};
-ghost use Rattle.picture_core.specs.Sheet.{height_of_bar, height_of_lane, middle_of};
 
 use crate::bar::{Bar, BarSettled};
 use crate::history::{
@@ -25,26 +22,17 @@ pub(crate) const HALF_BAR: u64 = 7;
 const FOOT: u64 = 4;
 
 /// A line to the right.
-fn push_level(stroke: Stroke, left: u64, right: u64, y: u64, canvas: &mut Canvas) -> Drawn
-    ensures told { is_link stroke ≡ false → told_on canvas.new ≡ told_on canvas.old }
-    ensures waits { waits_on canvas.new ≡ waits_on canvas.old }
-{
+fn push_level(stroke: Stroke, left: u64, right: u64, y: u64, canvas: &mut Canvas) -> Drawn {
     canvas.line(stroke, &Spot { x: left, y }, &Spot { x: right, y })
 }
 
 /// The name of a lane, vertically centred.
-fn push_name(sheet: &Sheet, lane: Lane, label: &Label, canvas: &mut Canvas) -> Drawn
-    ensures told { told_on canvas.new ≡ told_on canvas.old }
-    ensures waits { waiting_in label.now ≡ None → waits_on canvas.new ≡ waits_on canvas.old }
-{
+fn push_name(sheet: &Sheet, lane: Lane, label: &Label, canvas: &mut Canvas) -> Drawn {
     let y = sheet.middle_of(lane).saturating_add(FOOT);
     canvas.text(Face::Name, PAD, y, label)
 }
 
-pub(crate) fn push_timelines(history: &History, sheet: &Sheet, canvas: &mut Canvas) -> Drawn
-    ensures told { told_on canvas.new ≡ told_on canvas.old }
-    ensures waits { waits_on canvas.new ≡ waits_on canvas.old }
-{
+pub(crate) fn push_timelines(history: &History, sheet: &Sheet, canvas: &mut Canvas) -> Drawn {
     for (place, lane) in history.lanes.timelines.iter().enumerate() {
         let here = Lane::Timeline(place);
         push_name(sheet, here, &Label::Name(lane.name), canvas)?;
@@ -55,10 +43,7 @@ pub(crate) fn push_timelines(history: &History, sheet: &Sheet, canvas: &mut Canv
 }
 
 /// The axis at which links begin.
-fn push_axis(sheet: &Sheet, y: u64, lane: &TimelineLane, canvas: &mut Canvas) -> Drawn
-    ensures told { told_on canvas.new ≡ told_on canvas.old }
-    ensures waits { waits_on canvas.new ≡ waits_on canvas.old }
-{
+fn push_axis(sheet: &Sheet, y: u64, lane: &TimelineLane, canvas: &mut Canvas) -> Drawn {
     match lane.steps.first() {
         Some(first) => push_level(
             Stroke::Lane,
@@ -72,10 +57,7 @@ fn push_axis(sheet: &Sheet, y: u64, lane: &TimelineLane, canvas: &mut Canvas) ->
 }
 
 /// The steps of a timeline's value, and its numbers.
-fn push_values(sheet: &Sheet, top: u64, lane: &TimelineLane, canvas: &mut Canvas) -> Drawn
-    ensures told { told_on canvas.new ≡ told_on canvas.old }
-    ensures waits { waits_on canvas.new ≡ waits_on canvas.old }
-{
+fn push_values(sheet: &Sheet, top: u64, lane: &TimelineLane, canvas: &mut Canvas) -> Drawn {
     let greatest = lane.steps.last().map_or(0, |step| step.value);
     let mut last: Option<Spot> = None;
     for step in &lane.steps {
@@ -103,10 +85,7 @@ fn rise(value: u64, greatest: u64) -> u64 {
     u64::try_from(scaled).unwrap_or(RISE)
 }
 
-fn push_step(before: &Spot, next: &Spot, canvas: &mut Canvas) -> Drawn
-    ensures told { told_on canvas.new ≡ told_on canvas.old }
-    ensures waits { waits_on canvas.new ≡ waits_on canvas.old }
-{
+fn push_step(before: &Spot, next: &Spot, canvas: &mut Canvas) -> Drawn {
     push_level(Stroke::Value, before.x, next.x, before.y, canvas)?;
     let corner = Spot {
         x: next.x,
@@ -115,20 +94,14 @@ fn push_step(before: &Spot, next: &Spot, canvas: &mut Canvas) -> Drawn
     canvas.line(Stroke::Value, &corner, next)
 }
 
-fn push_value(sheet: &Sheet, top: u64, step: &ValueStep, canvas: &mut Canvas) -> Drawn
-    ensures told { told_on canvas.new ≡ told_on canvas.old }
-    ensures waits { waits_on canvas.new ≡ waits_on canvas.old }
-{
+fn push_value(sheet: &Sheet, top: u64, step: &ValueStep, canvas: &mut Canvas) -> Drawn {
     let x = sheet.text_middle(step.column);
     let y = top.saturating_add(VALUES);
     canvas.text(Face::Number, x, y, &Label::Number(step.value))
 }
 
 /// The line from its last value on.
-fn push_end(sheet: &Sheet, lane: &TimelineLane, last: &Spot, canvas: &mut Canvas) -> Drawn
-    ensures told { told_on canvas.new ≡ told_on canvas.old }
-    ensures waits { waits_on canvas.new ≡ waits_on canvas.old }
-{
+fn push_end(sheet: &Sheet, lane: &TimelineLane, last: &Spot, canvas: &mut Canvas) -> Drawn {
     let Some(closed) = lane.closed else {
         return push_level(Stroke::Value, last.x, sheet.end, last.y, canvas);
     };
@@ -138,20 +111,12 @@ fn push_end(sheet: &Sheet, lane: &TimelineLane, last: &Spot, canvas: &mut Canvas
     canvas.mark(Mark::Shut, x, last.y)
 }
 
-pub(crate) fn push_bars(history: &History, sheet: &Sheet, canvas: &mut Canvas) -> Drawn
-    ensures told { OnOk result (told_on canvas.new ≡ told_on canvas.old
-        ++ shapes_of_all (middle_of sheet.now) sheet.now.end (height_of_bar sheet.now) history.now.bars.items) }
-    ensures waits { OnOk result (waits_on canvas.new ≡ waits_on canvas.old ++ waitings history.now.waits.items) }
-{
+pub(crate) fn push_bars(history: &History, sheet: &Sheet, canvas: &mut Canvas) -> Drawn {
     push_lanes(history.bars.as_slice(), sheet, canvas)?;
     push_waits(history.waits.as_slice(), sheet, canvas)
 }
 
-fn push_lanes(bars: &[Bar], sheet: &Sheet, canvas: &mut Canvas) -> Drawn
-    ensures told { OnOk result (told_on canvas.new ≡ told_on canvas.old
-        ++ shapes_of_all (middle_of sheet.now) sheet.now.end (height_of_bar sheet.now) bars.now) }
-    ensures waits { waits_on canvas.new ≡ waits_on canvas.old }
-{
+fn push_lanes(bars: &[Bar], sheet: &Sheet, canvas: &mut Canvas) -> Drawn {
     for (place, bar) in bars.iter().enumerate() {
         push_lane(sheet, place, bar, canvas)?;
     }
@@ -159,20 +124,12 @@ fn push_lanes(bars: &[Bar], sheet: &Sheet, canvas: &mut Canvas) -> Drawn
 }
 
 /// The name of a file, and its bar.
-fn push_lane(sheet: &Sheet, place: usize, bar: &Bar, canvas: &mut Canvas) -> Drawn
-    ensures told { OnOk result (told_on canvas.new ≡ told_on canvas.old
-        ++ shapes_of (middle_of sheet.now) sheet.now.end (height_of_bar sheet.now place) bar.now) }
-    ensures waits { waits_on canvas.new ≡ waits_on canvas.old }
-{
+fn push_lane(sheet: &Sheet, place: usize, bar: &Bar, canvas: &mut Canvas) -> Drawn {
     push_name(sheet, Lane::Bar(place), &Label::Name(bar.name), canvas)?;
     push_bar(sheet, sheet.height_of_bar(place), bar, canvas)
 }
 
-fn push_bar(sheet: &Sheet, middle: u64, bar: &Bar, canvas: &mut Canvas) -> Drawn
-    ensures told { OnOk result (told_on canvas.new ≡ told_on canvas.old
-        ++ shapes_of (middle_of sheet.now) sheet.now.end middle bar.now) }
-    ensures waits { waits_on canvas.new ≡ waits_on canvas.old }
-{
+fn push_bar(sheet: &Sheet, middle: u64, bar: &Bar, canvas: &mut Canvas) -> Drawn {
     let left = sheet.middle(bar.made);
     let right = end_of(sheet, bar.closed);
     let y = middle.saturating_sub(HALF_BAR);
@@ -183,9 +140,7 @@ fn push_bar(sheet: &Sheet, middle: u64, bar: &Bar, canvas: &mut Canvas) -> Drawn
 }
 
 /// The right end of a bar.
-fn end_of(sheet: &Sheet, closed: Option<usize>) -> u64
-    ensures { result ≡ end_of (middle_of sheet.now) sheet.now.end closed }
-{
+fn end_of(sheet: &Sheet, closed: Option<usize>) -> u64 {
     match closed {
         Some(column) => sheet.middle(column),
         None => sheet.end,
@@ -200,11 +155,7 @@ fn push_parts(
     right: u64,
     y: u64,
     canvas: &mut Canvas,
-) -> Drawn
-    ensures told { OnOk result (told_on canvas.new ≡ told_on canvas.old
-        ++ parts_of (middle_of sheet.now) left right y settled) }
-    ensures waits { waits_on canvas.new ≡ waits_on canvas.old }
-{
+) -> Drawn {
     let Some(settled) = settled else {
         return push_part(Fill::Pending, left, right, y, canvas);
     };
@@ -213,11 +164,7 @@ fn push_parts(
     push_part(fill_of(settled.status), turn, right, y, canvas)
 }
 
-fn push_part(fill: Fill, left: u64, right: u64, y: u64, canvas: &mut Canvas) -> Drawn
-    ensures told { is_bar_fill fill ≡ true →
-        OnOk result (told_on canvas.new ≡ told_on canvas.old ++ part_of fill left right y) }
-    ensures waits { waits_on canvas.new ≡ waits_on canvas.old }
-{
+fn push_part(fill: Fill, left: u64, right: u64, y: u64, canvas: &mut Canvas) -> Drawn {
     if left >= right {
         return Ok(());
     }
@@ -225,10 +172,7 @@ fn push_part(fill: Fill, left: u64, right: u64, y: u64, canvas: &mut Canvas) -> 
     canvas.area(fill, &Spot { x: left, y }, width, HALF_BAR * 2)
 }
 
-fn fill_of(status: Status) -> Fill
-    ensures value { result ≡ fill_of status }
-    ensures of_bar { is_bar_fill result ≡ true }
-{
+fn fill_of(status: Status) -> Fill {
     match status {
         Status::Active => Fill::Pending,
         Status::Signalled => Fill::Signalled,
@@ -236,10 +180,7 @@ fn fill_of(status: Status) -> Fill
     }
 }
 
-fn push_bar_end(bar: &Bar, right: u64, middle: u64, canvas: &mut Canvas) -> Drawn
-    ensures told { told_on canvas.new ≡ told_on canvas.old }
-    ensures waits { waits_on canvas.new ≡ waits_on canvas.old }
-{
+fn push_bar_end(bar: &Bar, right: u64, middle: u64, canvas: &mut Canvas) -> Drawn {
     if bar.goes_on() {
         return canvas.mark(Mark::GoesOn, right, middle);
     }
@@ -250,10 +191,7 @@ fn push_bar_end(bar: &Bar, right: u64, middle: u64, canvas: &mut Canvas) -> Draw
 }
 
 /// The points for which bars wait, one line of text each, right of the columns.
-fn push_waits(waits: &[BarWait], sheet: &Sheet, canvas: &mut Canvas) -> Drawn
-    ensures told { told_on canvas.new ≡ told_on canvas.old }
-    ensures waits { OnOk result (waits_on canvas.new ≡ waits_on canvas.old ++ waitings waits.now) }
-{
+fn push_waits(waits: &[BarWait], sheet: &Sheet, canvas: &mut Canvas) -> Drawn {
     let x = sheet.end.saturating_add(PAD * 2);
     let mut bar = usize::MAX;
     let mut y: u64 = 0;
@@ -269,51 +207,33 @@ fn push_waits(waits: &[BarWait], sheet: &Sheet, canvas: &mut Canvas) -> Drawn
     Ok(())
 }
 
-pub(crate) fn push_buffers(history: &History, sheet: &Sheet, canvas: &mut Canvas) -> Drawn
-    ensures told { OnOk result (told_on canvas.new ≡ told_on canvas.old
-        ++ signs_of_all (middle_of sheet.now) (height_of_lane sheet.now) history.now.lanes.marks.items) }
-    ensures waits { waits_on canvas.new ≡ waits_on canvas.old }
-{
+pub(crate) fn push_buffers(history: &History, sheet: &Sheet, canvas: &mut Canvas) -> Drawn {
     push_buffer_lanes(history.lanes.buffers.as_slice(), sheet, canvas)?;
     push_accesses(history.lanes.marks.as_slice(), sheet, canvas)
 }
 
-fn push_buffer_lanes(lanes: &[BufferLane], sheet: &Sheet, canvas: &mut Canvas) -> Drawn
-    ensures told { told_on canvas.new ≡ told_on canvas.old }
-    ensures waits { waits_on canvas.new ≡ waits_on canvas.old }
-{
+fn push_buffer_lanes(lanes: &[BufferLane], sheet: &Sheet, canvas: &mut Canvas) -> Drawn {
     for (place, lane) in lanes.iter().enumerate() {
         push_buffer(sheet, Lane::Buffer(place), lane, canvas)?;
     }
     Ok(())
 }
 
-fn push_accesses(marks: &[BufferMark], sheet: &Sheet, canvas: &mut Canvas) -> Drawn
-    ensures told { OnOk result (told_on canvas.new ≡ told_on canvas.old
-        ++ signs_of_all (middle_of sheet.now) (height_of_lane sheet.now) marks.now) }
-    ensures waits { waits_on canvas.new ≡ waits_on canvas.old }
-{
+fn push_accesses(marks: &[BufferMark], sheet: &Sheet, canvas: &mut Canvas) -> Drawn {
     for mark in marks {
         push_access(sheet, mark, canvas)?;
     }
     Ok(())
 }
 
-fn push_buffer(sheet: &Sheet, here: Lane, lane: &BufferLane, canvas: &mut Canvas) -> Drawn
-    ensures told { told_on canvas.new ≡ told_on canvas.old }
-    ensures waits { waits_on canvas.new ≡ waits_on canvas.old }
-{
+fn push_buffer(sheet: &Sheet, here: Lane, lane: &BufferLane, canvas: &mut Canvas) -> Drawn {
     push_name(sheet, here, &Label::Name(lane.name), canvas)?;
     let left = sheet.middle(lane.made);
     let y = sheet.height_of(here);
     push_level(Stroke::Lane, left, sheet.end, y, canvas)
 }
 
-fn push_access(sheet: &Sheet, access: &BufferMark, canvas: &mut Canvas) -> Drawn
-    ensures told { OnOk result (told_on canvas.new ≡ told_on canvas.old
-        ++ sign_of (middle_of sheet.now) (height_of_lane sheet.now) access.now ∷ []) }
-    ensures waits { waits_on canvas.new ≡ waits_on canvas.old }
-{
+fn push_access(sheet: &Sheet, access: &BufferMark, canvas: &mut Canvas) -> Drawn {
     let x = sheet.middle(access.column);
     let y = sheet.height_of(Lane::Buffer(access.buffer));
     canvas.mark(mark_of(access.access), x, y)?;
@@ -321,10 +241,7 @@ fn push_access(sheet: &Sheet, access: &BufferMark, canvas: &mut Canvas) -> Drawn
     canvas.text(Face::Letter, x, y.saturating_add(FOOT), &letter)
 }
 
-fn mark_of(access: Access) -> Mark
-    ensures value { result ≡ mark_of access }
-    ensures told { is_told_mark result ≡ true }
-{
+fn mark_of(access: Access) -> Mark {
     match access {
         Access::Add(_) => Mark::Add,
         Access::Import(_) => Mark::Import,
@@ -333,22 +250,14 @@ fn mark_of(access: Access) -> Mark
     }
 }
 
-pub(crate) fn push_watches(lanes: &[WatchLane], sheet: &Sheet, canvas: &mut Canvas) -> Drawn
-    ensures told { OnOk result (told_on canvas.new ≡ told_on canvas.old
-        ++ watch_signs_of_all (middle_of sheet.now) (height_of_lane sheet.now) lanes.now) }
-    ensures waits { waits_on canvas.new ≡ waits_on canvas.old }
-{
+pub(crate) fn push_watches(lanes: &[WatchLane], sheet: &Sheet, canvas: &mut Canvas) -> Drawn {
     for (place, lane) in lanes.iter().enumerate() {
         push_watch(sheet, place, lane, canvas)?;
     }
     Ok(())
 }
 
-fn push_watch(sheet: &Sheet, place: usize, lane: &WatchLane, canvas: &mut Canvas) -> Drawn
-    ensures told { OnOk result (told_on canvas.new ≡ told_on canvas.old
-        ++ watch_signs (middle_of sheet.now) (height_of_lane sheet.now) (place, lane.now)) }
-    ensures waits { waits_on canvas.new ≡ waits_on canvas.old }
-{
+fn push_watch(sheet: &Sheet, place: usize, lane: &WatchLane, canvas: &mut Canvas) -> Drawn {
     let here = Lane::Watch(place);
     push_name(sheet, here, &Label::Watch(lane.cookie), canvas)?;
     let left = sheet.middle(lane.made);
@@ -373,10 +282,7 @@ fn end_of_watch(sheet: &Sheet, end: WatchEnd) -> u64 {
 }
 
 /// The mark of a registration; none for a watch that was there before the first column.
-fn push_registered(made: usize, x: u64, y: u64, canvas: &mut Canvas) -> Drawn
-    ensures told { OnOk result (told_on canvas.new ≡ told_on canvas.old ++ registered_sign made x y) }
-    ensures waits { waits_on canvas.new ≡ waits_on canvas.old }
-{
+fn push_registered(made: usize, x: u64, y: u64, canvas: &mut Canvas) -> Drawn {
     if made == 0 {
         return Ok(());
     }
@@ -384,10 +290,7 @@ fn push_registered(made: usize, x: u64, y: u64, canvas: &mut Canvas) -> Drawn
 }
 
 /// The mark of a watch's end.
-fn push_watch_end(sheet: &Sheet, end: WatchEnd, y: u64, canvas: &mut Canvas) -> Drawn
-    ensures told { OnOk result (told_on canvas.new ≡ told_on canvas.old ++ end_sign (middle_of sheet.now) y end) }
-    ensures waits { waits_on canvas.new ≡ waits_on canvas.old }
-{
+fn push_watch_end(sheet: &Sheet, end: WatchEnd, y: u64, canvas: &mut Canvas) -> Drawn {
     match end {
         WatchEnd::Pending => canvas.mark(Mark::GoesOn, sheet.end, y),
         WatchEnd::Fired(column) => canvas.mark(Mark::Fired, sheet.middle(column), y),

@@ -1,7 +1,4 @@
 //! The legend of a picture.
-ghost use Rattle.std.specs.Prelude.{◌≡◌, ◌-◌, ◌∷◌, [], true, flat_map, OnOk};
-ghost use Rattle.picture_core.specs.Legend.{AddsSamples, fills_of_legend, sample_of, top_of_samples};
-ghost use Rattle.picture_core.specs.Shapes.{told_on, is_bar_fill, waits_on};
 
 use crate::history::Access;
 use crate::measure::text_width;
@@ -29,11 +26,7 @@ const MIDDLE: u64 = SIGN / 2 - 4;
 const BESIDE: u64 = 22;
 
 /// Places the legend under the drawing.
-pub(crate) fn push_legend(top: u64, canvas: &mut Canvas) -> Drawn
-    ensures told { OnOk result (AddsSamples (top_of_samples top) fills_of_legend
-        (told_on canvas.old) (told_on canvas.new)) }
-    ensures waits { waits_on canvas.new ≡ waits_on canvas.old }
-{
+pub(crate) fn push_legend(top: u64, canvas: &mut Canvas) -> Drawn {
     let first = [
         Meaning::Pending,
         Meaning::Signalled,
@@ -54,11 +47,7 @@ pub(crate) fn push_legend(top: u64, canvas: &mut Canvas) -> Drawn
     push_meanings(top.saturating_add(SECOND), &second, canvas)
 }
 
-fn push_meanings(y: u64, meanings: &[Meaning], canvas: &mut Canvas) -> Drawn
-    ensures told { OnOk result (AddsSamples (y - HALF_SAMPLE) (flat_map sample_of meanings.now)
-        (told_on canvas.old) (told_on canvas.new)) }
-    ensures waits { waits_on canvas.new ≡ waits_on canvas.old }
-{
+fn push_meanings(y: u64, meanings: &[Meaning], canvas: &mut Canvas) -> Drawn {
     let mut x = PAD;
     for meaning in meanings {
         push_sign(*meaning, x, y, canvas)?;
@@ -75,11 +64,7 @@ fn push_meanings(y: u64, meanings: &[Meaning], canvas: &mut Canvas) -> Drawn
     Ok(())
 }
 
-fn push_sign(meaning: Meaning, x: u64, y: u64, canvas: &mut Canvas) -> Drawn
-    ensures told { OnOk result (AddsSamples (y - HALF_SAMPLE) (sample_of meaning)
-        (told_on canvas.old) (told_on canvas.new)) }
-    ensures waits { waits_on canvas.new ≡ waits_on canvas.old }
-{
+fn push_sign(meaning: Meaning, x: u64, y: u64, canvas: &mut Canvas) -> Drawn {
     match meaning {
         Meaning::Pending => push_sample(Fill::Pending, x, y, canvas),
         Meaning::Signalled => push_sample(Fill::Signalled, x, y, canvas),
@@ -96,18 +81,12 @@ fn push_sign(meaning: Meaning, x: u64, y: u64, canvas: &mut Canvas) -> Drawn
     }
 }
 
-fn push_mark(mark: Mark, x: u64, y: u64, canvas: &mut Canvas) -> Drawn
-    ensures told { OnOk result (AddsSamples (y - HALF_SAMPLE) [] (told_on canvas.old) (told_on canvas.new)) }
-    ensures waits { waits_on canvas.new ≡ waits_on canvas.old }
-{
+fn push_mark(mark: Mark, x: u64, y: u64, canvas: &mut Canvas) -> Drawn {
     canvas.mark(mark, x.saturating_add(MIDDLE), y)
 }
 
 /// The letters in a mark: the usage or the access.
-fn push_letters(x: u64, y: u64, canvas: &mut Canvas) -> Drawn
-    ensures told { OnOk result (AddsSamples (y - HALF_SAMPLE) [] (told_on canvas.old) (told_on canvas.new)) }
-    ensures waits { waits_on canvas.new ≡ waits_on canvas.old }
-{
+fn push_letters(x: u64, y: u64, canvas: &mut Canvas) -> Drawn {
     push_mark(Mark::Add, x, y, canvas)?;
     let kernel = Label::Access(Access::Add(Usage::Kernel));
     canvas.text(
@@ -118,11 +97,7 @@ fn push_letters(x: u64, y: u64, canvas: &mut Canvas) -> Drawn
     )
 }
 
-fn push_sample(fill: Fill, x: u64, y: u64, canvas: &mut Canvas) -> Drawn
-    ensures told { is_bar_fill fill ≡ true →
-        OnOk result (AddsSamples (y - HALF_SAMPLE) (fill ∷ []) (told_on canvas.old) (told_on canvas.new)) }
-    ensures waits { waits_on canvas.new ≡ waits_on canvas.old }
-{
+fn push_sample(fill: Fill, x: u64, y: u64, canvas: &mut Canvas) -> Drawn {
     let at = Spot {
         x,
         y: y.saturating_sub(HALF_SAMPLE),

@@ -10,7 +10,6 @@ mod history;
 mod lanes;
 mod legend;
 mod links;
-mod list;
 mod measure;
 mod picture;
 mod shapes;

@@ -1,7 +1,4 @@
 //! Draws links: arrows from the lanes that a command reads to the one that it makes or changes.
-ghost use Rattle.std.specs.Prelude.{◌≡◌, ◌++◌, true, OnOk};
-ghost use Rattle.picture_core.specs.Shapes.{arrow, arrow_of, arrow_to, arrows_of_all, is_told_mark, room_at, told_on, waits_on};
-ghost use Rattle.picture_core.specs.Sheet.{height_of_lane, middle_of};
 
 use crate::history::{Lane, Link};
 use crate::lanes::HALF_BAR;
@@ -13,11 +10,7 @@ const HALF_SIGN: u64 = 10;
 
 const HALF_WATCH: u64 = 6;
 
-pub(crate) fn push_links(links: &[Link], sheet: &Sheet, canvas: &mut Canvas) -> Drawn
-    ensures told { OnOk result (told_on canvas.new ≡ told_on canvas.old
-        ++ arrows_of_all (middle_of sheet.now) (height_of_lane sheet.now) links.now) }
-    ensures waits { waits_on canvas.new ≡ waits_on canvas.old }
-{
+pub(crate) fn push_links(links: &[Link], sheet: &Sheet, canvas: &mut Canvas) -> Drawn {
     for link in links {
         push_link(sheet, link, canvas)?;
     }
@@ -25,11 +18,7 @@ pub(crate) fn push_links(links: &[Link], sheet: &Sheet, canvas: &mut Canvas) -> 
 }
 
 /// An arrow from the middle of one lane to the edge of the mark on the other.
-fn push_link(sheet: &Sheet, link: &Link, canvas: &mut Canvas) -> Drawn
-    ensures told { OnOk result (told_on canvas.new ≡ told_on canvas.old
-        ++ arrow_of (middle_of sheet.now) (height_of_lane sheet.now) link.now) }
-    ensures waits { waits_on canvas.new ≡ waits_on canvas.old }
-{
+fn push_link(sheet: &Sheet, link: &Link, canvas: &mut Canvas) -> Drawn {
     let x = sheet.middle(link.column);
     let from = sheet.height_of(link.from);
     let to = sheet.height_of(link.to);
@@ -37,10 +26,7 @@ fn push_link(sheet: &Sheet, link: &Link, canvas: &mut Canvas) -> Drawn
 }
 
 /// An arrow to a mark that reaches so far above and below its middle.
-fn push_arrow_to(x: u64, from: u64, to: u64, room: u64, canvas: &mut Canvas) -> Drawn
-    ensures told { OnOk result (told_on canvas.new ≡ told_on canvas.old ++ arrow_to x from to room) }
-    ensures waits { waits_on canvas.new ≡ waits_on canvas.old }
-{
+fn push_arrow_to(x: u64, from: u64, to: u64, room: u64, canvas: &mut Canvas) -> Drawn {
     if from <= to {
         push_arrow(Mark::Down, x, from, to.saturating_sub(room), canvas)
     } else {
@@ -48,20 +34,14 @@ fn push_arrow_to(x: u64, from: u64, to: u64, room: u64, canvas: &mut Canvas) -> 
     }
 }
 
-fn push_arrow(mark: Mark, x: u64, from: u64, end: u64, canvas: &mut Canvas) -> Drawn
-    ensures told { is_told_mark mark ≡ true →
-        OnOk result (told_on canvas.new ≡ told_on canvas.old ++ arrow mark x from end) }
-    ensures waits { waits_on canvas.new ≡ waits_on canvas.old }
-{
+fn push_arrow(mark: Mark, x: u64, from: u64, end: u64, canvas: &mut Canvas) -> Drawn {
     canvas.line(Stroke::Link, &Spot { x, y: from }, &Spot { x, y: end })?;
     canvas.mark(Mark::From, x, from)?;
     canvas.mark(mark, x, end)
 }
 
 /// Half the height of the mark on a lane.
-fn room_at(lane: Lane) -> u64
-    ensures { result ≡ room_at lane }
-{
+fn room_at(lane: Lane) -> u64 {
     match lane {
         Lane::Timeline(_) => 0,
         Lane::Bar(_) => HALF_BAR,

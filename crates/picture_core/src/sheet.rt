@@ -1,13 +1,8 @@
 //! `Sheet`: the layout of a picture: the edges of its columns and the tops of its lanes, in pixels. Columns don't
 //! overlap, and neither do lanes.
-ghost use Rattle.std.specs.Prelude.{◌≡◌, ℕ, ◌+◌, ◌≤◌, All, IfErr, IfOk, get_or, length};
-ghost use Rattle.point_core.specs.declared.refusal.Refusal.TheVariants.{Memory};
-ghost use Rattle.picture_core.specs.Sheet.{AreApart, AreLanes, AreEdges, IsSheetOf, below, end_of_lanes, height_of_bar, height_of_lane, left_of, middle_of, top_of_lane};
 
 use crate::history::{BarWait, Column, History, Lane, ValueStep, WatchLane};
-use crate::list::push;
 use crate::measure::{digits, name_length, text_width, waiting_length};
-use point_core::Refusal;
 use std::alloc::{AllocError, Global};
 
 /// The height of the lines' numbers and words.
@@ -53,10 +48,7 @@ pub(crate) struct Sheet {
 }
 
 impl Sheet {
-    pub(crate) fn of(alloc: Global, history: &History) -> Result<Sheet, Refusal>
-        ensures ok { IfOk result (λ sheet. IsSheetOf history.now sheet) }
-        ensures memory { IfErr result (λ e. e ≡ Memory) }
-    {
+    pub(crate) fn of(alloc: Global, history: &History) -> Result<Sheet, AllocError> {
         let (edges, end) = edges_of(alloc, history)?;
         let (timelines, next) = lanes(HEAD, history.lanes.timelines.len(), TIMELINE);
         let (bars, next) = bars_of(alloc, history, next)?;
@@ -75,28 +67,21 @@ impl Sheet {
     }
 
     /// The left edge of a column.
-    pub(crate) fn left(&self, column: usize) -> u64
-        ensures { result ≡ left_of self.now column }
-    {
+    pub(crate) fn left(&self, column: usize) -> u64 {
         self.edges.get(column).copied().unwrap_or(self.end)
     }
 
     /// The right edge of a column.
-    pub(crate) fn right(&self, column: usize) -> u64
-        ensures { result ≡ left_of self.now (column + 1) }
-    {
+    pub(crate) fn right(&self, column: usize) -> u64 {
         self.left(column.saturating_add(1))
     }
 
     /// The middle of a column. Column 0, before the first, begins at the left edge.
-    pub(crate) fn middle(&self, column: usize) -> u64
-        ensures { result ≡ middle_of self.now column }
-    {
-        let left = self.left(column);
+    pub(crate) fn middle(&self, column: usize) -> u64 {
         if column == 0 {
-            return left;
+            return self.left(0);
         }
-        left.saturating_add(self.right(column).saturating_sub(left) / 2)
+        self.text_middle(column)
     }
 
     /// The middle of the texts in a column; column 0 has room for the state before the first line.
@@ -106,9 +91,7 @@ impl Sheet {
     }
 
     /// The top of a lane.
-    pub(crate) fn top(&self, lane: Lane) -> u64
-        ensures { result ≡ top_of_lane self.now lane }
-    {
+    pub(crate) fn top(&self, lane: Lane) -> u64 {
         match lane {
             Lane::Timeline(place) => below(self.timelines, place, TIMELINE),
             Lane::Bar(place) => self.top_of_bar(place),
@@ -139,9 +122,7 @@ impl Sheet {
     }
 
     /// The y at which links meet a lane.
-    pub(crate) fn height_of(&self, lane: Lane) -> u64
-        ensures { result ≡ height_of_lane self.now lane }
-    {
+    pub(crate) fn height_of(&self, lane: Lane) -> u64 {
         match lane {
             Lane::Timeline(_) => self.top(lane).saturating_add(AXIS),
             Lane::Bar(place) => self.height_of_bar(place),
@@ -151,32 +132,21 @@ impl Sheet {
     }
 
     /// The y of the middle of a bar.
-    pub(crate) fn height_of_bar(&self, place: usize) -> u64
-        ensures { result ≡ height_of_bar self.now place }
-    {
+    pub(crate) fn height_of_bar(&self, place: usize) -> u64 {
         self.top_of_bar(place).saturating_add(BAR / 2)
     }
 
-    fn top_of_bar(&self, place: usize) -> u64
-        ensures { result ≡ get_or self.now.bars.items place self.now.bottom }
-    {
+    fn top_of_bar(&self, place: usize) -> u64 {
         self.bars.get(place).copied().unwrap_or(self.bottom)
     }
 }
 
-fn below(top: u64, place: usize, height: u64) -> u64
-    ensures value { result ≡ below top place height }
-    ensures least { top ≤ result }
-{
+fn below(top: u64, place: usize, height: u64) -> u64 {
     top.saturating_add((place as u64).saturating_mul(height))
 }
 
 /// The top of the first of `count` lanes, and the bottom of the last.
-fn lanes(top: u64, count: usize, height: u64) -> (u64, u64)
-    ensures first { top ≤ result.0 }
-    ensures end { end_of_lanes result.0 count height ≤ result.1 }
-    ensures below { top ≤ result.1 }
-{
+fn lanes(top: u64, count: usize, height: u64) -> (u64, u64) {
     if count == 0 {
         return (top, top);
     }
@@ -185,12 +155,7 @@ fn lanes(top: u64, count: usize, height: u64) -> (u64, u64)
 }
 
 /// The lane of each bar, as high as the texts of its waits, and the bottom of the last.
-fn bars_of(alloc: Global, history: &History, top: u64) -> Result<(Vec<u64>, u64), Refusal>
-    ensures ok { IfOk result (λ lanes. AreLanes history.now lanes.0.items lanes.1) }
-    ensures first { IfOk result (λ lanes. All (λ lane. top ≤ lane) lanes.0.items) }
-    ensures below { IfOk result (λ lanes. top ≤ lanes.1) }
-    ensures memory { IfErr result (λ e. e ≡ Memory) }
-{
+fn bars_of(alloc: Global, history: &History, top: u64) -> Result<(Vec<u64>, u64), AllocError> {
     let heights = heights_of(alloc, history)?;
     if heights.is_empty() {
         return Ok((Vec::new(alloc), top));
@@ -200,10 +165,7 @@ fn bars_of(alloc: Global, history: &History, top: u64) -> Result<(Vec<u64>, u64)
 }
 
 /// The height of each bar's lane.
-fn heights_of(alloc: Global, history: &History) -> Result<Vec<u64>, AllocError>
-    ensures count { IfOk result (λ heights. length heights.items ≡ length history.now.bars.items) }
-    ensures least { IfOk result (λ heights. All (λ height. BAR ≤ height) heights.items) }
-{
+fn heights_of(alloc: Global, history: &History) -> Result<Vec<u64>, AllocError> {
     let mut heights = vec![in alloc; BAR.saturating_sub(LINE); history.bars.len()]?;
     add_lines(heights.as_mut_slice(), history.waits.as_slice());
     raise_all(heights.as_mut_slice());
@@ -219,28 +181,20 @@ fn add_lines(heights: &mut [u64], waits: &[BarWait]) {
     }
 }
 
-fn raise_all(heights: &mut [u64])
-    ensures { All (λ height. BAR ≤ height) heights.new }
-{
+fn raise_all(heights: &mut [u64]) {
     for height in heights.iter_mut() {
         *height = (*height).max(BAR);
     }
 }
 
 /// The left edge of each column, then the right edge of the last, which is also returned by itself.
-fn edges_of(alloc: Global, history: &History) -> Result<(Vec<u64>, u64), Refusal>
-    ensures ok { IfOk result (λ edges. AreEdges history.now edges.0.items edges.1) }
-    ensures memory { IfErr result (λ e. e ≡ Memory) }
-{
+fn edges_of(alloc: Global, history: &History) -> Result<(Vec<u64>, u64), AllocError> {
     let widths = widths_of(alloc, history)?;
     places_of(alloc, names_width(history), widths.as_slice())
 }
 
 /// The width of each column, from column 0 on.
-fn widths_of(alloc: Global, history: &History) -> Result<Vec<u64>, AllocError>
-    ensures count { IfOk result (λ widths. length widths.items ≡ length history.now.columns.items + 1) }
-    ensures least { IfOk result (λ widths. All (λ width. 1 ≤ width) widths.items) }
-{
+fn widths_of(alloc: Global, history: &History) -> Result<Vec<u64>, AllocError> {
     let mut widths = word_widths(alloc, history.columns.as_slice())?;
     for lane in &history.lanes.timelines {
         widen(widths.as_mut_slice(), lane.steps.as_slice());
@@ -248,14 +202,11 @@ fn widths_of(alloc: Global, history: &History) -> Result<Vec<u64>, AllocError>
     Ok(widths)
 }
 
-fn word_widths(alloc: Global, columns: &[Column]) -> Result<Vec<u64>, AllocError>
-    ensures count { IfOk result (λ widths. length widths.items ≡ length columns.now + 1) }
-    ensures least { IfOk result (λ widths. All (λ width. 1 ≤ width) widths.items) }
-{
-    let mut widths = Vec::with_capacity(alloc, columns.len() + 1)?;
-    widths.push_reserved(PAD);
+fn word_widths(alloc: Global, columns: &[Column]) -> Result<Vec<u64>, AllocError> {
+    let mut widths = Vec::with_capacity(alloc, columns.len().saturating_add(1))?;
+    widths.push(PAD)?;
     for column in columns {
-        widths.push_reserved(width_of(column));
+        widths.push(width_of(column))?;
     }
     Ok(widths)
 }
@@ -263,37 +214,26 @@ fn word_widths(alloc: Global, columns: &[Column]) -> Result<Vec<u64>, AllocError
 /// Where parts of these lengths begin, one after another from `first`, and then the end of the last, which is also returned
 /// by itself.
 ///
-/// Fails only with `Memory`, also if a place is too great a number.
-fn places_of(alloc: Global, first: u64, lengths: &[u64]) -> Result<(Vec<u64>, u64), Refusal>
-    ensures count { IfOk result (λ places. length places.0.items ≡ length lengths.now + 1) }
-    ensures apart { IfOk result (λ places. (gap : ℕ) → All (λ l. gap ≤ l) lengths.now → AreApart gap places.0.items) }
-    ensures end { IfOk result (λ places. get_or places.0.items (length lengths.now) 0 ≡ places.1) }
-    ensures first { IfOk result (λ places. All (λ place. first ≤ place) places.0.items) }
-    ensures below { IfOk result (λ places. first ≤ places.1) }
-    ensures memory { IfErr result (λ e. e ≡ Memory) }
-{
+/// Fails if memory is refused, and if a place is too great a number.
+fn places_of(alloc: Global, first: u64, lengths: &[u64]) -> Result<(Vec<u64>, u64), AllocError> {
     let mut places = Vec::new(alloc);
     let mut next = first;
     for length in lengths {
-        push(&mut places, next)?;
-        next = next.checked_add(*length).ok_or(Refusal::Memory)?;
+        places.push(next)?;
+        next = next.checked_add(*length).ok_or(AllocError)?;
     }
-    push(&mut places, next)?;
+    places.push(next)?;
     Ok((places, next))
 }
 
 /// The width of a column that fits its line's number and word.
-fn width_of(column: &Column) -> u64
-    ensures { 1 ≤ result }
-{
+fn width_of(column: &Column) -> u64 {
     let length = digits(u64::from(column.line)).max(column.word.len() as u64);
     NARROW.max(text_width(length).saturating_add(BESIDE))
 }
 
 /// Widens the columns until the values of a timeline fit.
-fn widen(widths: &mut [u64], steps: &[ValueStep])
-    ensures { All (λ width. 1 ≤ width) widths.old → All (λ width. 1 ≤ width) widths.new }
-{
+fn widen(widths: &mut [u64], steps: &[ValueStep]) {
     for step in steps {
         let width = text_width(digits(step.value)).saturating_add(BESIDE);
         widen_one(widths, step.column, width);
@@ -301,11 +241,9 @@ fn widen(widths: &mut [u64], steps: &[ValueStep])
 }
 
 /// Widens a column to at least this width.
-fn widen_one(widths: &mut [u64], column: usize, width: u64)
-    ensures { All (λ w. 1 ≤ w) widths.old → All (λ w. 1 ≤ w) widths.new }
-{
-    if column < widths.len() {
-        widths[column] = widths[column].max(width);
+fn widen_one(widths: &mut [u64], column: usize, width: u64) {
+    if let Some(narrow) = widths.get_mut(column) {
+        *narrow = (*narrow).max(width);
     }
 }
 
