@@ -1,10 +1,2 @@
-mod Active
-mod Edges
-mod Entering
-mod Lanes
 mod Lines
-mod Picturing
-mod Showing
 mod Spelling
-mod Staying
-mod Waits

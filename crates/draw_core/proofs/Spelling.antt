@@ -4,7 +4,7 @@ use Rattle.std.specs.Prelude.{⊤, ◌==◌, IfSome, codes}
 use Rattle.std.specs.Str.Parse.{AllDigits, without_leading_plus}
 use Rattle.std.proofs.lemmas.Str.Parse.{digit_from_value}
 use Rattle.draw_core.specs.declared.window.Window.{Window}
-use Rattle.draw_core.specs.Columns.{HasLines, Spells, SpellsLines, SpellsNumber}
+use Rattle.draw_core.specs.Spelling.{HasLines, Spells, SpellsLines, SpellsNumber}
 
 -- no byte is a dot
 abbrev HasNoDot : List ℕ → Type 0

@@ -1,10 +1,4 @@
-pub mod Beside
-pub mod Columns
-pub mod Drawn
-pub mod Entered
-pub mod Found
-pub mod Pictured
 pub mod Progress
 pub mod Refused
 pub mod Shown
-pub mod Waiting
+pub mod Spelling

@@ -2,7 +2,6 @@
 ghost use Rattle.std.specs.Prelude.{◌≡◌, IfErr, IfOk};
 ghost use Rattle.point_core.specs.declared.refusal.Refusal.TheVariants.{Memory};
 ghost use Rattle.line_core.specs.Script.{script_of};
-ghost use Rattle.draw_core.specs.Pictured.{ShowsScript};
 ghost use Rattle.draw_core.specs.Refused.{HasRefused, drawing_refused};
 
 use crate::note::Explain;
@@ -31,7 +30,6 @@ impl Drawing {
         reasons: &mut X,
     ) -> Result<Drawing, Refusal>
         ensures memory { IfErr result (λ e. e ≡ Memory) }
-        ensures shown { IfOk result (λ drawing. ShowsScript window.now (script_of script.now) drawing.run.history drawing.picture) }
         ensures refused { IfOk result (λ drawing. HasRefused window.now (script_of script.now) (drawing_refused drawing)) }
     {
         let run = Run::of(alloc, script, window, reasons)?;

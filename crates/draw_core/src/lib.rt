@@ -13,9 +13,7 @@ mod texts;
 mod waiting;
 mod window;
 
-pub use asking::{ask, ask_all};
 pub use drawing::Drawing;
 pub use note::{Explain, RefusedLine};
 pub use run::{COLUMNS, Run, count_lines};
-pub use waiting::{waiting_for, waiting_on};
 pub use window::Window;

@@ -1,18 +1,48 @@
-//! How far a pending file's points are from being reached.
-ghost use Rattle.std.specs.Prelude.{◌≡◌, IfSome, is_some};
-ghost use Rattle.draw_core.specs.Drawn.{IsToGo, IsWaitingFor};
-ghost use Rattle.draw_core.specs.Found.{is_waited_for};
-ghost use Rattle.draw_core.specs.Waiting.{is_to_come};
-
+//! How far the points for which something waits are from being reached.
 use desk_core::Desk;
-use picture_core::Waiting;
+use picture_core::{Bar, BarWait, Waiting};
 use point_core::{Name, Point};
+use std::alloc::{AllocError, Global};
+
+/// The points for which the files of bars wait, from bar to bar.
+pub(crate) fn waits_of(
+    alloc: Global,
+    desk: &Desk,
+    bars: &[Bar],
+) -> Result<Vec<BarWait>, AllocError> {
+    let mut waits = Vec::new(alloc);
+    for (place, bar) in bars.iter().enumerate() {
+        if bar.goes_on() {
+            push_waits(desk, place, points_listed(desk, &bar.name), &mut waits)?;
+        }
+    }
+    Ok(waits)
+}
+
+fn push_waits(
+    desk: &Desk,
+    bar: usize,
+    points: &[Point],
+    waits: &mut Vec<BarWait>,
+) -> Result<(), AllocError> {
+    for point in points {
+        if let Some(waiting) = waiting_for(desk, point) {
+            waits.push(BarWait { bar, waiting })?;
+        }
+    }
+    Ok(())
+}
+
+/// The points that a file lists; none if there is no such file.
+pub(crate) fn points_listed<'a>(desk: &'a Desk, file: &Name) -> &'a [Point] {
+    match desk.file_points(file) {
+        Some(points) => points,
+        None => &[],
+    }
+}
 
 /// How far a point is from being reached. None for a point that is reached or cancelled.
-pub fn waiting_for(desk: &Desk, point: &Point) -> Option<Waiting>
-    ensures waits { IfSome result (λ waiting. IsWaitingFor desk.now point.now waiting) }
-    ensures some { is_some result ≡ is_waited_for desk.now.timelines point.now }
-{
+pub(crate) fn waiting_for(desk: &Desk, point: &Point) -> Option<Waiting> {
     let timeline = desk.timeline_name(point.ctx)?;
     if desk.point_status(*point).is_signalled() {
         return None;
@@ -21,10 +51,7 @@ pub fn waiting_for(desk: &Desk, point: &Point) -> Option<Waiting>
 }
 
 /// How far a timeline is from a value. None if the timeline has reached it.
-pub fn waiting_on(desk: &Desk, timeline: &Name, point: u64) -> Option<Waiting>
-    ensures waits { IfSome result (λ waiting. IsToGo desk.now timeline.now point waiting) }
-    ensures some { is_some result ≡ is_to_come desk.now.timelines timeline.now point }
-{
+pub(crate) fn waiting_on(desk: &Desk, timeline: &Name, point: u64) -> Option<Waiting> {
     let value = desk.timeline_value(timeline)?;
     let to_go = point.saturating_sub(value);
     if to_go == 0 {

@@ -1,7 +1,7 @@
 //! `Window`: the range of lines that are drawn.
 ghost use Rattle.std.specs.Prelude.{◌≡◌, ℕ, ◌+◌, ◌-◌, ◌++◌, ◌^◌, min, List, codes, IfSome, MatchOption, Some};
 ghost use Rattle.draw_core.specs.declared.window.Window.{Window as WindowModel};
-ghost use Rattle.draw_core.specs.Columns.{HasLines, Spells, SpellsLines, SpellsNumber, is_in_window};
+ghost use Rattle.draw_core.specs.Spelling.{HasLines, Spells, SpellsLines, SpellsNumber, is_in_window};
 
 /// The lines from `first` to `last`, both included.
 #[derive(Clone, Copy)]

@@ -1,24 +1,10 @@
--- The lines that have a column.
-use Rattle.std.specs.Prelude.{◌≡◌, ◌<◌, ◌≤◌, ◌^◌, ℕ, Bool, ◌&&◌, nat_le, List, ◌++◌, map, filter, codes}
+-- The window that a text spells.
+use Rattle.std.specs.Prelude.{◌≡◌, ◌<◌, ◌≤◌, ◌^◌, ℕ, Bool, ◌&&◌, nat_le, List, ◌++◌, codes}
 use Rattle.std.specs.Str.Parse.{IsNumeral, digits_value, without_leading_plus}
-use Rattle.line_core.specs.declared.line.Line.{Line}
 use Rattle.draw_core.specs.declared.window.Window.{Window}
-use Rattle.picture_core.specs.declared.history.Column.{Column}
 
 abbrev pub is_in_window : Window → ℕ → Bool
 is_in_window window line = nat_le window.first line && nat_le line window.last
-
--- the numbers of the lines that are drawn
-abbrev pub drawn_lines : Window → List Line → List ℕ
-drawn_lines window lines = filter (is_in_window window) (map (λ (l : Line). l.number) lines)
-
--- the line of each column
-abbrev pub lines_drawn : List Column → List ℕ
-lines_drawn columns = map (λ (c : Column). c.line) columns
-
--- whether each column is marked as refused
-abbrev pub marks_of : List Column → List Bool
-marks_of columns = map (λ (c : Column). c.refused) columns
 
 -- the number that decimal digits spell, after a plus or not
 abbrev pub spelled : List ℕ → ℕ
