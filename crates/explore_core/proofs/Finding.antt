@@ -2,9 +2,11 @@
 use Rattle.std.proofs.Common.{◌≡◌, ◌⊎◌, ℕ, zero, suc, ◌+◌, ◌<◌, ◌≤◌, refl, sym, ap, ◌∙◌, subst, List, [], ◌∷◌, ◌++◌, length, take, Option, None, Some, option_map, unwrap_or, if◌then◌else◌, slice_get, get_or, arith, inl, inr, Contains}
 use Rattle.std.specs.Prelude.{All, IsSome, Vec}
 use Rattle.std.specs.Global.{Global}
+use Rattle.std.specs.List.{AllPairs}
 use Rattle.std.proofs.lemmas.Bool.{cases_lt, false≢true}
 use Rattle.std.proofs.lemmas.List.Elements.{All-get_or, All-nil, All-cons, All-head, All-tail, All-push, All-append, All-weaker, All-contains, Contains-append_left, Contains-append_right}
 use Rattle.std.proofs.lemmas.List.{append-nil, append_assoc, map-append, length-map, get_or-map, take_more}
+use Rattle.std.proofs.lemmas.List.Quantifiers.{all_pairs_push}
 use Rattle.std.proofs.lemmas.Option.{same_Some, none-some}
 use Rattle.command_core.specs.declared.answer.Answer.{Answer}
 use Rattle.command_core.specs.declared.command.Command.{Command}
@@ -14,9 +16,9 @@ use Rattle.explore_core.specs.declared.found.Given.{Given}
 use Rattle.explore_core.specs.declared.state.State.{State}
 use Rattle.explore_core.specs.declared.search.Move.{Move}
 use Rattle.explore_core.specs.declared.search.Move.TheVariants as move
-use Rattle.explore_core.specs.Found.{CanBeExplored, Lists, stuck_of}
+use Rattle.explore_core.specs.Found.{CanBeExplored, IsOther, Lists, stuck_of}
 use Rattle.explore_core.specs.Schedule.{Lines, Standing, Schedule, answer_now, history_along, beginning, lines_of, next_line, made_by, after_line, made_line, after_one, ComesTo, IsStuck, IsAnswered, IsEndAnswered}
-use Rattle.explore_core.specs.Search.{Seen, is_asked, standing_of, standing_at, states_of, Answers, HasLike, Grows, Extends, IsState, IsSeen, Keeps, Records, IsGiven, IsVisited, IsFollowed, IsTried, AreTried, IsMove, AreMoves, together, HasEnds, EndsAre, IsEnd, AreEndsListed}
+use Rattle.explore_core.specs.Search.{Seen, LevelState, is_asked, standing_of, standing_at, states_of, Answers, HasLike, Grows, Extends, IsState, IsSeen, Keeps, Records, IsGiven, IsVisited, IsFollowed, IsTried, AreTried, IsMove, AreMoves, together, HasEnds, EndsAre, IsEnd, AreEndsListed}
 use Rattle.explore_core.proofs.Levels.{go-on-refl}
 use Rattle.explore_core.proofs.Scheduling.{Leads-is, Leads-push}
 use Rattle.explore_core.proofs.Showing.{same-state}
@@ -44,9 +46,25 @@ All-grow {old} P records is all = elim records [
   | inr more ↦ subst (All P) (sym more.1) (All-push P old more.0 all (is more.0 more.2))
 ]
 
+pub get_or-any : {X : Type 0} (xs : List X) (i : ℕ) (d e : X) → i < length xs → get_or xs i d ≡ get_or xs i e
+get_or-any [] i d e low = absurd (omega (arith, low))
+get_or-any (x ∷ xs) zero d e low = refl
+get_or-any (x ∷ xs) (suc i) d e low = get_or-any xs i d e (omega (arith, low))
+
+Once-grow : {old new : List Given} {client place : ℕ} {answer : Answer} {schedule : Schedule} → Records old new client place answer schedule → AllPairs IsOther old → AllPairs IsOther new
+Once-grow {old} records once = elim records [
+  | inl same ↦ subst (AllPairs IsOther) (sym same) once
+  | inr more ↦ subst (AllPairs IsOther) (sym more.1) (all_pairs_push IsOther old more.0 once (λ k d few client_is place_is answer_is.
+      let g = get_or old k d in
+      let is = more.2 in
+      more.3 (g, (k, few, get_or-any old k g d few), client_is ∙ is.client_is, place_is ∙ is.place_is, answer_is ∙ is.answer_is)))
+]
+
 pub Grows-given : (plan : Lines) (depth : ℕ) (old new : Found) (client place : ℕ) (answer : Answer) (schedule : Schedule) → Records old.given.items new.given.items client place answer schedule
-    → IsAnswered plan schedule client place answer → new.ended ≡ old.ended → new.stuck ≡ old.stuck → Grows plan depth old new
-Grows-given plan depth old new client place answer schedule records comes ended stuck = record {
+    → IsAnswered plan schedule client place answer → new.ended ≡ old.ended → new.stuck ≡ old.stuck → new.states ≡ old.states → Grows plan depth old new
+Grows-given plan depth old new client place answer schedule records comes ended stuck states = record {
+  once = λ o. record { given = Once-grow records o.given; ended = rw ended o.ended };
+  states = states;
   shown = λ t. record {
     given = All-grow (λ (g : Given). IsAnswered plan g.schedule.items g.client g.place g.answer) records
         (λ g is. rw (is.schedule_is, is.client_is, is.place_is, is.answer_is) comes) t.given;
@@ -83,12 +101,17 @@ All-states plan depth [] all = All-nil (IsState plan depth)
 All-states plan depth (s ∷ seen) all =
     All-cons (IsState plan depth) s.state (states_of seen) (All-head (IsSeen plan depth) s seen all).state (All-states plan depth seen (All-tail (IsSeen plan depth) s seen all))
 
-pub Extends-kept : {plan : Lines} {depth : ℕ} {old new : List Seen} {seen : Seen} → Keeps old seen new → IsSeen plan depth seen → Extends plan depth old new
-Extends-kept {plan} {depth} {old} {new} {seen} keeps is = elim keeps [
-  | inl same ↦ record { seen = λ all. subst (All (IsSeen plan depth)) (sym same.0) all; alike = λ now has. subst (λ (all : List Seen). HasLike plan (states_of all) now) (sym same.0) has }
+pub Extends-kept : {plan : Lines} {depth : ℕ} {old new : LevelState} {seen : Seen} → Keeps old.seen seen new.seen → new.room ≡ old.room → IsSeen plan depth seen → Extends plan depth old new
+Extends-kept {plan} {depth} {old} {new} {seen} keeps room is = elim keeps [
+  | inl same ↦ record {
+    seen = λ all. subst (All (IsSeen plan depth)) (sym same.0) all;
+    alike = λ now has. subst (λ (all : List Seen). HasLike plan (states_of all) now) (sym same.0) has;
+    room = room;
+  }
   | inr more ↦ record {
-    seen = λ all. subst (All (IsSeen plan depth)) (sym more) (All-push (IsSeen plan depth) old seen all is);
-    alike = λ now has. subst (λ states. HasLike plan states now) (sym (ap states_of more ∙ states-push old seen)) (has.0, Contains-append_left (states_of old) (seen.state ∷ []) has.0 has.1, has.2);
+    seen = λ all. subst (All (IsSeen plan depth)) (sym more) (All-push (IsSeen plan depth) old.seen seen all is);
+    alike = λ now has. subst (λ states. HasLike plan states now) (sym (ap states_of more ∙ states-push old.seen seen)) (has.0, Contains-append_left (states_of old.seen) (seen.state ∷ []) has.0 has.1, has.2);
+    room = room;
   }
 ]
 
@@ -138,8 +161,8 @@ IsFollowed-made plan found next now client place given after a goes lists has = 
   kept = λ later is. subst (HasLike plan next) (same_Some after later (sym goes ∙ is)) has;
 }
 
-pub IsFollowed-grows : {plan : Lines} {depth deeper : ℕ} {old new : Found} {next more : List Seen} (now : Standing) (client : ℕ) → Grows plan depth old new → Extends plan deeper next more
-    → IsFollowed plan old (states_of next) now client → IsFollowed plan new (states_of more) now client
+pub IsFollowed-grows : {plan : Lines} {depth deeper : ℕ} {old new : Found} {next more : LevelState} (now : Standing) (client : ℕ) → Grows plan depth old new → Extends plan deeper next more
+    → IsFollowed plan old (states_of next.seen) now client → IsFollowed plan new (states_of more.seen) now client
 IsFollowed-grows now client g x f = record {
   listed = λ place answer a. g.given client place answer (f.listed place answer a);
   kept = λ later goes. x.alike later (f.kept later goes);
@@ -178,13 +201,13 @@ module _ (plan : Lines) (now : Standing) (n : ℕ) where
     | inr same ↦ subst (λ c. next_line plan now c ≡ None) (sym same) is
   ]
 
-pub AreTried-push : {plan : Lines} {depth deeper : ℕ} {old new : Found} {next more : List Seen} {state : State} {n : ℕ} {moves one : Move}
-    → AreTried plan old (states_of next) state n moves → Grows plan depth old new → Extends plan deeper next more → IsTried plan new (states_of more) state n one
-    → AreTried plan new (states_of more) state (n + 1) (together moves one)
+pub AreTried-push : {plan : Lines} {depth deeper : ℕ} {old new : Found} {next more : LevelState} {state : State} {n : ℕ} {moves one : Move}
+    → AreTried plan old (states_of next.seen) state n moves → Grows plan depth old new → Extends plan deeper next more → IsTried plan new (states_of more.seen) state n one
+    → AreTried plan new (states_of more.seen) state (n + 1) (together moves one)
 AreTried-push {plan} {depth} {deeper} {old} {new} {next} {more} {state} {n} {moves} {one} before g x last = record {
   followed = λ client few. elim (below client n few) [
     | inl less ↦ IsFollowed-grows (standing_at plan state) client g x (before.followed client less)
-    | inr is ↦ subst (IsFollowed plan new (states_of more) (standing_at plan state)) (sym is) last.followed
+    | inr is ↦ subst (IsFollowed plan new (states_of more.seen) (standing_at plan state)) (sym is) last.followed
   ];
   are = moves-push plan (standing_at plan state) n moves one before.are last.is;
 }
@@ -276,12 +299,14 @@ module _ (plan : Lines) (depth : ℕ) (old found : Found) (next : List State) (s
 
 -- a schedule that gets stuck is shown
 
-pub Grows-stuck : (plan : Lines) (depth : ℕ) (old new : Found) (shown : Vec ℕ Global) (now : Standing) → old.stuck ≡ None → new.stuck ≡ Some shown → new.given ≡ old.given → new.ended ≡ old.ended
+pub Grows-stuck : (plan : Lines) (depth : ℕ) (old new : Found) (shown : Vec ℕ Global) (now : Standing) → old.stuck ≡ None → new.stuck ≡ Some shown → new.given ≡ old.given → new.ended ≡ old.ended → new.states ≡ old.states
     → ComesTo plan shown.items now → IsStuck plan now → length shown.items ≡ depth → Grows plan depth old new
-Grows-stuck plan depth old new shown now none is given ended comes stuck deep =
+Grows-stuck plan depth old new shown now none is given ended states comes stuck deep =
     let items : Option (Vec ℕ Global) → Option (List ℕ) = option_map (λ (v : Vec ℕ Global). v.items) in
     record {
       shown = λ t. record { given = rw given t.given; ended = rw ended t.ended; stuck = rw is (now, comes, stuck) };
+      once = λ o. record { given = rw given o.given; ended = rw ended o.ended };
+      states = states;
       given = λ c p a lists. rw given lists;
       ended = λ c p a lists. rw ended lists;
       stuck = λ s was. absurd (none-some s (sym (ap items none) ∙ was));
@@ -294,26 +319,32 @@ abbrev EndAt : Lines → List Command → ℕ → Command → Answer
 EndAt plan history place command = answer_now (history_along history (take place plan.last)) command
 
 pub EndsAre-refl : (plan : Lines) (history : List Command) (schedule : Schedule) (ended : List Given) → EndsAre plan history schedule ended ended
-EndsAre-refl plan history schedule ended = record { added = []; is = sym (append-nil ended); ends = All-nil (IsEnd plan history schedule) }
+EndsAre-refl plan history schedule ended = record { once = λ o. o; added = []; is = sym (append-nil ended); ends = All-nil (IsEnd plan history schedule) }
 
-pub EndsAre-push : {plan : Lines} {history : List Command} {schedule : Schedule} {first old new : List Given} {client place : ℕ} {answer : Answer} (command : Command)
-    → EndsAre plan history schedule first old → Records old new client place answer schedule → slice_get plan.last place ≡ Some command → answer ≡ EndAt plan history place command → EndsAre plan history schedule first new
-EndsAre-push {plan} {history} {schedule} {first} {old} {new} {client} {place} {answer} command before records at is = elim records [
-  | inl same ↦ record { added = before.added; is = same ∙ before.is; ends = before.ends }
+ends-pushed : {plan : Lines} {history : List Command} {schedule : Schedule} {first old new : List Given} {client place : ℕ} {answer : Answer} (command : Command)
+    → EndsAre plan history schedule first old → Records old new client place answer schedule → slice_get plan.last place ≡ Some command → answer ≡ EndAt plan history place command
+    → (added : List Given) × (new ≡ first ++ added) × All (IsEnd plan history schedule) added
+ends-pushed {plan} {history} {schedule} {first} {old} {new} {client} {place} {answer} command before records at is = elim records [
+  | inl same ↦ (before.added, same ∙ before.is, before.ends)
   | inr more ↦ (
       let g = more.0 in
-      let given = more.2 in
-      record {
-        added = before.added ++ g ∷ [];
-        is = more.1 ∙ ap (λ gs. gs ++ g ∷ []) before.is ∙ append_assoc first before.added (g ∷ []);
-        ends = All-push (IsEnd plan history schedule) before.added g before.ends (record {
+      let given = more.2 in (
+        before.added ++ g ∷ [],
+        more.1 ∙ ap (λ gs. gs ++ g ∷ []) before.is ∙ append_assoc first before.added (g ∷ []),
+        All-push (IsEnd plan history schedule) before.added g before.ends (record {
           schedule_is = given.schedule_is;
           command = command;
           at = ap (slice_get plan.last) given.place_is ∙ at;
           answer = given.answer_is ∙ is ∙ ap (λ p. EndAt plan history p command) (sym given.place_is);
-        });
-      })
+        }),
+      ))
 ]
+
+pub EndsAre-push : {plan : Lines} {history : List Command} {schedule : Schedule} {first old new : List Given} {client place : ℕ} {answer : Answer} (command : Command)
+    → EndsAre plan history schedule first old → Records old new client place answer schedule → slice_get plan.last place ≡ Some command → answer ≡ EndAt plan history place command → EndsAre plan history schedule first new
+EndsAre-push command before records at is =
+    let pushed = ends-pushed command before records at is in
+    record { once = λ o. Once-grow records (before.once o); added = pushed.0; is = pushed.1; ends = pushed.2 }
 
 pub AreEndsListed-push : (plan : Lines) {history : List Command} {old new : List Given} {place : ℕ} {answer : Answer} {schedule : Schedule} (command : Command)
     → AreEndsListed plan history old place → Records old new (length plan.clients) place answer schedule → Lists new (length plan.clients) place answer
@@ -327,8 +358,10 @@ AreEndsListed-push plan {history} {old} {new} {place} {answer} command before re
 ]
 
 pub Grows-ended : (plan : Lines) (depth : ℕ) (old new : Found) (now : Standing) (schedule : Schedule) → EndsAre plan now.history schedule old.ended.items new.ended.items
-    → ComesTo plan schedule now → ((client : ℕ) → next_line plan now client ≡ None) → new.given ≡ old.given → new.stuck ≡ old.stuck → Grows plan depth old new
-Grows-ended plan depth old new now schedule ends comes done given stuck = record {
+    → ComesTo plan schedule now → ((client : ℕ) → next_line plan now client ≡ None) → new.given ≡ old.given → new.stuck ≡ old.stuck → new.states ≡ old.states → Grows plan depth old new
+Grows-ended plan depth old new now schedule ends comes done given stuck states = record {
+  once = λ o. record { given = rw given o.given; ended = ends.once o.ended };
+  states = states;
   shown = λ t. record {
     given = rw given t.given;
     ended =
@@ -346,7 +379,7 @@ Grows-ended plan depth old new now schedule ends comes done given stuck = record
   soon = λ soon shown is. soon shown (sym (ap (option_map (λ (v : Vec ℕ Global). v.items)) stuck) ∙ is);
 }
 
-past-within : {X : Type 0} (xs : List X) (k : ℕ) (x : X) → slice_get xs k ≡ Some x → k < length xs
+pub past-within : {X : Type 0} (xs : List X) (k : ℕ) (x : X) → slice_get xs k ≡ Some x → k < length xs
 past-within [] k x at = absurd (none-some x at)
 past-within (y ∷ xs) zero x at = omega arith
 past-within (y ∷ xs) (suc k) x at = let rest = past-within xs k x at in omega (arith, rest)

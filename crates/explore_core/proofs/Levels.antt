@@ -1,7 +1,6 @@
 -- Level by level, all schedules are covered.
-use Rattle.std.proofs.Common.{◌≡◌, ℕ, zero, suc, ◌+◌, ◌<◌, ◌≤◌, Bool, refl, sym, ap, ◌∙◌, subst, List, [], ◌∷◌, ◌++◌, length, length-take, take, Option, None, Some, slice_get, get_or, option_map, arith, inl, inr}
-use Rattle.std.specs.Prelude.{All, Vec}
-use Rattle.std.specs.Global.{Global}
+use Rattle.std.proofs.Common.{◌≡◌, ℕ, zero, suc, ◌+◌, ◌<◌, ◌≤◌, Bool, refl, sym, ap, ◌∙◌, subst, List, [], ◌∷◌, ◌++◌, length, length-take, take, None, Some, slice_get, get_or, arith, inl, inr}
+use Rattle.std.specs.Prelude.{All}
 use Rattle.std.specs.List.{AllZip}
 use Rattle.std.proofs.lemmas.Bool.{cases_lt}
 use Rattle.std.proofs.lemmas.List.Elements.{All-nil, All-cons, All-head, All-tail, All-contains}
@@ -19,7 +18,7 @@ use Rattle.explore_core.specs.Alike.{AsksOnly, AreAlike, IsSameWatch}
 use Rattle.explore_core.specs.Covering.{MayAsk, GoOnAlike}
 use Rattle.explore_core.specs.Found.{CanBeExplored, IsTrue, IsAll, stuck_of}
 use Rattle.explore_core.specs.Schedule.{Lines, Standing, Schedule, answer_now, history_with, history_along, beginning, after_one, ComesTo, IsStuck, IsAnswered, IsEndAnswered}
-use Rattle.explore_core.specs.Search.{Seen, is_asked, standing_of, standing_at, states_of, HasLike, Grows, Extends, IsState, IsListed, IsVisited, IsCovered, IsEmptyFound}
+use Rattle.explore_core.specs.Search.{LevelState, is_asked, standing_of, standing_at, states_of, HasLike, Grows, Extends, IsState, IsListed, IsVisited, IsCovered, IsEmptyFound}
 use Rattle.explore_core.proofs.Answering.{same_answer}
 use Rattle.explore_core.proofs.Asking.{may-ask}
 use Rattle.explore_core.proofs.Staying.{alike-answered}
@@ -31,6 +30,8 @@ use Rattle.explore_core.proofs.Scheduling.{Leads-is, Leads-split, comes-before, 
 pub Grows-refl : (plan : Lines) (depth : ℕ) (found : Found) → Grows plan depth found found
 Grows-refl plan depth found = record {
   shown = λ t. t;
+  once = λ o. o;
+  states = refl;
   given = λ client place answer h. h;
   ended = λ client place answer h. h;
   stuck = λ shown h. h;
@@ -40,17 +41,19 @@ Grows-refl plan depth found = record {
 pub Grows-trans : {plan : Lines} {depth : ℕ} {a b c : Found} → Grows plan depth a b → Grows plan depth b c → Grows plan depth a c
 Grows-trans g h = record {
   shown = λ t. h.shown (g.shown t);
+  once = λ o. h.once (g.once o);
+  states = h.states ∙ g.states;
   given = λ client place answer l. h.given client place answer (g.given client place answer l);
   ended = λ client place answer l. h.ended client place answer (g.ended client place answer l);
   stuck = λ shown is. h.stuck shown (g.stuck shown is);
   soon = λ s. h.soon (g.soon s);
 }
 
-pub Extends-refl : (plan : Lines) (depth : ℕ) (seen : List Seen) → Extends plan depth seen seen
-Extends-refl plan depth seen = record { seen = λ all. all; alike = λ now has. has }
+pub Extends-refl : (plan : Lines) (depth : ℕ) (level : LevelState) → Extends plan depth level level
+Extends-refl plan depth level = record { seen = λ all. all; alike = λ now has. has; room = refl }
 
-pub Extends-trans : {plan : Lines} {depth : ℕ} {a b c : List Seen} → Extends plan depth a b → Extends plan depth b c → Extends plan depth a c
-Extends-trans g h = record { seen = λ all. h.seen (g.seen all); alike = λ now has. h.alike now (g.alike now has) }
+pub Extends-trans : {plan : Lines} {depth : ℕ} {a b c : LevelState} → Extends plan depth a b → Extends plan depth b c → Extends plan depth a c
+Extends-trans g h = record { seen = λ all. h.seen (g.seen all); alike = λ now has. h.alike now (g.alike now has); room = h.room ∙ g.room }
 
 pub IsListed-grows : {plan : Lines} {depth : ℕ} {old new : Found} {now : Standing} → Grows plan depth old new → IsListed plan old now → IsListed plan new now
 IsListed-grows {plan} g l = record {
@@ -59,23 +62,12 @@ IsListed-grows {plan} g l = record {
   stuck = λ is. let shown = l.stuck is in (shown.0, g.stuck shown.0 shown.1);
 }
 
-pub IsVisited-grows : {plan : Lines} {depth deeper : ℕ} {old new : Found} {next more : List Seen} (state : State) → Grows plan depth old new → Extends plan deeper next more
-    → IsVisited plan old (states_of next) state → IsVisited plan new (states_of more) state
+pub IsVisited-grows : {plan : Lines} {depth deeper : ℕ} {old new : Found} {next more : LevelState} (state : State) → Grows plan depth old new → Extends plan deeper next more
+    → IsVisited plan old (states_of next.seen) state → IsVisited plan new (states_of more.seen) state
 IsVisited-grows state g x v = record {
   listed = IsListed-grows g v.listed;
   expanded = λ client later goes. x.alike later (v.expanded client later goes);
 }
-
-pub Grows-same : (plan : Lines) (depth : ℕ) (old new : Found) → new.given ≡ old.given → new.ended ≡ old.ended → new.stuck ≡ old.stuck → Grows plan depth old new
-Grows-same plan depth old new given ended stuck =
-    let items : Option (Vec ℕ Global) → Option (List ℕ) = option_map (λ (v : Vec ℕ Global). v.items) in
-    record {
-      shown = λ t. record { given = rw given t.given; ended = rw ended t.ended; stuck = rw stuck t.stuck };
-      given = λ c p a lists. rw given lists;
-      ended = λ c p a lists. rw ended lists;
-      stuck = λ shown is. ap items stuck ∙ is;
-      soon = λ soon shown is. soon shown (sym (ap items stuck) ∙ is);
-    }
 
 -- a standing goes on as itself
 

@@ -15,3 +15,5 @@ pub mod SameAnswers
 pub mod Visiting
 pub mod Replaying
 pub mod Parting
+pub mod Recording
+pub mod Counting

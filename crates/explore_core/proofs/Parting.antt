@@ -9,7 +9,7 @@ use Rattle.explore_core.specs.declared.parts.Parts.{Parts}
 use Rattle.explore_core.specs.declared.parts.Places.{Places}
 use Rattle.explore_core.specs.declared.state.State.{State}
 use Rattle.explore_core.specs.Search.{Look, Seen, Begins, no_file, file_at, look_of, Fits, IsGrown, AreSamePlaces, AreSameLooks, HasSame, Keeps, seen_in, states_of}
-use Rattle.explore_core.proofs.Finding.{All-next}
+use Rattle.explore_core.proofs.Finding.{All-next, get_or-any}
 
 -- a list that grows
 
@@ -44,11 +44,6 @@ place-at (y ∷ ys) (suc i) x d at = let rest = place-at ys i x d at in (omega (
 pub pushed-at : {X : Type 0} (xs : List X) (x : X) → slice_get (xs ++ x ∷ []) (length xs) ≡ Some x
 pushed-at [] x = refl
 pushed-at (y ∷ ys) x = pushed-at ys x
-
-get_or-any : {X : Type 0} (xs : List X) (i : ℕ) (d e : X) → i < length xs → get_or xs i d ≡ get_or xs i e
-get_or-any [] i d e low = absurd (omega (arith, low))
-get_or-any (x ∷ xs) zero d e low = refl
-get_or-any (x ∷ xs) (suc i) d e low = get_or-any xs i d e (omega (arith, low))
 
 -- places one after another
 

@@ -1,7 +1,7 @@
 -- What compares as equal is equal: what can be seen of a desk.
 use Rattle.std.proofs.Common.{◌≡◌, ℕ, nat_eq, Bool, true, false, ◌&&◌, refl, sym, ap, ◌∙◌, List, [], ◌∷◌}
 use Rattle.std.specs.Cmp.Lexicographic.{same_text}
-use Rattle.std.proofs.lemmas.Bool.{eqb-true, and_parts, false≢true}
+use Rattle.std.proofs.lemmas.Bool.{eqb-true, eq-eqb, and_parts, and_from, false≢true}
 use lib.Pointwise.{pointwise}
 use Rattle.std.specs.contracts.prelude.BoolPartialEq.TheImpl as of_flag
 use Rattle.point_core.specs.declared.entry.Point.{Point}
@@ -22,6 +22,16 @@ pointwise-is same is (x ∷ xs) (y ∷ ys) h =
     let parts = and_parts (same x y) (pointwise same xs ys) h in
     ap (λ z. z ∷ xs) (is x y parts.0) ∙ ap (λ zs. y ∷ zs) (pointwise-is same is xs ys parts.1)
 
+pub pointwise-refl : {X : Type 0} (same : X → X → Bool) → ((x : X) → same x x ≡ true) → (xs : List X) → pointwise same xs xs ≡ true
+pointwise-refl same is [] = refl
+pointwise-refl same is (x ∷ xs) = and_from (same x x) (pointwise same xs xs) (is x) (pointwise-refl same is xs)
+
+pub number-refl : (n : ℕ) → nat_eq n n ≡ true
+number-refl n = eq-eqb n n refl
+
+pub name-refl : (a : List ℕ) → same_name a a ≡ true
+name-refl a = pointwise-refl nat_eq number-refl a
+
 pub name-is : (a b : List ℕ) → same_name a b ≡ true → a ≡ b
 name-is a b h = same_text a b (sym h)
 
@@ -32,6 +42,10 @@ flag-is : (a b : Bool) → same_flag a b ≡ true → a ≡ b
 flag-is true true h = refl
 flag-is false false h = refl
 flag-is _ _ h = absurd (false≢true h)
+
+flag-refl : (a : Bool) → same_flag a a ≡ true
+flag-refl true = refl
+flag-refl false = refl
 
 -- points, and what is pending
 
@@ -54,6 +68,12 @@ usage-is usage.Write usage.Write h = refl
 usage-is usage.Read usage.Read h = refl
 usage-is usage.Bookkeep usage.Bookkeep h = refl
 usage-is _ _ h = absurd (false≢true h)
+
+pub usage-refl : (a : Usage) → same_usage a a ≡ true
+usage-refl usage.Kernel = refl
+usage-refl usage.Write = refl
+usage-refl usage.Read = refl
+usage-refl usage.Bookkeep = refl
 
 abbrev pub same_top : TopRow → TopRow → Bool
 same_top a b = same_usage a.usage b.usage && (nat_eq a.ctx b.ctx && nat_eq a.point b.point)
@@ -100,3 +120,8 @@ row-is a b h =
     let value : a.value ≡ b.value = eqb-true a.value b.value rest.0 in
     let closed : a.closed ≡ b.closed = flag-is a.closed b.closed rest.1 in
     λ i. record { name = name i; value = value i; closed = closed i }
+
+pub row-refl : (a : TimelineRow) → same_row a a ≡ true
+row-refl a =
+    and_from (same_name a.name a.name) (nat_eq a.value a.value && same_flag a.closed a.closed) (name-refl a.name)
+    (and_from (nat_eq a.value a.value) (same_flag a.closed a.closed) (number-refl a.value) (flag-refl a.closed))

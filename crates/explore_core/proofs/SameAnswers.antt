@@ -1,6 +1,6 @@
 -- What compares as equal is equal: answers.
-use Rattle.std.proofs.Common.{◌≡◌, ℕ, nat_eq, Bool, true, ◌&&◌, refl, ap, ◌∙◌, List}
-use Rattle.std.proofs.lemmas.Bool.{eqb-true, and_parts, false≢true}
+use Rattle.std.proofs.Common.{◌≡◌, ℕ, nat_eq, Bool, true, ◌&&◌, refl, ap, ◌∙◌, subst, List}
+use Rattle.std.proofs.lemmas.Bool.{eqb-true, and_parts, and_from, false≢true}
 use lib.Pointwise.{pointwise}
 use Rattle.point_core.specs.declared.refusal.LimitKind.{LimitKind}
 use Rattle.point_core.specs.declared.refusal.LimitKind.TheVariants as limit
@@ -24,7 +24,7 @@ use Rattle.command_core.specs.declared.answer.ShowRow.{ShowRow}
 use Rattle.command_core.specs.Tables.{Tables}
 use Rattle.command_core.specs.contracts.answer.AnswerPartialEq.TheImpl as of_answer
 use Rattle.command_core.specs.contracts.answer.MakerPartialEq.TheImpl as of_maker
-use Rattle.explore_core.proofs.Same.{pointwise-is, name-is, same_usage, usage-is, same_row, row-is}
+use Rattle.explore_core.proofs.Same.{pointwise-is, pointwise-refl, number-refl, name-is, name-refl, same_usage, usage-is, usage-refl, same_row, row-is, row-refl}
 
 abbrev same_status : Status → Status → Bool
 same_status = of_status.ghosts.eq
@@ -169,3 +169,84 @@ answer-is (answer.Show xs) (answer.Show ys) h = ap answer.Show (pointwise-is sam
 answer-is (answer.Report t) (answer.Report u) h = ap answer.Report (tables-are t u h)
 answer-is (answer.Refused r) (answer.Refused s) h = ap answer.Refused (refusal-is r s h)
 answer-is _ _ h = absurd (false≢true h)
+
+-- what is equal compares as equal
+
+status-refl : (a : Status) → same_status a a ≡ true
+status-refl status.Active = refl
+status-refl status.Signalled = refl
+status-refl status.Cancelled = refl
+
+maker-refl : (a : Maker) → same_maker a a ≡ true
+maker-refl maker.SwSync = refl
+maker-refl maker.Stub = refl
+
+limit-refl : (a : LimitKind) → same_limit a a ≡ true
+limit-refl limit.Timelines = refl
+limit-refl limit.Buffers = refl
+limit-refl limit.Files = refl
+limit-refl limit.Watches = refl
+limit-refl limit.Flags = refl
+limit-refl limit.Clients = refl
+limit-refl limit.Plan = refl
+limit-refl limit.Script = refl
+
+refusal-refl : (a : Refusal) → same_refusal a a ≡ true
+refusal-refl (refusal.Limit k) = limit-refl k
+refusal-refl refusal.Syntax = refl
+refusal-refl refusal.NoEntry = refl
+refusal-refl refusal.Exists = refl
+refusal-refl refusal.Overflow = refl
+refusal-refl refusal.Flags = refl
+refusal-refl refusal.Signalled = refl
+refusal-refl refusal.TimedOut = refl
+refusal-refl refusal.Foreign = refl
+refusal-refl refusal.Torn = refl
+refusal-refl refusal.NotAll = refl
+refusal-refl refusal.LongLine = refl
+refusal-refl refusal.Read = refl
+refusal-refl refusal.Write = refl
+refusal-refl refusal.Cancelled = refl
+refusal-refl refusal.Memory = refl
+
+fence-refl : (a : FenceRow) → same_fence a a ≡ true
+fence-refl a =
+    and_from (same_name a.timeline a.timeline) (same_maker a.driver a.driver && (nat_eq a.point a.point && same_status a.status a.status)) (name-refl a.timeline)
+    (and_from (same_maker a.driver a.driver) (nat_eq a.point a.point && same_status a.status a.status) (maker-refl a.driver)
+    (and_from (nat_eq a.point a.point) (same_status a.status a.status) (number-refl a.point) (status-refl a.status)))
+
+info-refl : (a : Info) → same_info a a ≡ true
+info-refl a =
+    and_from (same_name a.name a.name) (same_status a.status a.status && pointwise same_fence a.fences a.fences) (name-refl a.name)
+    (and_from (same_status a.status a.status) (pointwise same_fence a.fences a.fences) (status-refl a.status) (pointwise-refl same_fence fence-refl a.fences))
+
+show-refl : (a : ShowRow) → same_show a a ≡ true
+show-refl a =
+    and_from (same_usage a.usage a.usage) (same_name a.timeline a.timeline && nat_eq a.point a.point) (usage-refl a.usage)
+    (and_from (same_name a.timeline a.timeline) (nat_eq a.point a.point) (name-refl a.timeline) (number-refl a.point))
+
+file_row-refl : (a : FileRow) → same_file_row a a ≡ true
+file_row-refl a =
+    and_from (same_name a.name a.name) (same_status a.status a.status && nat_eq a.count a.count) (name-refl a.name)
+    (and_from (same_status a.status a.status) (nat_eq a.count a.count) (status-refl a.status) (number-refl a.count))
+
+buffer_rows-refl : (a : BufferRows) → same_buffer_rows a a ≡ true
+buffer_rows-refl a = and_from (same_name a.name a.name) (pointwise same_show a.rows a.rows) (name-refl a.name) (pointwise-refl same_show show-refl a.rows)
+
+tables-refl : (a : Tables) → same_tables a a ≡ true
+tables-refl a =
+    and_from (pointwise same_row a.timelines a.timelines) (pointwise same_file_row a.files a.files && pointwise same_buffer_rows a.buffers a.buffers) (pointwise-refl same_row row-refl a.timelines)
+    (and_from (pointwise same_file_row a.files a.files) (pointwise same_buffer_rows a.buffers a.buffers) (pointwise-refl same_file_row file_row-refl a.files)
+    (pointwise-refl same_buffer_rows buffer_rows-refl a.buffers))
+
+answer-refl : (a : Answer) → same_answer a a ≡ true
+answer-refl answer.Done = refl
+answer-refl (answer.Value m) = number-refl m
+answer-refl (answer.Raised m xs) = and_from (nat_eq m m) (pointwise nat_eq xs xs) (number-refl m) (name-refl xs)
+answer-refl (answer.Info i) = info-refl i
+answer-refl (answer.Show xs) = pointwise-refl same_show show-refl xs
+answer-refl (answer.Report t) = tables-refl t
+answer-refl (answer.Refused r) = refusal-refl r
+
+pub answer-same : (a b : Answer) → a ≡ b → same_answer a b ≡ true
+answer-same a b is = subst (λ (x : Answer). same_answer a x ≡ true) is (answer-refl a)

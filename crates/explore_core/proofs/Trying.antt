@@ -96,11 +96,11 @@ module _ {plan : Lines} {state : State} {schedule : Schedule} {client : ℕ} (is
     comes-here : ComesTo plan schedule (standing_of plan schedule)
     comes-here = subst (λ (s : Schedule). ComesTo plan s (standing_of plan s)) (sym is) from.comes
 
-    pub Grows-answered : (old new : Found) → Records old.given.items new.given.items client place given schedule → new.ended ≡ old.ended → new.stuck ≡ old.stuck → Grows plan depth old new
-    Grows-answered old new records ended stuck =
+    pub Grows-answered : (old new : Found) → Records old.given.items new.given.items client place given schedule → new.ended ≡ old.ended → new.stuck ≡ old.stuck → new.states ≡ old.states → Grows plan depth old new
+    Grows-answered old new records ended stuck states =
         let answered : IsAnswered plan schedule client place given =
         record { now = standing_of plan schedule; comes = comes-here; at = a.at; step = a.step; next = a.next; made = a.made; answer = a.answer } in
-        Grows-given plan depth old new client place given schedule records answered ended stuck
+        Grows-given plan depth old new client place given schedule records answered ended stuck states
 
     pub later-reached : {later : Seen} {position : Position} → IsAt position (standing_after plan (standing_of plan schedule) client) → later.state.schedule.items ≡ schedule ++ client ∷ []
         → (ComesTo plan (schedule ++ client ∷ []) (standing_of plan (schedule ++ client ∷ [])) → IsAt position (standing_of plan (schedule ++ client ∷ []))

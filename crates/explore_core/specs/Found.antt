@@ -1,6 +1,7 @@
 -- What an exploration of a plan finds.
-use Rattle.std.specs.Prelude.{◌≡◌, ℕ, ◌≤◌, true, List, length, All, Contains, Option, Some, IfSome, option_map, slice_get, Vec, ⊤}
+use Rattle.std.specs.Prelude.{◌≡◌, ℕ, ◌≤◌, Bool, true, List, length, All, Contains, Option, Some, IfSome, option_map, slice_get, Vec, ⊤}
 use Rattle.std.specs.Global.{Global}
+use Rattle.std.specs.List.{AllPairs}
 use Rattle.command_core.specs.declared.answer.Answer.{Answer}
 use Rattle.command_core.specs.declared.command.Command.{Command}
 use Rattle.command_core.specs.declared.command.Command.TheVariants as command
@@ -8,7 +9,7 @@ use Rattle.explore_core.specs.declared.plan.Step.{Step}
 use Rattle.explore_core.specs.declared.found.Given.{Given}
 use Rattle.explore_core.specs.declared.found.Found.{Found}
 use Rattle.explore_core.specs.Schedule.{Lines, lines_of, Standing, Schedule, ComesTo, IsStuck, IsAnswered, IsEndAnswered}
-use Rattle.explore_core.specs.Covering.{MayAsk}
+use Rattle.explore_core.specs.Covering.{MayAsk, AreEnough}
 
 -- the command registers no watch
 abbrev pub RegistersNone : Command → Type 0
@@ -27,9 +28,41 @@ pub record IsTrue (plan : Lines) (found : Found) : Type 0 where
   pub ended : All (λ (g : Given). IsEndAnswered plan g.schedule.items g.place g.answer) found.ended.items
   pub stuck : IfSome found.stuck (λ shown. (now : Standing) × ComesTo plan shown.items now × IsStuck plan now)
 
+-- not the same answer of the same line
+abbrev pub IsOther : Given → Given → Type 0
+IsOther g h = g.client ≡ h.client → g.place ≡ h.place → g.answer ≡ h.answer → ⊥
+
+-- each answer of a line is listed once
+pub record ListsOnce (found : Found) : Type 0 where
+  pub given : AllPairs IsOther found.given.items
+  pub ended : AllPairs IsOther found.ended.items
+
 -- the schedule that is shown as one that gets stuck
 abbrev pub stuck_of : Found → Option (List ℕ)
 stuck_of found = option_map (λ (v : Vec ℕ Global). v.items) found.stuck
+
+-- no schedule gets stuck sooner than the schedule that is shown
+abbrev pub IsShortest : Lines → Found → Type 0
+IsShortest plan found = (shown : List ℕ) (schedule : Schedule) (now : Standing)
+    → stuck_of found ≡ Some shown → ComesTo plan schedule now → IsStuck plan now → length shown ≤ length schedule
+
+-- a schedule leads to the standing
+abbrev pub IsReachable : Lines → Standing → Type 0
+IsReachable plan now = (schedule : Schedule) × ComesTo plan schedule now
+
+-- there are that many standings that schedules lead to, and they are enough to know where every schedule leads
+pub record Suffice (plan : Lines) (states : ℕ) : Type 0 where
+  pub asked : List ℕ → Bool
+  pub may : MayAsk asked plan
+  pub kept : List Standing
+  pub count : length kept ≡ states
+  pub reached : All (IsReachable plan) kept
+  pub enough : AreEnough asked plan kept
+
+-- no more states were visited than the bound, and enough if every schedule was covered
+pub record HasVisited (plan : Lines) (bound : ℕ) (found : Found) : Type 0 where
+  pub within : found.states ≤ bound
+  pub enough : found.covered ≡ true → Suffice plan found.states
 
 -- the client's line at this place is listed with this answer
 abbrev pub Lists : List Given → ℕ → ℕ → Answer → Type 0

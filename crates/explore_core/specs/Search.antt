@@ -1,6 +1,6 @@
 -- A search by levels: the states of a level are the states after schedules of one length.
 use Rattle.std.specs.Prelude.{◌≡◌, ◌⊎◌, ℕ, ◌+◌, ◌<◌, ◌≤◌, Bool, true, false, not, ◌||◌, if◌then◌else◌, filter, List, [], ◌∷◌, ◌++◌, length, map, take, All, Contains, Option, None, Some, IsSome, slice_get, get_or, unwrap_or}
-use Rattle.std.specs.List.{list_any}
+use Rattle.std.specs.List.{list_any, AllPairs}
 use Rattle.point_core.specs.declared.entry.Point.{Point}
 use Rattle.point_core.specs.declared.timeline_row.TimelineRow.{TimelineRow}
 use Rattle.point_core.specs.Clocks.{status_at}
@@ -28,8 +28,8 @@ use Rattle.explore_core.specs.declared.visit.Visit.{Visit}
 use Rattle.explore_core.specs.declared.search.Move.{Move}
 use Rattle.explore_core.specs.declared.search.Move.TheVariants as move
 use Rattle.explore_core.specs.declared.found.Given.{Given}
-use Rattle.explore_core.specs.Covering.{GoOnAlike}
-use Rattle.explore_core.specs.Found.{IsTrue, Lists, stuck_of}
+use Rattle.explore_core.specs.Covering.{GoOnAlike, HasAlike}
+use Rattle.explore_core.specs.Found.{IsTrue, IsOther, ListsOnce, IsShortest, IsReachable, Lists, stuck_of}
 use Rattle.explore_core.specs.Schedule.{Lines, Standing, Schedule, answer_now, history_with, history_along, beginning, made_by, next_line, can_be_made, after_one, ComesTo, IsStuck}
 
 -- the standing after the client's next line, or the same standing if it can't make one
@@ -180,6 +180,11 @@ pub record Seen : Type 0 where
   pub state : State
   pub look : Look
 
+-- the states that a level keeps, and how many there may be
+pub record LevelState : Type 0 where
+  pub seen : List Seen
+  pub room : ℕ
+
 -- the look is seen at that state
 pub record IsSeen (plan : Lines) (depth : ℕ) (seen : Seen) : Type 0 where
   pub state : IsState plan depth seen.state
@@ -270,6 +275,8 @@ pub record HasSame (states : List State) (all : List Places) (state : State) (pl
 -- whatever was found before is found still, and what is found anew happens in schedules of that length
 pub record Grows (plan : Lines) (depth : ℕ) (old new : Found) : Type 0 where
   pub shown : IsTrue plan old → IsTrue plan new
+  pub once : ListsOnce old → ListsOnce new
+  pub states : new.states ≡ old.states
   pub given : (client place : ℕ) (answer : Answer) →
       Lists old.given.items client place answer → Lists new.given.items client place answer
   pub ended : (client place : ℕ) (answer : Answer) →
@@ -285,15 +292,18 @@ pub record IsGiven (client place : ℕ) (answer : Answer) (schedule : Schedule) 
   pub answer_is : g.answer ≡ answer
   pub schedule_is : g.schedule.items ≡ schedule
 
--- the answer was listed last, with that schedule, or nothing was
+-- the answer was listed last, with that schedule, and was not listed before; or nothing was listed
 abbrev pub Records : List Given → List Given → ℕ → ℕ → Answer → Schedule → Type 0
 Records old new client place answer schedule =
-    (new ≡ old) ⊎ ((g : Given) × (new ≡ old ++ g ∷ []) × IsGiven client place answer schedule g)
+    (new ≡ old)
+    ⊎ ((g : Given) × (new ≡ old ++ g ∷ []) × IsGiven client place answer schedule g × (Lists old client place answer → ⊥))
 
--- each look is one that is seen if each was before, and a standing that continued as a state did still continues as one does
-pub record Extends (plan : Lines) (depth : ℕ) (old new : List Seen) : Type 0 where
-  pub seen : All (IsSeen plan depth) old → All (IsSeen plan depth) new
-  pub alike : (now : Standing) → HasLike plan (states_of old) now → HasLike plan (states_of new) now
+-- Each look is one that is seen if each was before. A standing that continued as a state did still continues as one does. There may
+-- be as many states as before.
+pub record Extends (plan : Lines) (depth : ℕ) (old new : LevelState) : Type 0 where
+  pub seen : All (IsSeen plan depth) old.seen → All (IsSeen plan depth) new.seen
+  pub alike : (now : Standing) → HasLike plan (states_of old.seen) now → HasLike plan (states_of new.seen) now
+  pub room : new.room ≡ old.room
 
 -- everything that happens at the standing is listed
 pub record IsListed (plan : Lines) (found : Found) (now : Standing) : Type 0 where
@@ -365,8 +375,9 @@ pub record IsEnd (plan : Lines) (history : List Command) (schedule : Schedule) (
   pub at : slice_get plan.last g.place ≡ Some command
   pub answer : g.answer ≡ answer_now (history_along history (take g.place plan.last)) command
 
--- answers at the end were listed last
+-- answers at the end were listed last, each once
 pub record EndsAre (plan : Lines) (history : List Command) (schedule : Schedule) (old new : List Given) : Type 0 where
+  pub once : AllPairs IsOther old → AllPairs IsOther new
   pub added : List Given
   pub is : new ≡ old ++ added
   pub ends : All (IsEnd plan history schedule) added
@@ -381,6 +392,7 @@ pub record IsEmptyFound (found : Found) : Type 0 where
   pub given : found.given.items ≡ []
   pub ended : found.ended.items ≡ []
   pub stuck : found.stuck ≡ None
+  pub states : found.states ≡ 0
 
 -- Each schedule of that length leads to a standing that continues as one of the states does. Whatever happens in a shorter schedule
 -- is listed.
@@ -393,3 +405,27 @@ pub record IsCovered (plan : Lines) (found : Found) (depth : ℕ) (states : List
   pub soonest : (schedule : Schedule) (now : Standing) → length schedule < depth → ComesTo plan schedule now → IsStuck plan now
       → (shown : List ℕ) × (stuck_of found ≡ Some shown) × (length shown ≤ length schedule)
   pub soon : (shown : List ℕ) → stuck_of found ≡ Some shown → length shown ≤ depth
+
+-- that many more states are counted as visited
+abbrev pub counted : Found → ℕ → Found
+counted found states = record found { states = found.states + states }
+
+-- what is found is right, also if the search has stopped
+pub record IsRight (plan : Lines) (bound : ℕ) (found : Found) : Type 0 where
+  pub shown : IsTrue plan found
+  pub once : ListsOnce found
+  pub shortest : IsShortest plan found
+  pub within : found.states ≤ bound
+
+abbrev pub standings_of : Lines → List State → List Standing
+standings_of plan states = map (standing_at plan) states
+
+-- There were that many states before these. Where a client's line leads to from one of them continues as one of all does, and so does
+-- the beginning.
+pub record IsCounted (plan : Lines) (n : ℕ) (states : List State) : Type 0 where
+  pub before : List Standing
+  pub count : length before ≡ n
+  pub reached : All (IsReachable plan) before
+  pub begins : HasAlike (is_asked plan) (before ++ standings_of plan states) (beginning plan)
+  pub goes_on : (now next : Standing) (client : ℕ) → Contains before now → after_one plan now client ≡ Some next
+      → HasAlike (is_asked plan) (before ++ standings_of plan states) next

@@ -1,6 +1,6 @@
 //! `explore`: a plan decided over every schedule.
-ghost use Rattle.std.specs.Prelude.{◌≡◌, true, IsOk, IfOk, IfErr};
-ghost use Rattle.explore_core.specs.Found.{CanBeExplored, IsTrue, IsAll};
+ghost use Rattle.std.specs.Prelude.{◌≡◌, true, is_ok, IfOk, IfErr};
+ghost use Rattle.explore_core.specs.Found.{CanBeExplored, IsTrue, ListsOnce, IsAll, IsShortest, HasVisited};
 
 use crate::found::Found;
 use crate::plan::Plan;
@@ -17,7 +17,10 @@ pub const STATES: usize = 1_000_000;
 pub fn explore(alloc: Global, plan: &Plan, bound: usize) -> Result<Found, Refusal>
     requires explorable { CanBeExplored plan.now }
     ensures shown { IfOk result (λ found. IsTrue plan.now found) }
+    ensures once { IfOk result (λ found. ListsOnce found) }
     ensures all { IfOk result (λ found. found.covered ≡ true → IsAll plan.now found) }
+    ensures shortest { IfOk result (λ found. IsShortest plan.now found) }
+    ensures visited { IfOk result (λ found. HasVisited plan.now bound found) }
     ensures memory { IfErr result (λ e. e ≡ Refusal.Memory) }
 {
     let mut found = Found {
@@ -36,7 +39,7 @@ pub fn explore(alloc: Global, plan: &Plan, bound: usize) -> Result<Found, Refusa
 ///
 /// Fails with `Memory` if the search did.
 fn is_covered(ended: Result<(), Stop>) -> Result<bool, Refusal>
-    ensures covered { IfOk result (λ covered. covered ≡ true → IsOk ended) }
+    ensures covered { IfOk result (λ covered. covered ≡ is_ok ended) }
     ensures memory { IfErr result (λ e. e ≡ Refusal.Memory) }
 {
     match ended {

@@ -22,7 +22,7 @@ pub struct Found {
     pub ended: Vec<Given>,
     /// A schedule that gets stuck; none gets stuck sooner.
     pub stuck: Option<Vec<usize>>,
-    /// How many states were visited.
+    /// How many states were visited: all states of each level that the search has begun.
     pub states: usize,
     /// Whether every schedule was covered.
     pub covered: bool,

@@ -1,6 +1,6 @@
 //! `Level`: the states after schedules of one length, equal states once. Once a level is complete, the search keeps its states and
 //! drops their looks.
-ghost use Rattle.std.specs.Prelude.{◌≡◌, ◌+◌, ◌≤◌, true, [], OnOk, OnErr, vec_len};
+ghost use Rattle.std.specs.Prelude.{◌≡◌, ◌+◌, ◌≤◌, true, [], length, OnOk, OnErr, vec_len};
 ghost use Rattle.std.specs.Vec.{vec_capacity};
 ghost use Rattle.explore_core.specs.Search.{KeepsAt, HasSame, has_name, states_of};
 
@@ -28,19 +28,22 @@ pub(crate) struct Level {
 }
 
 impl Model for Level {
-    ghost use Rattle.std.specs.Prelude.{◌≡◌, List, All, length};
-    ghost use Rattle.explore_core.specs.Search.{Fits, Seen, seen_in};
+    ghost use Rattle.std.specs.Prelude.{◌≡◌, ◌≤◌, All, length};
+    ghost use Rattle.explore_core.specs.Search.{Fits, LevelState, seen_in};
 
-    ghost Value = { List Seen };
+    ghost Value = { LevelState };
 
-    ghost view = { λ l. seen_in l.parts l.states.items l.places.items };
+    ghost view = { λ l. record { seen = seen_in l.parts l.states.items l.places.items; room = l.room } };
 
-    ghost invariant = { λ l. (length l.places.items ≡ length l.states.items) × All (Fits l.parts) l.places.items };
+    ghost invariant = { λ l. (length l.places.items ≡ length l.states.items)
+        × All (Fits l.parts) l.places.items
+        × (length l.states.items ≤ l.room) };
 }
 
 impl Level {
     pub(crate) fn new(alloc: Global, room: usize) -> Level
-        ensures { result ≡ [] }
+        ensures empty { result.seen ≡ [] }
+        ensures room { result.room ≡ room }
     {
         Level {
             states: Vec::new(alloc),
@@ -53,7 +56,8 @@ impl Level {
 
     /// The states, once all are found.
     pub(crate) fn into_states(self) -> Vec<State>
-        ensures { result.items ≡ states_of self }
+        ensures states { result.items ≡ states_of self.seen }
+        ensures room { length result.items ≤ self.room }
     {
         let Level { states, .. } = self;
         states
@@ -69,7 +73,8 @@ impl Level {
         state: State,
         desk: &Desk,
     ) -> Result<(), Stop>
-        ensures keeps { OnOk result (KeepsAt (has_name asked.now) self.old state desk.now self.new) }
+        ensures keeps { OnOk result (KeepsAt (has_name asked.now) self.old.seen state desk.now self.new.seen) }
+        ensures room { OnOk result (self.new.room ≡ self.old.room) }
         ensures unchanged { OnErr result (self.new ≡ self.old) }
     {
         let Ok(places) = self.parts.look_at(alloc, asked, desk) else {

@@ -49,14 +49,13 @@ fn prepare(list: &mut Vec<Given>, schedule: &[u16]) -> Result<Vec<usize>, AllocE
 }
 
 fn is_listed(list: &[Given], client: usize, place: usize, answer: &Answer) -> bool
-    ensures { result ≡ true → Lists list.now client place answer.now }
+    ensures listed { result ≡ true → Lists list.now client place answer.now }
+    ensures all { Lists list.now client place answer.now → result ≡ true }
 {
     // From the end, where the answers of nearby states are.
     for index in 0..list.len() {
-        let Some(given) = list.get(list.len() - 1 - index) else {
-            return false;
-        };
-        if is_of(given, client, place, answer) {
+        let last = list.len() - 1 - index;
+        if is_of(&list[last], client, place, answer) {
             return true;
         }
     }
@@ -64,13 +63,15 @@ fn is_listed(list: &[Given], client: usize, place: usize, answer: &Answer) -> bo
 }
 
 fn is_of(given: &Given, client: usize, place: usize, answer: &Answer) -> bool
-    ensures { result ≡ true → (given.now.client ≡ client) × (given.now.place ≡ place) × (given.now.answer ≡ answer.now) }
+    ensures is { result ≡ true → (given.now.client ≡ client) × (given.now.place ≡ place) × (given.now.answer ≡ answer.now) }
+    ensures all { given.now.client ≡ client → given.now.place ≡ place → given.now.answer ≡ answer.now → result ≡ true }
 {
     given.client == client && given.place == place && is_same_answer(&given.answer, answer)
 }
 
 fn is_same_answer(answer: &Answer, other: &Answer) -> bool
-    ensures { result ≡ true → answer.now ≡ other.now }
+    ensures is { result ≡ true → answer.now ≡ other.now }
+    ensures all { answer.now ≡ other.now → result ≡ true }
 {
     *answer == *other
 }

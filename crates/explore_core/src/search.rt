@@ -1,11 +1,11 @@
 //! The search: level by level, each state of a level with each client's next line.
-ghost use Rattle.std.specs.Prelude.{◌≡◌, ◌+◌, ◌∷◌, [], ℕ, List, All, length, None, Some, IfOk, OnOk};
+ghost use Rattle.std.specs.Prelude.{◌≡◌, ◌+◌, ◌≤◌, ◌∷◌, [], ℕ, List, All, length, None, Some, IfOk, OnOk};
 ghost use Rattle.command_core.specs.declared.command.Command.{Command};
 ghost use Rattle.explore_core.specs.declared.state.State.{State as Kept};
 ghost use Rattle.desk_core.specs.theorem.Desk.{HasHistory};
-ghost use Rattle.explore_core.specs.Found.{CanBeExplored, IsTrue, IsAll, stuck_of};
-ghost use Rattle.explore_core.specs.Schedule.{Lines, IsStuck, next_line};
-ghost use Rattle.explore_core.specs.Search.{AreAsked, Grows, Extends, IsState, IsSeen, IsVisitOf, IsVisited, IsTried, AreTried, HasEnds, EndsAre, AreEndsListed, standing_of, standing_at, states_of, IsEmptyFound, together};
+ghost use Rattle.explore_core.specs.Found.{CanBeExplored, IsAll, Suffice, stuck_of};
+ghost use Rattle.explore_core.specs.Schedule.{IsStuck, next_line};
+ghost use Rattle.explore_core.specs.Search.{AreAsked, Grows, Extends, IsState, IsSeen, IsVisitOf, IsVisited, IsTried, AreTried, HasEnds, EndsAre, AreEndsListed, standing_of, standing_at, states_of, IsEmptyFound, IsRight, counted, together};
 
 use crate::found::{Found, Given};
 use crate::level::Level;
@@ -47,8 +47,9 @@ pub(crate) fn search(
 ) -> Result<(), Stop>
     requires explorable { CanBeExplored plan.now }
     requires empty { IsEmptyFound found.old }
-    ensures shown { IsTrue plan.now found.new }
+    ensures right { IsRight plan.now bound found.new }
     ensures all { OnOk result (IsAll plan.now found.new) }
+    ensures enough { OnOk result (Suffice plan.now found.new.states) }
 {
     let Ok(asked) = plan.asked_files(alloc) else {
         return Err(Stop::Memory);
@@ -69,8 +70,9 @@ fn search_levels(
     requires explorable { CanBeExplored plan.now }
     requires asked { AreAsked plan.now asked.now }
     requires empty { IsEmptyFound found.old }
-    ensures shown { IsTrue plan.now found.new }
+    ensures right { IsRight plan.now bound found.new }
     ensures all { OnOk result (IsAll plan.now found.new) }
+    ensures enough { OnOk result (Suffice plan.now found.new.states) }
 {
     let mut level = first_level(alloc, plan, bound)?;
     for depth in 0..usize::MAX {
@@ -94,6 +96,7 @@ fn search_levels(
 /// The state in which no client has made a line, if there is room for it.
 fn first_level(alloc: Global, plan: &Plan, room: usize) -> Result<Vec<State>, Stop>
     ensures first { IfOk result (λ level. (state : Kept) × (level.items ≡ state ∷ []) × IsState plan.now 0 state) }
+    ensures room { IfOk result (λ level. length level.items ≤ room) }
 {
     if room == 0 {
         return Err(Stop::Bound);
@@ -133,12 +136,14 @@ fn next_level(
     requires explorable { CanBeExplored plan.now }
     requires asked { AreAsked plan.now asked.now }
     requires states { All (IsState plan.now depth) states.now }
-    ensures grows { Grows plan.now depth found.old found.new }
+    requires within { found.old.states + length states.now ≤ bound }
+    ensures grows { Grows plan.now depth (counted found.old (length states.now)) found.new }
     ensures next { IfOk result (λ next. All (IsState plan.now (depth + 1)) next.items) }
     ensures visited { IfOk result (λ next. All (IsVisited plan.now found.new next.items) states.now) }
+    ensures within { IfOk result (λ next. found.new.states + length next.items ≤ bound) }
 {
-    count(found, states.len());
-    let mut next = Level::new(alloc, bound.saturating_sub(found.states));
+    let room = count(found, states.len(), bound);
+    let mut next = Level::new(alloc, room);
     let visited = visit_all(alloc, plan, asked, depth, states, visit, found, &mut next);
     let states = next.into_states();
     match visited {
@@ -147,10 +152,14 @@ fn next_level(
     }
 }
 
-fn count(found: &mut Found, states: usize)
-    ensures { (plan : Lines) (depth : ℕ) → Grows plan depth found.old found.new }
+/// Counts the states as visited, and returns how many more there may be.
+fn count(found: &mut Found, states: usize, bound: usize) -> usize
+    requires within { found.old.states + states ≤ bound }
+    ensures counted { found.new ≡ counted found.old states }
+    ensures room { found.new.states + result ≡ bound }
 {
-    found.states = found.states.saturating_add(states);
+    found.states += states;
+    bound - found.states
 }
 
 /// Visits each state of a level, and keeps the states of the next.
@@ -167,10 +176,10 @@ fn visit_all(
     requires explorable { CanBeExplored plan.now }
     requires asked { AreAsked plan.now asked.now }
     requires states { All (IsState plan.now depth) states.now }
-    requires next { All (IsSeen plan.now (depth + 1)) next.old }
+    requires next { All (IsSeen plan.now (depth + 1)) next.old.seen }
     ensures grows { Grows plan.now depth found.old found.new }
     ensures extends { Extends plan.now (depth + 1) next.old next.new }
-    ensures visited { OnOk result (All (IsVisited plan.now found.new (states_of next.new)) states.now) }
+    ensures visited { OnOk result (All (IsVisited plan.now found.new (states_of next.new.seen)) states.now) }
 {
     for state in states {
         visit_state(alloc, plan, asked, depth, state, visit, found, next)?;
@@ -192,10 +201,10 @@ fn visit_state(
     requires explorable { CanBeExplored plan.now }
     requires asked { AreAsked plan.now asked.now }
     requires state { IsState plan.now depth state.now }
-    requires next { All (IsSeen plan.now (depth + 1)) next.old }
+    requires next { All (IsSeen plan.now (depth + 1)) next.old.seen }
     ensures grows { Grows plan.now depth found.old found.new }
     ensures extends { Extends plan.now (depth + 1) next.old next.new }
-    ensures visited { OnOk result (IsVisited plan.now found.new (states_of next.new) state.now) }
+    ensures visited { OnOk result (IsVisited plan.now found.new (states_of next.new.seen) state.now) }
 {
     visit.leave();
     let moves = try_each(alloc, plan, asked, depth, state, visit, found, next)?;
@@ -227,11 +236,11 @@ fn try_each(
     requires asked { AreAsked plan.now asked.now }
     requires state { IsState plan.now depth state.now }
     requires at { IsVisitOf visit.old (standing_at plan.now state.now) }
-    requires next { All (IsSeen plan.now (depth + 1)) next.old }
+    requires next { All (IsSeen plan.now (depth + 1)) next.old.seen }
     ensures grows { Grows plan.now depth found.old found.new }
     ensures extends { Extends plan.now (depth + 1) next.old next.new }
     ensures tried { IfOk result (λ moves.
-        AreTried plan.now found.new (states_of next.new) state.now (length plan.now.clients) moves) }
+        AreTried plan.now found.new (states_of next.new.seen) state.now (length plan.now.clients) moves) }
 {
     let mut moves = Move::Done;
     for client in 0..plan.clients.len() {
@@ -270,10 +279,10 @@ fn try_client(
     requires asked { AreAsked plan.now asked.now }
     requires state { IsState plan.now depth state.now }
     requires at { IsVisitOf visit.old (standing_at plan.now state.now) }
-    requires next { All (IsSeen plan.now (depth + 1)) next.old }
+    requires next { All (IsSeen plan.now (depth + 1)) next.old.seen }
     ensures grows { Grows plan.now depth found.old found.new }
     ensures extends { Extends plan.now (depth + 1) next.old next.new }
-    ensures tried { IfOk result (λ move. IsTried plan.now found.new (states_of next.new) state.now client move) }
+    ensures tried { IfOk result (λ move. IsTried plan.now found.new (states_of next.new.seen) state.now client move) }
     ensures at { OnOk result (IsVisitOf visit.new (standing_at plan.now state.now)) }
 {
     let place = place_of(state.made.as_slice(), client);

@@ -1,38 +1,59 @@
-use Rattle.std.proofs.Common.{All, sym, ◌∙◌, subst}
+use Rattle.std.proofs.Common.{◌+◌, ◌≤◌, All, List, length, sym, ◌∙◌, subst, arith}
 use Rattle.std.proofs.lemmas.Bool.{eqb-true}
-use Rattle.explore_core.specs.Search.{IsCovered, IsState, IsVisited}
-use Rattle.explore_core.proofs.Levels.{IsTrue-empty, IsCovered-first, IsCovered-next, IsAll-covered, length-none}
+use Rattle.explore_core.specs.declared.state.State.{State}
+use Rattle.explore_core.specs.Search.{Grows, IsCovered, IsCounted, IsState, IsVisited, counted}
+use Rattle.explore_core.proofs.Levels.{IsCovered-first, IsCovered-next, IsAll-covered, length-none}
+use Rattle.explore_core.proofs.Counting.{IsRight-empty, IsRight-next, IsCovered-counted, IsCounted-first, IsCounted-next, Suffice-counted}
 use Rattle.explore_core.proofs.search.search_levels.Goals as goal
 
-pub returns-in_err-level-clause-shown : goal.returns-in_err-level-clause-shown
-returns-in_err-level-clause-shown c = IsTrue-empty c.args.plan.now c.args.found.now c.requires.empty
+pub returns-in_err-level-clause-right : goal.returns-in_err-level-clause-right
+returns-in_err-level-clause-right c = IsRight-empty c.args.plan.now c.args.bound c.args.found.now c.requires.empty
 
 pub loop-depth-init : goal.loop-depth-init
 loop-depth-init c =
     let first = c.in_ok-level.ensures.first in
+    let level = c.in_ok-level.level.items in
     record {
-      shown = IsTrue-empty c.args.plan.now c.args.found.now c.requires.empty;
+      right = IsRight-empty c.args.plan.now c.args.bound c.args.found.now c.requires.empty;
       covered = subst (IsCovered c.args.plan.now c.args.found.now 0) (sym first.1) (IsCovered-first c.args.plan.now c.args.found.now first.0 c.requires.empty first.2);
+      counted = subst (λ n. IsCounted c.args.plan.now n level) (sym c.requires.empty.states) (IsCounted-first c.args.plan.now level first.0 first.1 first.2);
+      within = omega (arith, c.requires.empty.states, c.in_ok-level.ensures.room);
     }
 
 pub next_level-requires-clause-states : goal.next_level-requires-clause-states
 next_level-requires-clause-states c = subst (All (IsState c.args.plan.now c.loop-depth.depth)) (sym c.as_slice.ensures.value) c.loop-depth.invariant.covered.are
 
+pub next_level-requires-clause-within : goal.next_level-requires-clause-within
+next_level-requires-clause-within c =
+    subst (λ (ss : List State). c.loop-depth.found.states + length ss ≤ c.args.bound) (sym c.as_slice.ensures.value) c.loop-depth.invariant.within
+
 pub loop-depth-preserved : goal.loop-depth-preserved
 loop-depth-preserved c =
+    let plan = c.args.plan.now in
     let before = c.loop-depth.invariant in
-    let next = c.in_ok-level-2.ensures in
+    let old = c.loop-depth.found in
+    let new = c.next_level.new.found in
+    let level = c.loop-depth.level.items in
+    let next = c.in_ok-level-2.level.items in
+    let grows = subst (λ (ss : List State). Grows plan c.loop-depth.depth (counted old (length ss)) new) c.as_slice.ensures.value c.next_level.ensures.grows in
+    let visited = subst (All (IsVisited plan new next)) c.as_slice.ensures.value c.in_ok-level-2.ensures.visited in
     record {
-      shown = c.next_level.ensures.grows.shown before.shown;
-      covered = IsCovered-next c.requires.explorable before.covered c.next_level.ensures.grows
-          (subst (All (IsVisited c.args.plan.now c.next_level.new.found c.in_ok-level-2.level.items)) c.as_slice.ensures.value next.visited) next.next;
+      right = IsRight-next (length level) before.right before.covered before.within grows;
+      covered = IsCovered-next c.requires.explorable (IsCovered-counted (length level) before.covered) grows visited c.in_ok-level-2.ensures.next;
+      counted = subst (λ n. IsCounted plan n next) (sym grows.states) (IsCounted-next plan new c.loop-depth.depth old.states level next before.counted before.covered.are visited);
+      within = c.in_ok-level-2.ensures.within;
     }
 
-pub returns-in_err-level-2-clause-shown : goal.returns-in_err-level-2-clause-shown
-returns-in_err-level-2-clause-shown c = c.next_level.ensures.grows.shown c.loop-depth.invariant.shown
+pub returns-in_err-level-2-clause-right : goal.returns-in_err-level-2-clause-right
+returns-in_err-level-2-clause-right c =
+    let plan = c.args.plan.now in
+    let before = c.loop-depth.invariant in
+    let old = c.loop-depth.found in
+    let grows = subst (λ (ss : List State). Grows plan c.loop-depth.depth (counted old (length ss)) c.next_level.new.found) c.as_slice.ensures.value c.next_level.ensures.grows in
+    IsRight-next (length c.loop-depth.level.items) before.right before.covered before.within grows
 
-pub returns-then-is_empty-clause-shown : goal.returns-then-is_empty-clause-shown
-returns-then-is_empty-clause-shown c = c.loop-depth.invariant.shown
+pub returns-then-is_empty-clause-right : goal.returns-then-is_empty-clause-right
+returns-then-is_empty-clause-right c = c.loop-depth.invariant.right
 
 pub returns-then-is_empty-clause-all : goal.returns-then-is_empty-clause-all
 returns-then-is_empty-clause-all c =
@@ -40,5 +61,11 @@ returns-then-is_empty-clause-all c =
     let none = length-none level.items (sym level.ok.0 ∙ eqb-true level.len 0 (sym c.is_empty.ensures ∙ c.if-is_empty.true)) in
     IsAll-covered (subst (IsCovered c.args.plan.now c.loop-depth.found c.loop-depth.depth) none c.loop-depth.invariant.covered)
 
-pub returns-clause-shown : goal.returns-clause-shown
-returns-clause-shown c = c.loop-depth.invariant.shown
+pub returns-then-is_empty-clause-enough : goal.returns-then-is_empty-clause-enough
+returns-then-is_empty-clause-enough c =
+    let level = c.loop-depth.level in
+    let none = length-none level.items (sym level.ok.0 ∙ eqb-true level.len 0 (sym c.is_empty.ensures ∙ c.if-is_empty.true)) in
+    Suffice-counted c.args.plan.now c.loop-depth.found.states level.items c.requires.explorable none c.loop-depth.invariant.counted
+
+pub returns-clause-right : goal.returns-clause-right
+returns-clause-right c = c.loop-depth.invariant.right

@@ -52,7 +52,7 @@ returns-in_default-record-clause-grows c =
     let next = ap (slice_get (lines_of plan c.args.client)) here ∙ sym c.line_at.ensures ∙ ap option_copied c.in-Some.is in
     let turn = c.in-Ok-go.ensures.made plan now at here next in
     let made = subst (λ (o : Option Answer). IsTurn plan now c.args.client c.place_of-place.result o c.go.new.self) c.in-Some-made.is turn in
-    Grows-answered is c.requires.state made.0 c.args.found.now _ c.record.ensures.records refl refl
+    Grows-answered is c.requires.state made.0 c.args.found.now _ c.record.ensures.records refl refl refl
 
 pub returns-in_default-record-clause-extends : goal.returns-in_default-record-clause-extends
 returns-in_default-record-clause-extends c =
@@ -69,7 +69,7 @@ returns-in_default-after-clause-grows c =
     let next = ap (slice_get (lines_of plan c.args.client)) here ∙ sym c.line_at.ensures ∙ ap option_copied c.in-Some.is in
     let turn = c.in-Ok-go.ensures.made plan now at here next in
     let made = subst (λ (o : Option Answer). IsTurn plan now c.args.client c.place_of-place.result o c.go.new.self) c.in-Some-made.is turn in
-    Grows-answered is c.requires.state made.0 c.args.found.now _ c.record.ensures.records refl refl
+    Grows-answered is c.requires.state made.0 c.args.found.now _ c.record.ensures.records refl refl refl
 
 pub returns-in_default-after-clause-extends : goal.returns-in_default-after-clause-extends
 returns-in_default-after-clause-extends c =
@@ -78,7 +78,7 @@ returns-in_default-after-clause-extends c =
 pub returns-in_default-clause-tried : goal.returns-in_default-clause-tried
 returns-in_default-clause-tried c =
     let place = place-here c.args.plan.now c.args.state.now c.args.state.now.schedule.items c.args.client c.place_of-place.result c.as_slice.result.now refl (c.as_slice.ensures.value ∙ c.requires.state.made) c.place_of-place.ensures in
-    tried-done refl c.args.found.now (states_of c.args.next.now) (ap (slice_get (lines_of c.args.plan.now c.args.client)) place ∙ sym c.line_at.ensures ∙ ap option_copied c.in_default.is)
+    tried-done refl c.args.found.now (states_of c.args.next.now.seen) (ap (slice_get (lines_of c.args.plan.now c.args.client)) place ∙ sym c.line_at.ensures ∙ ap option_copied c.in_default.is)
 
 pub come_back-requires : goal.come_back-requires
 come_back-requires c = record {
@@ -96,7 +96,7 @@ returns-in_default-made-clause-tried c =
     let next = ap (slice_get (lines_of plan c.args.client)) here ∙ sym c.line_at.ensures ∙ ap option_copied c.in-Some.is in
     let turn = c.in-Ok-go.ensures.made plan now at here next in
     let waits = subst (λ (o : Option Answer). IsTurn plan now c.args.client c.place_of-place.result o c.go.new.self) c.in_default-made.is turn in
-    tried-waits is c.args.found.now (states_of c.args.next.now) waits.0 waits.1
+    tried-waits is c.args.found.now (states_of c.args.next.now.seen) waits.0 waits.1
 
 pub returns-in_default-made-clause-at : goal.returns-in_default-made-clause-at
 returns-in_default-made-clause-at c = λ fresh.
@@ -122,7 +122,7 @@ returns-in_err-keep-clause-grows c =
     let next = ap (slice_get (lines_of plan c.args.client)) here ∙ sym c.line_at.ensures ∙ ap option_copied c.in-Some.is in
     let turn = c.in-Ok-go.ensures.made plan now at here next in
     let made = subst (λ (o : Option Answer). IsTurn plan now c.args.client c.place_of-place.result o c.go.new.self) c.in-Some-made.is turn in
-    Grows-answered is c.requires.state made.0 c.args.found.now _ c.record.ensures.records refl refl
+    Grows-answered is c.requires.state made.0 c.args.found.now _ c.record.ensures.records refl refl refl
 
 pub returns-clause-grows : goal.returns-clause-grows
 returns-clause-grows c =
@@ -135,7 +135,7 @@ returns-clause-grows c =
     let next = ap (slice_get (lines_of plan c.args.client)) here ∙ sym c.line_at.ensures ∙ ap option_copied c.in-Some.is in
     let turn = c.in-Ok-go.ensures.made plan now at here next in
     let made = subst (λ (o : Option Answer). IsTurn plan now c.args.client c.place_of-place.result o c.go.new.self) c.in-Some-made.is turn in
-    Grows-answered is c.requires.state made.0 c.args.found.now _ c.record.ensures.records refl refl
+    Grows-answered is c.requires.state made.0 c.args.found.now _ c.record.ensures.records refl refl refl
 
 pub returns-in_err-keep-clause-extends : goal.returns-in_err-keep-clause-extends
 returns-in_err-keep-clause-extends c =
@@ -157,7 +157,7 @@ returns-clause-extends c =
     let later : Seen = record { state = c.in-Ok-after.later; look = keeps.0 } in
     let reached = later-reached is c.requires.state made.0 {later = later} there c.in-Ok-after.ensures.schedule
     (seen-after c.args.asked.now c.requires.asked c.in-Ok-after.ensures.schedule (c.in-Ok-after.ensures.made ∙ c.as_slice-2.ensures.value) keeps.1) in
-    Extends-kept keeps.2 (later-seen is c.requires.state made.0 reached)
+    Extends-kept keeps.2 c.in_ok-keep.ensures.room (later-seen is c.requires.state made.0 reached)
 
 pub returns-clause-tried : goal.returns-clause-tried
 returns-clause-tried c =

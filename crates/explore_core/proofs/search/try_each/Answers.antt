@@ -23,7 +23,7 @@ loop-client-init c = record {
   grows = Grows-refl c.args.plan.now c.args.depth c.args.found.now;
   extends = Extends-refl c.args.plan.now (c.args.depth + 1) c.args.next.now;
   at = c.requires.at;
-  tried = AreTried-none c.args.plan.now c.args.found.now (states_of c.args.next.now) c.args.state.now;
+  tried = AreTried-none c.args.plan.now c.args.found.now (states_of c.args.next.now.seen) c.args.state.now;
 }
 
 pub loop-client-preserved : goal.loop-client-preserved
@@ -34,7 +34,7 @@ loop-client-preserved c =
       grows = Grows-trans before.grows one.grows;
       extends = Extends-trans before.extends one.extends;
       at = c.in_ok-one.ensures.at;
-      tried = subst (AreTried c.args.plan.now c.try_client.new.found (states_of c.try_client.new.next) c.args.state.now (c.loop-client.client + 1)) (sym c.together-moves.ensures)
+      tried = subst (AreTried c.args.plan.now c.try_client.new.found (states_of c.try_client.new.next.seen) c.args.state.now (c.loop-client.client + 1)) (sym c.together-moves.ensures)
           (AreTried-push before.tried one.grows one.extends c.in_ok-one.ensures.tried);
     }
 

@@ -7,5 +7,5 @@ invariant-loop-client l = record {
   grows : Grows l.plan l.depth l.initial.found l.found;
   extends : Extends l.plan (l.depth + 1) l.initial.next l.next;
   at : IsVisitOf l.visit (standing_at l.plan l.state);
-  tried : AreTried l.plan l.found (states_of l.next) l.state l.client l.moves;
+  tried : AreTried l.plan l.found (states_of l.next.seen) l.state l.client l.moves;
 }

@@ -22,7 +22,7 @@ pub loop-state-init : goal.loop-state-init
 loop-state-init c = record {
   grows = Grows-refl c.args.plan.now c.args.depth c.args.found.now;
   extends = Extends-refl c.args.plan.now (c.args.depth + 1) c.args.next.now;
-  visited = All-nil (IsVisited c.args.plan.now c.args.found.now (states_of c.args.next.now));
+  visited = All-nil (IsVisited c.args.plan.now c.args.found.now (states_of c.args.next.now.seen));
 }
 
 pub loop-state-preserved : goal.loop-state-preserved
@@ -30,8 +30,8 @@ loop-state-preserved c =
     let plan = c.args.plan.now in
     let before = c.loop-state.invariant in
     let visit = c.visit_state.ensures in
-    let old = IsVisited plan c.loop-state.found (states_of c.loop-state.next) in
-    let new = IsVisited plan c.visit_state.new.found (states_of c.visit_state.new.next) in
+    let old = IsVisited plan c.loop-state.found (states_of c.loop-state.next.seen) in
+    let new = IsVisited plan c.visit_state.new.found (states_of c.visit_state.new.next.seen) in
     let i = c.loop-state.state-index in
     record {
       grows = Grows-trans before.grows visit.grows;
@@ -44,4 +44,4 @@ loop-state-preserved c =
 pub returns-clause-visited : goal.returns-clause-visited
 returns-clause-visited c =
     let all = take_all c.loop-state.state-index c.args.states.now c.loop-state-test.false in
-    subst (All (IsVisited c.args.plan.now c.loop-state.found (states_of c.loop-state.next))) all c.loop-state.invariant.visited
+    subst (All (IsVisited c.args.plan.now c.loop-state.found (states_of c.loop-state.next.seen))) all c.loop-state.invariant.visited

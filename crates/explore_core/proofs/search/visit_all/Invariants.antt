@@ -6,5 +6,5 @@ abbrev pub invariant-loop-state : goal.invariant-loop-state
 invariant-loop-state l = record {
   grows : Grows l.plan l.depth l.initial.found l.found;
   extends : Extends l.plan (l.depth + 1) l.initial.next l.next;
-  visited : All (IsVisited l.plan l.found (states_of l.next)) (take l.state-index l.states);
+  visited : All (IsVisited l.plan l.found (states_of l.next.seen)) (take l.state-index l.states);
 }

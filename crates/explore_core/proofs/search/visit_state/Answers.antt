@@ -11,7 +11,7 @@ pub returns-in-Goes-clause-visited : goal.returns-in-Goes-clause-visited
 returns-in-Goes-clause-visited c =
     let plan = c.args.plan.now in
     let found = c.try_each.new.found in
-    let next = states_of c.try_each.new.next in
+    let next = states_of c.try_each.new.next.seen in
     let state = c.args.state.now in
     IsVisited-goes plan found next state (subst (AreTried plan found next state (length plan.clients)) c.in-Goes.is c.in_ok-moves.ensures.tried)
 
@@ -19,7 +19,7 @@ pub show_stuck-requires-clause-stuck : goal.show_stuck-requires-clause-stuck
 show_stuck-requires-clause-stuck c =
     let plan = c.args.plan.now in
     let found = c.try_each.new.found in
-    let next = states_of c.try_each.new.next in
+    let next = states_of c.try_each.new.next.seen in
     let state = c.args.state.now in
     stuck-waits plan found next state (subst (AreTried plan found next state (length plan.clients)) c.in-Waits.is c.in_ok-moves.ensures.tried)
 
@@ -33,7 +33,7 @@ pub returns-in_ok-show_stuck-in-Waits-clause-visited : goal.returns-in_ok-show_s
 returns-in_ok-show_stuck-in-Waits-clause-visited c =
     let plan = c.args.plan.now in
     let found = c.try_each.new.found in
-    let next = states_of c.try_each.new.next in
+    let next = states_of c.try_each.new.next.seen in
     let state = c.args.state.now in
     let shown = c.in_ok-show_stuck-in-Waits.ensures.shown in
     IsVisited-waits plan c.args.depth found c.show_stuck.new.found next state c.show_stuck.ensures.grows
@@ -43,7 +43,7 @@ pub make_last-requires-clause-done : goal.make_last-requires-clause-done
 make_last-requires-clause-done c =
     let plan = c.args.plan.now in
     let found = c.try_each.new.found in
-    let next = states_of c.try_each.new.next in
+    let next = states_of c.try_each.new.next.seen in
     let state = c.args.state.now in
     done-all plan found next state (subst (AreTried plan found next state (length plan.clients)) c.in-Done.is c.in_ok-moves.ensures.tried)
 
@@ -57,7 +57,7 @@ pub returns-in_ok-make_last-in-Done-clause-visited : goal.returns-in_ok-make_las
 returns-in_ok-make_last-in-Done-clause-visited c =
     let plan = c.args.plan.now in
     let found = c.try_each.new.found in
-    let next = states_of c.try_each.new.next in
+    let next = states_of c.try_each.new.next.seen in
     let state = c.args.state.now in
     IsVisited-done plan c.args.depth found c.make_last.new.found next state c.make_last.ensures.grows
     (subst (AreTried plan found next state (length plan.clients)) c.in-Done.is c.in_ok-moves.ensures.tried) c.in_ok-make_last-in-Done.ensures.ended
