@@ -1,20 +1,26 @@
 -- The workers of plans, and what each has worked off.
-use Rattle.std.proofs.Common.{◌≡◌, ℕ, zero, suc, ◌+◌, All, List, [], ◌∷◌, ◌++◌, length, Some, Result, Ok, Err, OnOk, IfErr, ◌⊎◌, inl, inr, refl, sym, ap, ◌∙◌, subst, append_assoc, append-nil, arith}
+use Rattle.std.proofs.Common.{◌≡◌, ◌≢◌, ℕ, zero, suc, ◌+◌, ◌≤◌, All, List, [], ◌∷◌, ◌++◌, length, Some, Result, Ok, Err, OnOk, IfErr, ◌⊎◌, inl, inr, map, refl, sym, ap, ◌∙◌, subst, append_assoc, append-nil, arith}
 use Rattle.std.specs.Prelude.{slice_get}
+use Rattle.std.specs.List.{range_with_len}
 use Rattle.std.specs.Result.{result_and}
 use Rattle.std.specs.declared.thread.PromisedHandle.{PromisedHandle}
 use Rattle.std.proofs.lemmas.List.Elements.{All-head, All-tail}
 use Rattle.std.proofs.lemmas.Option.{none-some, same_Some}
 use Rattle.point_core.specs.declared.refusal.Refusal.{Refusal}
 use Rattle.point_core.specs.declared.refusal.Refusal.TheVariants.{Memory, Torn}
+use Rattle.point_core.specs.Reach.{value_at}
+use Rattle.words_core.specs.declared.seat.TheConstants.{PARTS}
 use Rattle.words_core.specs.declared.trace.Step.{Step}
-use Rattle.words_core.specs.theorem.Seat.{SeatModel, both_of}
+use Rattle.words_core.specs.theorem.Seat.{SeatModel, added_to, both_of}
 use Rattle.words_core.specs.theorem.Words.{WordsModel}
 use Rattle.resv_core.specs.declared.plan.Act.{Act}
+use Rattle.resv_core.specs.declared.plan.Settled.{Settled}
+use Rattle.resv_core.specs.Settled.{values_of}
 use Rattle.clients_core.specs.declared.workers.Ended.{Ended}
 use Rattle.clients_core.specs.declared.workers.Loan.{Loan}
 use Rattle.clients_core.specs.Acting.{ClientModel, Puts, Exports}
-use Rattle.clients_core.specs.Working.{AreSeatsOf, AreWorkedOff, AreWorkers, HasEnded, HasFailed, HasKept, HasRefused, HasWorked, HaveEnded, HaveJoined, HaveKept, HaveWorked, IsWorkerOf, answer_of, joined_of, steps_of, steps_of_all}
+use Rattle.clients_core.specs.Working.{AreSeatsOf, AreWorkedOff, AreWorkers, HasEnded, HasFailed, HasKept, HasOnlyLooked, HasRefused, HasWorked, HaveEnded, HaveJoined, HaveKept, HaveWorked, IsTorn, IsWorkerOf, Settles, answer_of, joined_of, steps_of, steps_of_all}
+use Rattle.clients_core.proofs.Adding.{gathered_values-loaded}
 
 -- ---- workers that are joined one after another
 
@@ -202,8 +208,21 @@ HasRefused-ended puts exports words plans count before after ended started e mem
   first = first-refusal ended started all.endings e all.first memory is;
 }
 
+-- ---- a table that is torn
+
+-- a gathered value is not what its plan adds up to
+pub IsTorn-values : (settles : Settles) (plans : List (List Act)) (all : SeatModel) (reach : List ℕ) (contexts : ℕ) → length plans ≡ contexts → ((ctx : ℕ) → 1 ≤ ctx → ctx ≤ contexts → value_at reach ctx ≡ added_to all ctx)
+    → map (value_at reach) (range_with_len 1 (length plans)) ≢ values_of plans → IsTorn settles plans all
+IsTorn-values settles plans all reach contexts even loaded other =
+    inl (λ same. other (sym (gathered_values-loaded reach all all (length plans) (λ ctx. refl) (λ ctx low high. loaded ctx low (omega (arith, even)))) ∙ same))
+
+-- the table refused to settle, if it did
+pub IsTorn-refused : (settles : Settles) (plans : List (List Act)) (all after : SeatModel) (r : Result Settled Refusal) → HasOnlyLooked all after → settles after plans r → IfErr r (λ e. e ≡ Torn → IsTorn settles plans all)
+IsTorn-refused settles plans all after (Ok s) looked settled = tt
+IsTorn-refused settles plans all after (Err e) looked settled = λ is. inr (after, looked, subst (λ (f : Refusal). settles after plans (Err f)) is settled)
+
 -- the failures of a run whose clients were started
-module _ {T : Type 0} (puts : T → Puts) (exports : T → Exports) (made_for : T → WordsModel) (plans : List (List Act)) (table : T) (words : WordsModel) (own : made_for table ≡ words) (contexts : words.contexts ≡ length plans) where
+module _ {T : Type 0} (puts : T → Puts) (exports : T → Exports) (settles : T → Settles) (made_for : T → WordsModel) (plans : List (List Act)) (table : T) (words : WordsModel) (own : made_for table ≡ words) (contexts : words.contexts ≡ length plans) where
   contexts-made : (made_for table).contexts ≡ length plans
   contexts-made = ap (λ (w : WordsModel). w.contexts) own ∙ contexts
 
@@ -211,13 +230,27 @@ module _ {T : Type 0} (puts : T → Puts) (exports : T → Exports) (made_for : 
   buffers-made = ap (λ (w : WordsModel). w.buffers) own
 
   pub HasFailed-refused : {buffers : ℕ} {e : Refusal} → words.buffers ≡ buffers → HasRefused (puts table) (exports table) words plans e
-      → HasFailed puts exports made_for buffers plans e
+      → HasFailed puts exports settles made_for buffers plans e
   HasFailed-refused {buffers} {e} at refused =
       inr (table, contexts-made, buffers-made ∙ at, inl (subst (λ (w : WordsModel). HasRefused (puts table) (exports table) w plans e) (sym own) refused))
 
-  pub HasFailed-unsettled : {buffers : ℕ} {e : Refusal} → words.buffers ≡ buffers → (all : SeatModel) → AreWorkedOff (puts table) (exports table) words plans all
-      → (e ≡ Torn) ⊎ (e ≡ Memory) → HasFailed puts exports made_for buffers plans e
-  HasFailed-unsettled {buffers} {e} at all worked cause = elim cause [
-    | inl torn ↦ inr (table, contexts-made, buffers-made ∙ at, inr (torn, (all, subst (λ (w : WordsModel). AreWorkedOff (puts table) (exports table) w plans all) (sym own) worked)))
+  pub HasFailed-unsettled : {buffers : ℕ} {e : Refusal} → words.buffers ≡ buffers → (all : SeatModel) → all.words ≡ words → all.parts ≡ PARTS → AreWorkedOff (puts table) (exports table) words plans all
+      → (e ≡ Torn → IsTorn (settles table) plans all) → (e ≡ Torn) ⊎ (e ≡ Memory) → HasFailed puts exports settles made_for buffers plans e
+  HasFailed-unsettled {buffers} {e} at all same whole worked why cause = elim cause [
+    | inl torn ↦ inr (
+      table,
+      contexts-made,
+      buffers-made ∙ at,
+      inr (
+        torn,
+        record {
+          all = all;
+          own = same ∙ sym own;
+          whole = whole;
+          worked = subst (λ (w : WordsModel). AreWorkedOff (puts table) (exports table) w plans all) (sym own) worked;
+          torn = why torn;
+        },
+      ),
+    )
     | inr memory ↦ inl memory
   ]

@@ -1,16 +1,20 @@
 -- Clients that have worked their plans off, and the promises of their threads.
-use Rattle.std.specs.Prelude.{◌≡◌, ◌⊎◌, ℕ, ◌+◌, List, [], ◌∷◌, ◌++◌, length, Some, slice_get, Result, Ok, Err, OnOk, IfErr}
+use Rattle.std.specs.Prelude.{◌≡◌, ◌≢◌, ◌⊎◌, ℕ, ◌+◌, List, [], ◌∷◌, ◌++◌, length, Some, slice_get, Result, Ok, Err, OnOk, IfErr}
 use Rattle.std.specs.Result.{result_and}
 use Rattle.std.specs.declared.thread.PromisedHandle.{PromisedHandle}
 use Rattle.point_core.specs.declared.refusal.Refusal.{Refusal}
 use Rattle.point_core.specs.declared.refusal.Refusal.TheVariants.{Exists, Memory, Torn}
+use Rattle.words_core.specs.declared.seat.TheConstants.{PARTS}
 use Rattle.words_core.specs.declared.trace.Step.{Step}
 use Rattle.words_core.specs.theorem.Driver.{DriverModel}
 use Rattle.words_core.specs.theorem.Layout.{claim_word}
-use Rattle.words_core.specs.theorem.Seat.{SeatModel, both_of, with_step}
+use Rattle.words_core.specs.theorem.Seat.{SeatModel, added_to, both_of, raised_to, with_step}
 use Rattle.words_core.specs.theorem.Trace.{won, lost}
 use Rattle.words_core.specs.theorem.Words.{WordsModel}
 use Rattle.resv_core.specs.declared.plan.Act.{Act}
+use Rattle.resv_core.specs.declared.plan.Settled.{Settled}
+use Rattle.resv_core.specs.Settled.{gathered_values, values_of}
+use Rattle.resv_core.specs.Shared.{HasStepped}
 use Rattle.clients_core.specs.declared.workers.Ended.{Ended}
 use Rattle.clients_core.specs.declared.workers.Loan.{Loan}
 use Rattle.clients_core.specs.Acting.{ClientModel, Puts, Exports, HaveActed, HasStopped}
@@ -151,12 +155,37 @@ pub record HasRefused (puts : Puts) (exports : Exports) (words : WordsModel) (pl
   pub ended : HaveEnded puts exports words 1 plans endings
   pub first : (answer_of endings ≡ Err refusal) ⊎ ((answer_of endings ≡ Ok tt) × (refusal ≡ Memory))
 
+-- what a table says of a settlement of plans, by the gathered seat before it, and the result
+abbrev pub Settles : Type 1
+Settles = SeatModel → List (List Act) → Result Settled Refusal → Type 0
+
+-- the seat has made more steps, which change neither the sums of its additions nor the greatest points of its raises
+pub record HasOnlyLooked (before after : SeatModel) : Type 0 where
+  pub stepped : HasStepped before after
+  pub added : (ctx : ℕ) → added_to after ctx ≡ added_to before ctx
+  pub raised : (w : ℕ) → raised_to after w ≡ raised_to before w
+
+-- Why a table is torn, by these plans and a seat with all parts: a timeline's gathered value is not what its plan adds up to, or
+-- the table's settlement failed with Torn, once the seat had looked at the values
+abbrev pub IsTorn : Settles → List (List Act) → SeatModel → Type 0
+IsTorn settles plans all =
+    (gathered_values (length plans) all ≢ values_of plans)
+    ⊎ ((after : SeatModel) × HasOnlyLooked all after × settles after plans (Err Torn))
+
+-- all plans were worked off on the table, the seat with all parts has just the steps of their clients, and the table is torn
+pub record HasTorn (puts : Puts) (exports : Exports) (settles : Settles) (words : WordsModel) (plans : List (List Act)) : Type 0 where
+  pub all : SeatModel
+  pub own : all.words ≡ words
+  pub whole : all.parts ≡ PARTS
+  pub worked : AreWorkedOff puts exports words plans all
+  pub torn : IsTorn settles plans all
+
 -- Why a run whose plans have no cause of refusal fails. Memory was refused; or on a table made for the plans a client was refused,
 -- and of the refused clients the one with the least number was refused so; or all plans were worked off, and the table is torn
-abbrev pub HasFailed : {T : Type 0} → (T → Puts) → (T → Exports) → (T → WordsModel) →
+abbrev pub HasFailed : {T : Type 0} → (T → Puts) → (T → Exports) → (T → Settles) → (T → WordsModel) →
     ℕ → List (List Act) → Refusal → Type 0
-HasFailed {T} puts exports made_for buffers plans refusal =
+HasFailed {T} puts exports settles made_for buffers plans refusal =
     (refusal ≡ Memory)
     ⊎ ((table : T) × ((made_for table).contexts ≡ length plans) × ((made_for table).buffers ≡ buffers)
     × (HasRefused (puts table) (exports table) (made_for table) plans refusal
-    ⊎ ((refusal ≡ Torn) × ((all : SeatModel) × AreWorkedOff (puts table) (exports table) (made_for table) plans all))))
+    ⊎ ((refusal ≡ Torn) × HasTorn (puts table) (exports table) (settles table) (made_for table) plans)))

@@ -9,7 +9,7 @@ ghost use Rattle.words_core.specs.theorem.Seat.{SeatModel};
 ghost use Rattle.resv_core.specs.Settled.{increments_of, values_of};
 ghost use Rattle.clients_core.specs.Clients.{IsClientRefusal, ArePlans};
 ghost use Rattle.clients_core.specs.Plans.{cause_to_refuse_plans, settled_of};
-ghost use Rattle.clients_core.specs.Working.{AreWorkedOff, HasFailed};
+ghost use Rattle.clients_core.specs.Working.{AreWorkedOff, HasFailed, IsTorn};
 
 use crate::gate::Gate;
 use crate::gathered_values::gathered;
@@ -51,7 +51,7 @@ pub fn run_clients<R: Threads + Wait + Sync, T: SharedTable, G: Gate>(
     ensures refused { IfSome (cause_to_refuse_plans buffers plans.now) (λ e. result ≡ Err e) }
     ensures started { cause_to_refuse_plans buffers plans.now ≡ None → IfErr result IsClientRefusal }
     ensures first { cause_to_refuse_plans buffers plans.now ≡ None →
-        IfErr result (HasFailed T.puts T.exports T.made_for buffers plans.now) }
+        IfErr result (HasFailed T.puts T.exports T.settles T.made_for buffers plans.now) }
 {
     check_plans(buffers, plans)?;
     let (words, all) = Words::new(alloc, plans.len(), buffers, 0)?;
@@ -77,6 +77,7 @@ fn settle<R: Wait, T: SharedTable>(
     requires plans { ArePlans words.now plans.now }
     ensures settled { IfOk result (λ settled. settled ≡ settled_of words.now.buffers plans.now) }
     ensures refusals { IfErr result (λ e. (e ≡ Refusal.Torn) ⊎ (e ≡ Refusal.Memory)) }
+    ensures torn { IfErr result (λ e. e ≡ Refusal.Torn → IsTorn (T.settles table.now) plans.now all) }
 {
     let Ok(mut all) = all.gather() else {
         unreachable!()
