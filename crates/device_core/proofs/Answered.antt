@@ -1,5 +1,5 @@
 -- The answers of a device are those that the history gives.
-use Rattle.std.proofs.Common.{◌≡◌, ◌↔◌, ◌==◌, ℕ, ◌+◌, ◌-◌, zero, suc, nat_le, inl, inr, Bool, true, false, not, ◌&&◌, ◌||◌, cond, refl, sym, ap, ◌∙◌, subst, List, [], ◌∷◌, ◌++◌, length, map, codes, unwrap_or, Option, None, Some, is_some, All, Result, Ok, Err, arith}
+use Rattle.std.proofs.Common.{◌≡◌, ◌↔◌, ◌==◌, ℕ, ◌+◌, zero, suc, nat_le, inl, inr, Bool, true, false, not, ◌&&◌, ◌||◌, cond, refl, sym, ap, ◌∙◌, subst, List, [], ◌∷◌, ◌++◌, length, map, codes, unwrap_or, Option, None, Some, is_some, All, Result, Ok, Err}
 use Rattle.std.specs.List.{list_any, range_with_len}
 use Rattle.std.proofs.lemmas.Bool.{and_parts, cases_Bool, false≢true}
 use Rattle.std.proofs.lemmas.List.{length-map}
@@ -9,11 +9,9 @@ use Rattle.point_core.specs.declared.entry.Usage.{Usage}
 use Rattle.point_core.specs.declared.status.Status.TheVariants.{Active, Signalled, Cancelled}
 use Rattle.point_core.specs.Usage.{usage_number}
 use Rattle.point_core.specs.Agreement.{all_reached}
-use Rattle.point_core.specs.Reach.{GREATEST}
 use Rattle.point_core.proofs.Reached.{all_reached-IsReached}
 use Rattle.device_core.specs.declared.fence.Fence.{Fence}
 use Rattle.device_core.specs.declared.text.Text.{Text}
-use Rattle.device_core.specs.declared.fence.Timeline.{Timeline}
 use Rattle.device_core.specs.declared.info.FenceDriver.TheVariants.{SwSync}
 use Rattle.device_core.specs.declared.errno.Errno.{Errno}
 use Rattle.device_core.specs.declared.request.Request.{Request}
@@ -26,18 +24,16 @@ use Rattle.device_core.specs.theorem.Info.{fence_info, fence_infos, stub_info}
 use Rattle.device_core.specs.theorem.Buffers.{BufferState, none_waits}
 use Rattle.device_core.specs.theorem.State.{DeviceState, FileState, empty_text, objects_of}
 use Rattle.device_core.specs.theorem.Request.{AreWoken, IsAnswer, IsCause, OnInfo, OnObject, OnWoken, Reports, after, cause_of, closed, has_signalled as has_signalled_in, is_waiting, risen, takes_memory, wakes_some}
-use Rattle.device_core.specs.theorem.History.{AreAccepted, AreAnswers, HasHistory, World, empty_world, reach_of, reached_by, sum_of, world_of}
-use Rattle.device_core.specs.Sound.{IsSound}
+use Rattle.device_core.specs.theorem.History.{AreAccepted, AreAnswers, HasHistory, World, empty_world, reach_of, sum_of, world_of}
 use Rattle.device_core.specs.theorem.Signals.{first_status, opened_as, point_status}
-use Rattle.device_core.specs.theorem.Headline.{reach_after}
-use Rattle.device_core.specs.theorem.Requests.{Has32Bits, Have32Bits, causes, first_cause, is_file, is_timeline, kinds, open_kind}
+use Rattle.device_core.specs.theorem.Requests.{Has32Bits, Have32Bits, causes, first_cause, is_file, kinds, open_kind}
 use Rattle.device_core.specs.theorem.Making.{Making, made_in, time_reached}
-use Rattle.device_core.specs.theorem.Answered.{Answers, AreAnswered, AreWokenBy, IsAnswered, IsInfoOf, MayLackMemory, OnInfoOf, Refuses, WakesOne, fences_name, file_status, has_signalled, is_reached_at, name_of, timeline_reach, row_of, rows_of, status_after, timeline_name, waits}
+use Rattle.device_core.specs.theorem.Answered.{Answers, AreAnswered, AreWokenBy, IsAnswered, IsInfoOf, MayLackMemory, OnInfoOf, Refuses, WakesOne, fences_name, file_status, has_signalled, is_reached_at, name_of, row_of, rows_of, status_after, timeline_name, waits}
 use Rattle.device_core.proofs.Histories.{AreAccepted-push, world_from-push}
 use Rattle.device_core.proofs.Reporting.{HasSums-history, signalled-world}
 use Rattle.device_core.proofs.Stepping.{given_timelines, IsSound-history}
 use Rattle.device_core.proofs.BufferSteps.{test-step}
-use Rattle.device_core.proofs.Named.{names-history}
+use Rattle.device_core.proofs.Said.{names-said, said}
 use Rattle.device_core.proofs.Signals.{file-status, signals-history}
 use Rattle.device_core.proofs.OpenKinds.{HasKinds-history}
 use Rattle.device_core.proofs.Refusing.{cause-told}
@@ -49,41 +45,37 @@ same-test true b both = sym (both.0 refl)
 same-test false true both = absurd (false≢true (both.1 refl))
 same-test false false both = refl
 
-signalled-test : (w : World) → IsSound w → (n : ℕ) (f : FileState) → w.objects.files n ≡ Some f → are_signalled f.fences ≡ all_reached (reach_of w.objects) 0 (w.put n)
-signalled-test w sound n f there =
-    let one = signalled-world w sound n f there in
+signalled-test : (h : List Request) → AreAccepted empty_world h → (n : ℕ) (f : FileState) → (world_of h).objects.files n ≡ Some f → are_signalled f.fences ≡ is_reached_at h 0 n
+signalled-test h accepted n f there =
+    let w = world_of h in
+    let one = signalled-world w (IsSound-history h accepted) n f there in
     let two = all_reached-IsReached (reach_of w.objects) 0 (w.put n) in
-    same-test (are_signalled f.fences) (all_reached (reach_of w.objects) 0 (w.put n)) (λ is. two.1 (one.0 is), λ is. one.1 (two.0 is))
+    said h accepted (λ reach put. are_signalled f.fences ≡ all_reached reach 0 (put n))
+    (same-test (are_signalled f.fences) (all_reached (reach_of w.objects) 0 (w.put n)) (λ is. two.1 (one.0 is), λ is. one.1 (two.0 is)))
 
 -- files that wait, and that have signalled
 waits-told : (h : List Request) → AreAccepted empty_world h → (n : ℕ) → is_waiting ((world_of h).objects.files n) ≡ waits h n
 waits-told h accepted n = go ((world_of h).objects.files n) refl
   where
-    sound : IsSound (world_of h)
-    sound = IsSound-history h accepted
-
     file : is_some ((world_of h).objects.files n) ≡ is_file (open_kind h n)
     file = ((HasKinds-history h accepted).each n).file
 
     go : (o : Option FileState) → (world_of h).objects.files n ≡ o → is_waiting o ≡ waits h n
     go None gone = ap (λ b. b && not (is_reached_at h 0 n)) (sym (ap is_some gone) ∙ file)
     go (Some f) there =
-        ap not (signalled-test (world_of h) sound n f there)
+        ap not (signalled-test h accepted n f there)
         ∙ ap (λ b. b && not (is_reached_at h 0 n)) (sym (ap is_some there) ∙ file)
 
 signalled-told : (h : List Request) → AreAccepted empty_world h → (n : ℕ) → has_signalled_in ((world_of h).objects.files n) ≡ has_signalled h n
 signalled-told h accepted n = go ((world_of h).objects.files n) refl
   where
-    sound : IsSound (world_of h)
-    sound = IsSound-history h accepted
-
     file : is_some ((world_of h).objects.files n) ≡ is_file (open_kind h n)
     file = ((HasKinds-history h accepted).each n).file
 
     go : (o : Option FileState) → (world_of h).objects.files n ≡ o → has_signalled_in o ≡ has_signalled h n
     go None gone = ap (λ b. b && is_reached_at h 0 n) (sym (ap is_some gone) ∙ file)
     go (Some f) there =
-        signalled-test (world_of h) sound n f there
+        signalled-test h accepted n f there
         ∙ ap (λ b. b && is_reached_at h 0 n) (sym (ap is_some there) ∙ file)
 
 -- a file after another request
@@ -169,18 +161,18 @@ file_status-told h accepted n f m there is =
 abbrev IsNamed : List Request → Fence → Type 0
 IsNamed h g = g.name ≡ timeline_name h g.timeline
 
-names-told : (h : List Request) (n : ℕ) (f : FileState) → (world_of h).objects.files n ≡ Some f → All (IsNamed h) f.fences
-names-told h n f there =
-    All-weaker (λ (g : Fence). opened_as g.timeline empty_world h ≡ Some g.name) (IsNamed h) (λ g is. sym (ap (λ o. unwrap_or o empty_text) is)) f.fences (names-history h n f there)
+names-told : (h : List Request) → AreAccepted empty_world h → (n : ℕ) (f : FileState) → (world_of h).objects.files n ≡ Some f → All (IsNamed h) f.fences
+names-told h accepted n f there =
+    All-weaker (λ (g : Fence). opened_as g.timeline [] h ≡ Some g.name) (IsNamed h) (λ g is. sym (ap (λ o. unwrap_or o empty_text) is)) f.fences (names-said h accepted n f there)
 
 fences_name-told : (h : List Request) (n : ℕ) (fs : List Fence) → All (IsNamed h) fs → fences_name_in n fs ≡ fences_name h n (map listed fs)
 fences_name-told h n [] all = refl
 fences_name-told h n (g ∷ []) all = ap (λ (t : Text). kernel_name (codes "sw_sync") (text_of t) g.timeline g.point) (All-head (IsNamed h) g [] all)
 fences_name-told h n (g ∷ k ∷ gs) all = refl
 
-name-told : (h : List Request) (n : ℕ) (f : FileState) (m : Making) → (world_of h).objects.files n ≡ Some f → IsMadeAs f m → file_name n f ≡ name_of h n m
-name-told h n f m there is =
-    ap (λ ns. cond (length (text_of f.name) == 0) ns (text_of f.name)) (fences_name-told h n f.fences (names-told h n f there) ∙ ap (fences_name h n) is.points)
+name-told : (h : List Request) → AreAccepted empty_world h → (n : ℕ) (f : FileState) (m : Making) → (world_of h).objects.files n ≡ Some f → IsMadeAs f m → file_name n f ≡ name_of h n m
+name-told h accepted n f m there is =
+    ap (λ ns. cond (length (text_of f.name) == 0) ns (text_of f.name)) (fences_name-told h n f.fences (names-told h accepted n f there) ∙ ap (fences_name h n) is.points)
     ∙ ap (λ (t : Text). cond (length (text_of t) == 0) (fences_name h n m.points) (text_of t)) is.name
 
 row-told : (h : List Request) (n : ℕ) (g : Fence) → IsNamed h g → status_before g.signal Signalled ≡ status_after h (listed g) → time_of g.signal ≡ time_reached h n (listed g) → fence_info g ≡ row_of h n (listed g)
@@ -197,7 +189,7 @@ rows-told h n (g ∷ gs) named statuses times =
 infos-told : (h : List Request) → AreAccepted empty_world h → (n : ℕ) (f : FileState) (m : Making) → (world_of h).objects.files n ≡ Some f → IsMadeAs f m → fence_infos f ≡ rows_of h n m
 infos-told h accepted n f m there is =
     ap (λ infos. cond (length f.fences == 0) (stub_info f.stub_at ∷ []) infos)
-    (rows-told h n f.fences (names-told h n f there) (statuses-told h accepted n f there) (times-are h accepted n f there))
+    (rows-told h n f.fences (names-told h accepted n f there) (statuses-told h accepted n f there) (times-are h accepted n f there))
     ∙ ap (λ k. cond (k == 0) (stub_info f.stub_at ∷ []) (map (row_of h n) (map listed f.fences))) (sym (length-map f.fences listed))
     ∙ ap (λ ls. cond (length ls == 0) (stub_info f.stub_at ∷ []) (map (row_of h n) ls)) is.points
     ∙ ap (λ t. cond (length m.points == 0) (stub_info t ∷ []) (map (row_of h n) m.points)) is.stub_at
@@ -211,7 +203,7 @@ info-told h accepted small n (Some f) (answer.Signalled signalled) there told = 
 info-told h accepted small n (Some f) (answer.Info info) there told =
     let is = (HasMakings-history h accepted small).files n f there in
     record {
-      name = told.name ∙ ap as_text (name-told h n f (made_in h n) there is);
+      name = told.name ∙ ap as_text (name-told h accepted n f (made_in h n) there is);
       status = told.status ∙ file_status-told h accepted n f (made_in h n) there is;
       rows = told.fences ∙ infos-told h accepted n f (made_in h n) there is;
     }
@@ -231,7 +223,8 @@ tested-told h accepted n b usage there =
     let sound = IsSound-history h accepted in
     let one = test-step w.objects usage b.fences (w.put n) (given_timelines w sound) (sound.buffer_fences n b there) (sound.buffer_agrees n b there) in
     let two = all_reached-IsReached (reach_of w.objects) (usage_number usage) (w.put n) in
-    same-test (none_waits w.objects.timelines usage b.fences) (is_reached_at h (usage_number usage) n) (λ is. two.1 (one.0 is), λ is. one.1 (two.0 is))
+    let same = same-test (none_waits w.objects.timelines usage b.fences) (all_reached (reach_of w.objects) (usage_number usage) (w.put n)) (λ is. two.1 (one.0 is), λ is. one.1 (two.0 is)) in
+    said h accepted (λ reach put. none_waits w.objects.timelines usage b.fences ≡ all_reached reach (usage_number usage) (put n)) same
 
 answer-told : (h : List Request) (r : Request) (given : Reply) → AreAccepted empty_world h → Have32Bits h → cause_of (world_of h).objects r ≡ None → Reports (world_of h).objects r given → Answers h r given
 answer-told h (request.Open name) given accepted small none is = number-told h accepted given is
@@ -245,7 +238,7 @@ answer-told h (request.Status file) given accepted small none is =
     (λ f there. ap answer.Status (file_status-told h accepted file f (made_in h file) there ((HasMakings-history h accepted small).files file f there)))
 answer-told h (request.IsSignalled file) given accepted small none is =
     object-told ((world_of h).objects.files file) (λ f. answer.Signalled (are_signalled f.fences)) given (answer.Signalled (is_reached_at h 0 file)) is
-    (λ f there. ap answer.Signalled (signalled-test (world_of h) (IsSound-history h accepted) file f there))
+    (λ f there. ap answer.Signalled (signalled-test h accepted file f there))
 answer-told h (request.Info file) given accepted small none is = info-told h accepted small file ((world_of h).objects.files file) given refl is
 answer-told h (request.Close number now) given accepted small none is =
     let d = (world_of h).objects in
@@ -284,22 +277,3 @@ AreAnswered-from h (r ∷ rs) (Err e ∷ given) accepted small rest are = (
 
 pub AreAnswered-run : (rs : List Request) (given : List (Result Reply Errno)) → Have32Bits rs → AreAnswers [] rs given → AreAnswered [] rs given
 AreAnswered-run rs given small are = AreAnswered-from [] rs given tt (All-nil Has32Bits) small are
-
--- the reach
-reached-told : (h : List Request) → AreAccepted empty_world h → (n : ℕ) → reached_by ((world_of h).objects.timelines n) ≡ timeline_reach h n
-reached-told h accepted n = go ((world_of h).objects.timelines n) refl
-  where
-    kind : is_some ((world_of h).objects.timelines n) ≡ is_timeline (open_kind h n)
-    kind = ((HasKinds-history h accepted).each n).timeline
-
-    go : (o : Option Timeline) → (world_of h).objects.timelines n ≡ o → reached_by o ≡ timeline_reach h n
-    go None gone = ap (λ b. cond b (sum_of n h) GREATEST) (sym (ap is_some gone) ∙ kind)
-    go (Some t) there = (HasSums-history h accepted).values n t there ∙ ap (λ b. cond b (sum_of n h) GREATEST) (sym (ap is_some there) ∙ kind)
-
-pub reach-told : (h : List Request) → AreAccepted empty_world h → reach_after h ≡ map (timeline_reach h) (range_with_len 1 (length (kinds h)))
-reach-told h accepted =
-    let d = (world_of h).objects in
-    let next = (HasKinds-history h accepted).next in
-    let many : d.next - 1 ≡ length (kinds h) = omega arith in
-    (λ i. map (λ n. reached-told h accepted n i) (range_with_len 1 (d.next - 1)))
-    ∙ ap (λ k. map (timeline_reach h) (range_with_len 1 k)) many

@@ -169,10 +169,10 @@ HasListed-dropped w number h = record {
 }
 
 -- a file of a point, a merge and an export
-one-in : (t : ℕ) (point now : ℕ) (o : Option Timeline) (f : FileState) → option_map (λ k. one_fence_file t k point now) o ≡ Some f → AreIn (asked t o point) f.fences
+one-in : (t : ℕ) (point now : ℕ) (o : Option Timeline) (f : FileState) → option_map (λ k. one_fence_file t k point now) o ≡ Some f → AreIn (asked t (value_in o) point) f.fences
 one-in t point now None f is = None≢Some f is
 one-in t point now (Some k) f is =
-    let put = asked t (Some k) point in
+    let put = asked t k.value point in
     let P : Fence → Type 0 = λ g. Contains put (entry_in g) in
     let fs : fence_at t k point now ∷ [] ≡ f.fences = ap (λ (x : FileState). x.fences) (same_Some is) in
     subst (AreIn put) fs (All-cons P (fence_at t k point now) [] (0, omega arith, refl) (All-nil P))
@@ -240,7 +240,7 @@ HasListed-closed w number now h = elim (cases_Bool (is_some (w.objects.timelines
 pub HasListed-after : (w : World) (r : Request) → IsSound w → HasListed w → HasListed (world_after w r)
 HasListed-after w (request.Open name) sound h = record { files = h.files; buffers = h.buffers }
 HasListed-after w (request.Fence t point now) sound h =
-    file-new w (option_map (λ k. one_fence_file t k point now) (w.objects.timelines t)) (asked t (w.objects.timelines t) point) sound h
+    file-new w (option_map (λ k. one_fence_file t k point now) (w.objects.timelines t)) (asked t (value_in (w.objects.timelines t)) point) sound h
     (λ f is. one-in t point now (w.objects.timelines t) f is)
 HasListed-after w (request.Inc t n now) sound h =
     HasListed-signals w t (value_in (w.objects.timelines t) + n) (signal_at now false) (option_map (λ k. raised k n) (w.objects.timelines t)) h

@@ -24,6 +24,7 @@ use Rattle.device_core.specs.theorem.State.{FileState, Objects, empty_text, expo
 use Rattle.device_core.specs.theorem.Request.{after, cause_of, closed_timeline, dropped, overflow, value_in, with_at, with_file, with_signals}
 use Rattle.device_core.specs.theorem.History.{AreAccepted, World, empty_world, put_by_export, reach_of, sum_of, world_of}
 use Rattle.device_core.specs.theorem.Listing.{pending_points}
+use Rattle.device_core.specs.theorem.Put.{put_into, reach_after}
 use Rattle.device_core.specs.theorem.Signals.{reached_from}
 use Rattle.device_core.specs.Sound.{AreFences, IsSound}
 use Rattle.device_core.specs.theorem.Requests.{Has32Bits, Have32Bits, kinds}
@@ -35,9 +36,10 @@ use Rattle.device_core.proofs.Exports.{exported-waits}
 use Rattle.device_core.proofs.Pending.{exported-pending, points-are}
 use Rattle.device_core.proofs.Histories.{AreAccepted-push, world_from-push}
 use Rattle.device_core.proofs.Reporting.{HasSums, HasSums-history}
-use Rattle.device_core.proofs.Signals.{merged-pending, signals-history}
+use Rattle.device_core.proofs.Signals.{merged-pending}
 use Rattle.device_core.proofs.Stepping.{same_Some, None≢Some, no_cause, numbered, signal_pending, IsSound-exported, IsSound-merged, IsSound-history}
 use Rattle.device_core.proofs.OpenKinds.{HasKinds-history}
+use Rattle.device_core.proofs.Said.{said, times-said}
 
 abbrev pub listed : Fence → Listed
 listed g = record { point = point_in g; low = g.point }
@@ -230,8 +232,8 @@ time-is (Some s) = refl
 -- the times at which a file's fences signalled
 pub times-are : (h : List Request) → AreAccepted empty_world h → (n : ℕ) (f : FileState) → (world_of h).objects.files n ≡ Some f → All (λ (g : Fence). time_of g.signal ≡ time_reached h n (listed g)) f.fences
 times-are h accepted n f there =
-    All-weaker (λ (g : Fence). option_map (λ (s : Signal). s.at) g.signal ≡ reached_from n (point_in g) empty_world h) (λ (g : Fence). time_of g.signal ≡ time_reached h n (listed g))
-    (λ g is. time-is g.signal ∙ ap (λ o. unwrap_or o 0) is) f.fences (signals-history h accepted n f there).times
+    All-weaker (λ (g : Fence). option_map (λ (s : Signal). s.at) g.signal ≡ reached_from n (point_in g) [] h) (λ (g : Fence). time_of g.signal ≡ time_reached h n (listed g))
+    (λ g is. time-is g.signal ∙ ap (λ o. unwrap_or o 0) is) f.fences (times-said h accepted n f there)
 
 last-is : (h : List Request) (n : ℕ) (f : FileState) (m : Making) → IsMadeAs f m → fold max f.stub_at (map (λ g. time_reached h n (listed g)) f.fences) ≡ last_signal h n m
 last-is h n f m is =
@@ -294,11 +296,13 @@ made-merged h accepted made a b name (Some x) (Some y) f left right are is =
     let same : merged_file name x y ≡ f = same_Some is in
     let sound = IsSound-history h accepted in
     let lows : All IsLow (merged x.fences y.fences) = merged-All IsLow x.fences y.fences (are.lows a x left) (are.lows b y right) in
+    let time = max (last_signal h a (made a)) (last_signal h b (made b)) in
     subst (λ z. IsMadeAs z (made_as made h (request.Merge a b name)) × All IsLow z.fences) same (
-      made-listing w.objects name (merged_file name x y) (w.put a ++ w.put b) (merged_time x y) (max (last_signal h a (made a)) (last_signal h b (made b))) sound.first refl refl
+      said h accepted (λ reach put. IsMadeAs (merged_file name x y) (listing_file name (pending_points reach (put a ++ put b) 0) time))
+          (made-listing w.objects name (merged_file name x y) (w.put a ++ w.put b) (merged_time x y) time sound.first refl refl
           (merged-time h accepted a b x y made left right (are.files a x left) (are.files b y right))
           (merged-pending x.fences y.fences) lows
-          (IsSound-merged w name a b (Some x) (Some y) sound left right (merged_file name x y) refl),
+          (IsSound-merged w name a b (Some x) (Some y) sound left right (merged_file name x y) refl)),
       lows,
     )
 
@@ -312,7 +316,7 @@ exported-low timelines usage hs =
     All-weaker (λ (f : Fence). IsWaitingAt f (timelines f.timeline)) IsLow (λ f is. waiting-low f (timelines f.timeline) is) (exported timelines usage hs) (exported-waits timelines usage hs)
 
 made-exported : (h : List Request) (accepted : AreAccepted empty_world h) (made : ℕ → Making) (buffer : ℕ) (u : Result Usage Errno) (o : Option BufferState) (f : FileState) → (world_of h).objects.buffers buffer ≡ o → HasMakings (world_of h).objects made → export_of (world_of h).objects.timelines u o ≡ Some f
-    → IsMadeAs f (listing_file empty_text (pending_points (reach_of (world_of h).objects) (put_by_export u ((world_of h).put buffer)) 0) (made buffer).stub_at) × All IsLow f.fences
+    → IsMadeAs f (listing_file empty_text (pending_points (reach_after h) (put_by_export u (put_into h buffer)) 0) (made buffer).stub_at) × All IsLow f.fences
 made-exported h accepted made buffer (Err e) o f there are is = None≢Some f is
 made-exported h accepted made buffer (Ok usage) None f there are is = None≢Some f is
 made-exported h accepted made buffer (Ok usage) (Some b) f there are is =
@@ -320,11 +324,14 @@ made-exported h accepted made buffer (Ok usage) (Some b) f there are is =
     let same : exported_file w.objects.timelines usage b ≡ f = same_Some is in
     let sound = IsSound-history h accepted in
     let lows = exported-low w.objects.timelines usage b.fences in
-    subst (λ z. IsMadeAs z (listing_file empty_text (pending_points (reach_of w.objects) (put_by_export (Ok usage) (w.put buffer)) 0) (made buffer).stub_at) × All IsLow z.fences) same (
-      made-listing w.objects empty_text (exported_file w.objects.timelines usage b) (put_by_export (Ok usage) (w.put buffer)) b.stub_at (made buffer).stub_at sound.first refl refl
+    let file = exported_file w.objects.timelines usage b in
+    let time = (made buffer).stub_at in
+    subst (λ z. IsMadeAs z (listing_file empty_text (pending_points (reach_after h) (put_by_export (Ok usage) (put_into h buffer)) 0) time) × All IsLow z.fences) same (
+      said h accepted (λ reach put. IsMadeAs file (listing_file empty_text (pending_points reach (put_by_export (Ok usage) (put buffer)) 0) time))
+          (made-listing w.objects empty_text file (put_by_export (Ok usage) (w.put buffer)) b.stub_at time sound.first refl refl
           (are.buffers buffer b there)
           (exported-pending w.objects.timelines usage b.fences) lows
-          (IsSound-exported w buffer (Ok usage) (Some b) sound there (exported_file w.objects.timelines usage b) refl),
+          (IsSound-exported w buffer (Ok usage) (Some b) sound there file refl)),
       lows,
     )
 

@@ -18,11 +18,16 @@ use Rattle.device_core.specs.theorem.Buffers.{BufferState, export_usage, fence_w
 use Rattle.device_core.specs.theorem.State.{FileState, Objects, export_of, fence_at, file_signalled, merged_files, new_timeline, one_fence_file, raised}
 use Rattle.device_core.specs.theorem.Request.{closed_timeline, dropped, value_in, with_at}
 use Rattle.device_core.specs.theorem.History.{World, empty_world, world_after, world_from, world_of}
-use Rattle.device_core.specs.theorem.Signals.{first_name, name_in, opened_as}
+use Rattle.device_core.specs.theorem.Signals.{first_name, name_in}
 use Rattle.device_core.proofs.Placed.{fold-All, merged-All}
 use Rattle.device_core.proofs.Histories.{world_from-push}
 use Rattle.device_core.proofs.Sound.{with_at-same, with_at-other}
 use Rattle.device_core.proofs.Stepping.{same_Some, None≢Some}
+
+-- the name with which the timeline of that number was opened, along the worlds of a history
+abbrev pub opened_in : ℕ → World → List Request → Option Text
+opened_in number w [] = None
+opened_in number w (r ∷ rs) = first_name (name_in number w.objects.next r) (opened_in number (world_after w r) rs)
 
 -- the name after another request
 first_name-none : (a : Option Text) → first_name a None ≡ a
@@ -33,29 +38,29 @@ first_name-assoc : (a b c : Option Text) → first_name a (first_name b c) ≡ f
 first_name-assoc None b c = refl
 first_name-assoc (Some x) b c = refl
 
-opened_as-push : (rs : List Request) (w : World) (r : Request) (t : ℕ) → opened_as t w (rs ++ r ∷ []) ≡ first_name (opened_as t w rs) (name_in t (world_from w rs) r)
-opened_as-push [] w r t = first_name-none (name_in t w r)
-opened_as-push (x ∷ xs) w r t =
-    ap (first_name (name_in t w x)) (opened_as-push xs (world_after w x) r t)
-    ∙ first_name-assoc (name_in t w x) (opened_as t (world_after w x) xs) (name_in t (world_from (world_after w x) xs) r)
+opened_in-push : (rs : List Request) (w : World) (r : Request) (t : ℕ) → opened_in t w (rs ++ r ∷ []) ≡ first_name (opened_in t w rs) (name_in t (world_from w rs).objects.next r)
+opened_in-push [] w r t = first_name-none (name_in t w.objects.next r)
+opened_in-push (x ∷ xs) w r t =
+    ap (first_name (name_in t w.objects.next x)) (opened_in-push xs (world_after w x) r t)
+    ∙ first_name-assoc (name_in t w.objects.next x) (opened_in t (world_after w x) xs) (name_in t (world_from (world_after w x) xs).objects.next r)
 
-stays : (before : List Request) (r : Request) (t : ℕ) (name : Text) → opened_as t empty_world before ≡ Some name → opened_as t empty_world (before ++ r ∷ []) ≡ Some name
-stays before r t name is = opened_as-push before empty_world r t ∙ ap (λ o. first_name o (name_in t (world_of before) r)) is
+stays : (before : List Request) (r : Request) (t : ℕ) (name : Text) → opened_in t empty_world before ≡ Some name → opened_in t empty_world (before ++ r ∷ []) ≡ Some name
+stays before r t name is = opened_in-push before empty_world r t ∙ ap (λ o. first_name o (name_in t (world_of before).objects.next r)) is
 
-comes : (before : List Request) (w : World) (r : Request) (t : ℕ) → w ≡ world_of before → opened_as t empty_world before ≡ None → opened_as t empty_world (before ++ r ∷ []) ≡ name_in t w r
-comes before w r t is none = opened_as-push before empty_world r t ∙ ap (λ o. first_name o (name_in t (world_of before) r)) none ∙ ap (λ (v : World). name_in t v r) (sym is)
+comes : (before : List Request) (w : World) (r : Request) (t : ℕ) → w ≡ world_of before → opened_in t empty_world before ≡ None → opened_in t empty_world (before ++ r ∷ []) ≡ name_in t w.objects.next r
+comes before w r t is none = opened_in-push before empty_world r t ∙ ap (λ o. first_name o (name_in t (world_of before).objects.next r)) none ∙ ap (λ (v : World). name_in t v.objects.next r) (sym is)
 
 -- a fence has the name of its timeline
 abbrev IsNamed : List Request → Fence → Type 0
-IsNamed before g = opened_as g.timeline empty_world before ≡ Some g.name
+IsNamed before g = opened_in g.timeline empty_world before ≡ Some g.name
 
 abbrev AreNamed : List Request → (ℕ → Option Timeline) → Type 0
-AreNamed before timelines = (n : ℕ) (t : Timeline) → timelines n ≡ Some t → opened_as n empty_world before ≡ Some t.name
+AreNamed before timelines = (n : ℕ) (t : Timeline) → timelines n ≡ Some t → opened_in n empty_world before ≡ Some t.name
 
 record HasNames (w : World) (before : List Request) : Type 0 where
   pub timelines : AreNamed before w.objects.timelines
   pub files : (n : ℕ) (f : FileState) → w.objects.files n ≡ Some f → All (IsNamed before) f.fences
-  pub none : (n : ℕ) → w.objects.next ≤ n → opened_as n empty_world before ≡ None
+  pub none : (n : ℕ) → w.objects.next ≤ n → opened_in n empty_world before ≡ None
 
 all-stay : (before : List Request) (r : Request) (fs : List Fence) → All (IsNamed before) fs → All (IsNamed (before ++ r ∷ [])) fs
 all-stay before r fs all = All-weaker (IsNamed before) (IsNamed (before ++ r ∷ [])) (λ g is. stays before r g.timeline g.name is) fs all
@@ -64,7 +69,7 @@ names-stay : (before : List Request) (r : Request) (timelines : ℕ → Option T
 names-stay before r timelines all n t is = stays before r n t.name (all n t is)
 
 -- a number that was not given has no name, until a timeline is opened with it
-none-later : (before : List Request) (w : World) (r : Request) → w ≡ world_of before → w.objects.next ≤ (world_after w r).objects.next → ((n : ℕ) → (world_after w r).objects.next ≤ n → name_in n w r ≡ None) → HasNames w before → (n : ℕ) → (world_after w r).objects.next ≤ n → opened_as n empty_world (before ++ r ∷ []) ≡ None
+none-later : (before : List Request) (w : World) (r : Request) → w ≡ world_of before → w.objects.next ≤ (world_after w r).objects.next → ((n : ℕ) → (world_after w r).objects.next ≤ n → name_in n w.objects.next r ≡ None) → HasNames w before → (n : ℕ) → (world_after w r).objects.next ≤ n → opened_in n empty_world (before ++ r ∷ []) ≡ None
 none-later before w r is more idle h n past = comes before w r n is (h.none n (omega arith)) ∙ idle n past
 
 -- signals keep names
@@ -81,13 +86,13 @@ signalled-names before t v s (Some g) f all is =
     (All-map (IsNamed before) (signalled_by t v s) g.fences (All-weaker (IsNamed before) (λ x. IsNamed before (signalled_by t v s x)) (λ x its. signalled-named before t v s x its) g.fences (all g refl)))
 
 -- a timeline that is changed
-changed-names : (before : List Request) (timelines : ℕ → Option Timeline) (number : ℕ) (new : Option Timeline) → AreNamed before timelines → ((t : Timeline) → new ≡ Some t → opened_as number empty_world before ≡ Some t.name) → AreNamed before (with_at timelines number new)
+changed-names : (before : List Request) (timelines : ℕ → Option Timeline) (number : ℕ) (new : Option Timeline) → AreNamed before timelines → ((t : Timeline) → new ≡ Some t → opened_in number empty_world before ≡ Some t.name) → AreNamed before (with_at timelines number new)
 changed-names before timelines number new all own n t is = elim (cases_eq number n) [
-  | inl same ↦ sym (ap (λ m. opened_as m empty_world before) same) ∙ own t (sym (with_at-same timelines number new) ∙ ap (with_at timelines number new) same ∙ is)
+  | inl same ↦ sym (ap (λ m. opened_in m empty_world before) same) ∙ own t (sym (with_at-same timelines number new) ∙ ap (with_at timelines number new) same ∙ is)
   | inr apart ↦ all n t (sym (with_at-other timelines number new n apart) ∙ is)
 ]
 
-raised-name : (before : List Request) (timelines : ℕ → Option Timeline) (number n : ℕ) (o : Option Timeline) → timelines number ≡ o → AreNamed before timelines → (t : Timeline) → option_map (λ k. raised k n) o ≡ Some t → opened_as number empty_world before ≡ Some t.name
+raised-name : (before : List Request) (timelines : ℕ → Option Timeline) (number n : ℕ) (o : Option Timeline) → timelines number ≡ o → AreNamed before timelines → (t : Timeline) → option_map (λ k. raised k n) o ≡ Some t → opened_in number empty_world before ≡ Some t.name
 raised-name before timelines number n None there all t is = None≢Some t is
 raised-name before timelines number n (Some k) there all t is = all number k there ∙ ap (λ (x : Timeline). Some x.name) (same_Some is)
 
@@ -103,7 +108,7 @@ merged-names before name (Some g) None f left right is = None≢Some f is
 merged-names before name (Some g) (Some k) f left right is =
     subst (All (IsNamed before)) (ap (λ (x : FileState). x.fences) (same_Some is)) (merged-All (IsNamed before) g.fences k.fences (left g refl) (right k refl))
 
-waiting-named : (before : List Request) (h : BufferFence) (gs : List Fence) (within : Bool) (o : Option Timeline) → ((t : Timeline) → o ≡ Some t → opened_as h.timeline empty_world before ≡ Some t.name) → All (IsNamed before) gs → All (IsNamed before) (cons_option (if within then fence_waiting h.timeline h.value o else None) gs)
+waiting-named : (before : List Request) (h : BufferFence) (gs : List Fence) (within : Bool) (o : Option Timeline) → ((t : Timeline) → o ≡ Some t → opened_in h.timeline empty_world before ≡ Some t.name) → All (IsNamed before) gs → All (IsNamed before) (cons_option (if within then fence_waiting h.timeline h.value o else None) gs)
 waiting-named before h gs false o named rest = rest
 waiting-named before h gs true None named rest = rest
 waiting-named before h gs true (Some t) named rest = elim (cases_Bool (nat_lt t.value h.value)) [
@@ -124,14 +129,14 @@ exported-names before timelines (Ok usage) (Some b) f all is =
     (fold-All (IsNamed before) (filter_map (waiting_fence timelines usage) b.fences) [] (All-nil (IsNamed before)) (all_waiting-named before timelines usage b.fences all))
 
 -- after another request
-HasNames-same : (before : List Request) (w : World) (r : Request) → w ≡ world_of before → w.objects.next ≤ (world_after w r).objects.next → ((n : ℕ) → (world_after w r).objects.next ≤ n → name_in n w r ≡ None) → (world_after w r).objects.timelines ≡ w.objects.timelines → (world_after w r).objects.files ≡ w.objects.files → HasNames w before → HasNames (world_after w r) (before ++ r ∷ [])
+HasNames-same : (before : List Request) (w : World) (r : Request) → w ≡ world_of before → w.objects.next ≤ (world_after w r).objects.next → ((n : ℕ) → (world_after w r).objects.next ≤ n → name_in n w.objects.next r ≡ None) → (world_after w r).objects.timelines ≡ w.objects.timelines → (world_after w r).objects.files ≡ w.objects.files → HasNames w before → HasNames (world_after w r) (before ++ r ∷ [])
 HasNames-same before w r is more idle timelines files h = record {
   timelines = subst (AreNamed (before ++ r ∷ [])) (sym timelines) (names-stay before r w.objects.timelines h.timelines);
   files = λ n f there. all-stay before r f.fences (h.files n f (sym (ap (λ fs. fs n) files) ∙ there));
   none = none-later before w r is more idle h;
 }
 
-HasNames-new : (before : List Request) (w : World) (r : Request) (file : Option FileState) → w ≡ world_of before → (world_after w r).objects.next ≡ w.objects.next + 1 → ((n : ℕ) → (world_after w r).objects.next ≤ n → name_in n w r ≡ None) → (world_after w r).objects.timelines ≡ w.objects.timelines → (world_after w r).objects.files ≡ with_at w.objects.files w.objects.next file → HasNames w before → ((f : FileState) → file ≡ Some f → All (IsNamed before) f.fences) → HasNames (world_after w r) (before ++ r ∷ [])
+HasNames-new : (before : List Request) (w : World) (r : Request) (file : Option FileState) → w ≡ world_of before → (world_after w r).objects.next ≡ w.objects.next + 1 → ((n : ℕ) → (world_after w r).objects.next ≤ n → name_in n w.objects.next r ≡ None) → (world_after w r).objects.timelines ≡ w.objects.timelines → (world_after w r).objects.files ≡ with_at w.objects.files w.objects.next file → HasNames w before → ((f : FileState) → file ≡ Some f → All (IsNamed before) f.fences) → HasNames (world_after w r) (before ++ r ∷ [])
 HasNames-new before w r file is next idle timelines files h new = record {
   timelines = subst (AreNamed (before ++ r ∷ [])) (sym timelines) (names-stay before r w.objects.timelines h.timelines);
   files = λ n f there.
@@ -143,7 +148,7 @@ HasNames-new before w r file is next idle timelines files h new = record {
   none = none-later before w r is (omega (arith, next)) idle h;
 }
 
-HasNames-signals : (before : List Request) (w : World) (r : Request) (t v : ℕ) (s : Signal) (new : Option Timeline) → w ≡ world_of before → (world_after w r).objects.next ≡ w.objects.next → ((n : ℕ) → (world_after w r).objects.next ≤ n → name_in n w r ≡ None) → (world_after w r).objects.timelines ≡ with_at w.objects.timelines t new → ((n : ℕ) → (world_after w r).objects.files n ≡ option_map (file_signalled t v s) (w.objects.files n)) → ((k : Timeline) → new ≡ Some k → opened_as t empty_world before ≡ Some k.name) → HasNames w before → HasNames (world_after w r) (before ++ r ∷ [])
+HasNames-signals : (before : List Request) (w : World) (r : Request) (t v : ℕ) (s : Signal) (new : Option Timeline) → w ≡ world_of before → (world_after w r).objects.next ≡ w.objects.next → ((n : ℕ) → (world_after w r).objects.next ≤ n → name_in n w.objects.next r ≡ None) → (world_after w r).objects.timelines ≡ with_at w.objects.timelines t new → ((n : ℕ) → (world_after w r).objects.files n ≡ option_map (file_signalled t v s) (w.objects.files n)) → ((k : Timeline) → new ≡ Some k → opened_in t empty_world before ≡ Some k.name) → HasNames w before → HasNames (world_after w r) (before ++ r ∷ [])
 HasNames-signals before w r t v s new is next idle timelines files own h = record {
   timelines = subst (AreNamed (before ++ r ∷ [])) (sym timelines) (names-stay before r (with_at w.objects.timelines t new) (changed-names before w.objects.timelines t new h.timelines own));
   files = λ n f there. all-stay before r f.fences (signalled-names before t v s (w.objects.files n) f (h.files n) (sym (files n) ∙ there));
@@ -209,7 +214,7 @@ HasNames-from (r ∷ rs) w before is h =
     subst (HasNames (world_from (world_after w r) rs)) (append_assoc before (r ∷ []) rs)
     (HasNames-from rs (world_after w r) (before ++ r ∷ []) next (HasNames-after before w r is h))
 
-pub names-history : (history : List Request) (n : ℕ) (f : FileState) → (world_of history).objects.files n ≡ Some f → All (λ (g : Fence). opened_as g.timeline empty_world history ≡ Some g.name) f.fences
+pub names-history : (history : List Request) (n : ℕ) (f : FileState) → (world_of history).objects.files n ≡ Some f → All (λ (g : Fence). opened_in g.timeline empty_world history ≡ Some g.name) f.fences
 names-history history n f is =
     let all = HasNames-from history empty_world [] refl (record { timelines = λ m t its. None≢Some t its; files = λ m g its. None≢Some g its; none = λ m past. refl }) in
     all.files n f is

@@ -107,7 +107,7 @@ pub record HasKinds (d : Objects) (h : List Request) : Type 0 where
   pub each : (n : ℕ) → IsOfAt (open_kind h n) d n
   pub unclosed : (n : ℕ) → d.next ≤ n → is_closed h n ≡ false
 
-HasKinds-empty : HasKinds no_objects []
+pub HasKinds-empty : HasKinds no_objects []
 HasKinds-empty = record {
   next = omega arith;
   each = λ n. subst (λ k. IsOf k None None None) (sym (none n)) (record { timeline = refl; file = refl; buffer = refl });

@@ -1,33 +1,25 @@
 -- A device's reports of all that was put into its files and buffers, and of its timelines.
-use Rattle.std.proofs.Common.{◌≡◌, ◌≢◌, ◌↔◌, ℕ, ◌+◌, ◌<◌, ◌≤◌, ◌⊎◌, inl, inr, true, false, not, cond, refl, sym, ap, ◌∙◌, subst, List, [], ◌∷◌, ◌++◌, append_assoc, append-nil, map, Option, None, Some, is_some, option_map, All, arith}
+use Rattle.std.proofs.Common.{◌≡◌, ◌≢◌, ◌↔◌, ℕ, ◌+◌, ◌<◌, ◌≤◌, ◌⊎◌, inl, inr, true, false, not, cond, refl, sym, ap, ◌∙◌, subst, List, [], ◌∷◌, ◌++◌, append_assoc, append-nil, Option, None, Some, is_some, option_map, All, arith}
 use Rattle.std.proofs.lemmas.Bool.{cases_eq, and_parts, and_from, not-true, le-ltb, eq-eqb, ne_eqb}
 use Rattle.std.proofs.lemmas.List.Elements.{All-nil, All-cons, All-head, All-tail, All-contains, Contains-append_right}
 use Rattle.point_core.specs.declared.entry.Entry.{Entry}
-use Rattle.point_core.specs.Usage.{usage_number}
-use Rattle.point_core.specs.Agreement.{AgreesAbove, IsReached}
+use Rattle.point_core.specs.Agreement.{IsReached}
 use Rattle.point_core.specs.Reach.{value_at}
-use Rattle.point_core.proofs.Agreement.{AgreesAbove-sym, AgreesAbove-trans, AgreesAbove-same_entries}
+use Rattle.point_core.proofs.Agreement.{AgreesAbove-sym}
 use Rattle.point_core.proofs.Reached.{IsReached-AgreesAbove}
 use Rattle.device_core.specs.declared.fence.Fence.{Fence}
 use Rattle.device_core.specs.declared.fence.Timeline.{Timeline}
 use Rattle.device_core.specs.declared.request.Request.{Request}
 use Rattle.device_core.specs.declared.request.Request.TheVariants as request
-use Rattle.device_core.specs.theorem.Fences.{is_pending, are_signalled, entries_in, point_in}
-use Rattle.device_core.specs.theorem.State.{FileState, DeviceState, Objects, file_at, timeline_at, buffer_at, new_timeline, raised, missing_timeline}
+use Rattle.device_core.specs.theorem.Fences.{is_pending, are_signalled, entries_in}
+use Rattle.device_core.specs.theorem.State.{FileState, DeviceState, Objects, new_timeline, raised, missing_timeline}
 use Rattle.device_core.specs.theorem.Request.{with_at, value_in, overflow, closed_timeline, dropped, cause_of}
 use Rattle.device_core.specs.theorem.History.{World, world_after, world_from, world_of, empty_world, AreAccepted, HasHistory, reach_of, reached_by, added_by, sum_of}
-use Rattle.device_core.specs.theorem.Buffers.{BufferState, at_usage, entries_of, exported, none_waits}
-use Rattle.device_core.specs.theorem.BufferWorld.{AreBufferFences}
-use Rattle.device_core.specs.theorem.Listing.{pending_points}
 use Rattle.device_core.specs.Sound.{is_above, IsFence, IsSound}
-use Rattle.device_core.specs.theorem.Headline.{ReportsWhatWasPut, ReportsBuffers, ReportsSums}
+use Rattle.device_core.specs.theorem.Headline.{ReportsSums}
 use Rattle.device_core.proofs.Placed.{entry_in}
 use Rattle.device_core.proofs.Sound.{with_at-same, with_at-other, value_at-reach_of, fence-reached}
-use Rattle.device_core.proofs.Exports.{AgreesAbove-at_usage}
-use Rattle.device_core.proofs.BufferSteps.{export-step, test-step}
-use Rattle.device_core.proofs.Listed.{HasListed-history}
-use Rattle.device_core.proofs.Pending.{export-pending, file-pending}
-use Rattle.device_core.proofs.Stepping.{same_Some, None≢Some, no_cause, timeline_given, given_timelines, IsSound-empty, IsSound-after, IsSound-history}
+use Rattle.device_core.proofs.Stepping.{same_Some, None≢Some, no_cause, timeline_given, IsSound-empty, IsSound-after}
 
 abbrev IsBelow : List ℕ → Entry → Type 0
 IsBelow reach e = e.point.value ≤ value_at reach e.point.ctx
@@ -66,53 +58,6 @@ signalled-world w sound n f is =
           IsReached-AgreesAbove 0 agrees (λ e among strong. All-contains (IsBelow reach) (entries_in f.fences) e low among),
       λ reached. below-signalled w.objects f.fences each (IsReached-AgreesAbove 0 (AgreesAbove-sym agrees) reached),
     )
-
-pub ReportsWhatWasPut-stands : (d : DeviceState) (history : List Request) → HasHistory d history → ReportsWhatWasPut d history
-ReportsWhatWasPut-stands d history had =
-    let w = world_of history in
-    let sound = IsSound-history history had.accepted in
-    let reach = reach_of w.objects in
-    let there : (n : ℕ) (f : FileState) → file_at d n ≡ Some f → w.objects.files n ≡ Some f = λ n f is. sym (ap (λ (o : Objects). o.files n) had.is) ∙ is in
-    let agrees : (n : ℕ) (f : FileState) → file_at d n ≡ Some f → AgreesAbove reach (entries_in f.fences) (w.put n) = λ n f is. sound.agrees n f (there n f is) in
-    record {
-      agrees = agrees;
-      same_put = λ a b f g left right same.
-          AgreesAbove-trans (agrees a f left) (AgreesAbove-trans (AgreesAbove-same_entries reach (w.put a) (w.put b) same.there same.back) (AgreesAbove-sym (agrees b g right)));
-      signalled = λ n f is. signalled-world w sound n f (there n f is);
-      pending = λ n f is. file-pending w.objects f.fences (w.put n) sound.first (sound.fences n f (there n f is)) (agrees n f is);
-      listed = λ n f is. (HasListed-history history had.accepted).files n f (there n f is);
-      rising = λ n f is. (sound.fences n f (there n f is)).rising;
-    }
-
--- for its buffers
-pub ReportsBuffers-stands : (d : DeviceState) (history : List Request) → HasHistory d history → ReportsBuffers d history
-ReportsBuffers-stands d history had =
-    let w = world_of history in
-    let sound = IsSound-history history had.accepted in
-    let reach = reach_of w.objects in
-    let timelines : timeline_at d ≡ w.objects.timelines = ap (λ (o : Objects). o.timelines) had.is in
-    let there : (n : ℕ) (b : BufferState) → buffer_at d n ≡ Some b → w.objects.buffers n ≡ Some b = λ n b is. sym (ap (λ (o : Objects). o.buffers n) had.is) ∙ is in
-    let agrees : (n : ℕ) (b : BufferState) → buffer_at d n ≡ Some b → AgreesAbove reach (entries_of b.fences) (w.put n) = λ n b is. sound.buffer_agrees n b (there n b is) in
-    let kept : (n : ℕ) (b : BufferState) → buffer_at d n ≡ Some b → AreBufferFences w.objects b.fences = λ n b is. sound.buffer_fences n b (there n b is) in
-    record {
-      agrees = agrees;
-      same_put = λ m n a b left right same.
-          AgreesAbove-trans (agrees m a left) (AgreesAbove-trans (AgreesAbove-same_entries reach (w.put m) (w.put n) same.there same.back) (AgreesAbove-sym (agrees n b right)));
-      same_as_file = λ m n f b usage left right same.
-          AgreesAbove-trans (sound.agrees m f (sym (ap (λ (o : Objects). o.files m) had.is) ∙ left))
-          (AgreesAbove-trans (AgreesAbove-same_entries reach (w.put m) (at_usage usage (w.put n)) same.there same.back)
-          (AgreesAbove-sym (AgreesAbove-at_usage reach usage (entries_of b.fences) (w.put n) (agrees n b right))));
-      signalled = λ n b usage is.
-          subst (λ ts. (none_waits ts usage b.fences ≡ true) ↔ IsReached (w.put n) (usage_number usage) reach) (sym timelines)
-          (test-step w.objects usage b.fences (w.put n) (given_timelines w sound) (kept n b is) (agrees n b is));
-      lists = λ n b usage is.
-          subst (λ ts. map point_in (exported ts usage b.fences) ≡ pending_points reach (w.put n) (usage_number usage)) (sym timelines)
-          (export-pending w.objects usage b.fences (w.put n) sound.first (given_timelines w sound) (kept n b is)
-          (export-step w.objects usage b.fences (w.put n) (given_timelines w sound) (kept n b is) (agrees n b is)));
-      exports = λ n b usage is.
-          subst (λ ts. AgreesAbove reach (entries_in (exported ts usage b.fences)) (at_usage usage (w.put n))) (sym timelines)
-          (export-step w.objects usage b.fences (w.put n) (given_timelines w sound) (kept n b is) (agrees n b is));
-    }
 
 -- sums of increments
 pub sum-push : (n : ℕ) (history : List Request) (r : Request) → sum_of n (history ++ r ∷ []) ≡ sum_of n history + added_by n r

@@ -1,5 +1,5 @@
 -- The signals of files' fences along a history, and whether they are cancellations.
-use Rattle.std.proofs.Common.{◌≡◌, ℕ, ◌+◌, ◌<◌, ◌≤◌, ◌⊎◌, inl, inr, true, false, not, ◌&&◌, cond, nat_eq, nat_le, nat_lt, refl, sym, ap, ◌∙◌, subst, List, [], ◌∷◌, ◌++◌, append_assoc, append-nil, map, Option, None, Some, is_some, option_map, Result, Ok, Err, All, if◌then◌else◌, arith}
+use Rattle.std.proofs.Common.{◌≡◌, ℕ, ◌+◌, ◌<◌, ◌≤◌, ◌⊎◌, inl, inr, Bool, true, false, not, ◌&&◌, cond, nat_eq, nat_le, nat_lt, refl, sym, ap, ◌∙◌, subst, List, [], ◌∷◌, ◌++◌, append_assoc, append-nil, map, Option, None, Some, is_some, option_map, Result, Ok, Err, All, if◌then◌else◌, arith}
 use Rattle.std.proofs.lemmas.Bool.{and_parts, cases_Bool, cases_eq, cases_lt, eq-eqb, eqb-true, ne_eqb, false≢true, le-leb, le-ltb, leb-true, lt-leb, lt-ltb, ltb-true, ltb-false}
 use Rattle.std.proofs.lemmas.List.Elements.{All-nil, All-cons, All-head, All-tail, All-weaker, filter_passes}
 use Rattle.point_core.specs.declared.entry.Point.{Point}
@@ -17,41 +17,49 @@ use Rattle.device_core.specs.declared.request.Request.TheVariants as request
 use Rattle.device_core.specs.theorem.Wrapping.{unwrapped}
 use Rattle.device_core.specs.theorem.Fences.{all_signalled_by, is_due, is_pending, merged, pending_of, point_in, signal_at, signalled_by, status_before, status_of}
 use Rattle.device_core.specs.theorem.Buffers.{BufferState, export_usage}
-use Rattle.device_core.specs.theorem.State.{DeviceState, FileState, Objects, export_of, fence_at, file_at, file_signalled, merged_files, missing_timeline, one_fence_file, timeline_at}
+use Rattle.device_core.specs.theorem.State.{FileState, Objects, export_of, fence_at, file_signalled, merged_files, missing_timeline, one_fence_file}
 use Rattle.device_core.specs.theorem.Request.{cause_of, closed_timeline, dropped, overflow, value_in, with_at}
-use Rattle.device_core.specs.theorem.History.{AreAccepted, HasHistory, World, added_by, empty_world, reach_of, sum_of, world_after, world_from, world_of}
+use Rattle.device_core.specs.theorem.History.{AreAccepted, World, added_by, empty_world, reach_of, sum_of, world_after, world_from, world_of}
 use Rattle.device_core.specs.Sound.{IsFence, IsSound, is_above}
-use Rattle.device_core.specs.theorem.Signals.{first_status, has_reached, point_status, reached_from, time_in}
-use Rattle.device_core.specs.theorem.Headline.{ReportsFences}
+use Rattle.device_core.specs.theorem.Signals.{first_status, point_status, time_in}
 use Rattle.device_core.proofs.Placed.{fold-All}
 use Rattle.device_core.proofs.Histories.{world_from-push}
 use Rattle.device_core.proofs.Sound.{with_at-same, with_at-other, fence-reached}
-use Rattle.device_core.proofs.Named.{names-history}
 use Rattle.device_core.proofs.Pending.{exported-pending, fence-above}
 use Rattle.device_core.proofs.Reporting.{HasSums, HasSums-after, HasSums-empty, HasSums-history, sum-push}
 use Rattle.device_core.proofs.Stepping.{same_Some, None≢Some, no_cause, numbered, IsSound-after, IsSound-empty, IsSound-history}
+
+-- there is a file of that number, and its timeline has reached the point
+abbrev pub has_reached_in : ℕ → Point → World → Bool
+has_reached_in file p w = is_some (w.objects.files file) && is_reached (reach_of w.objects) p
+
+-- the time of the first request after which that holds, along the worlds of a history
+abbrev pub reached_in : ℕ → Point → World → List Request → Option ℕ
+reached_in file p w [] = None
+reached_in file p w (r ∷ rs) =
+    if has_reached_in file p (world_after w r) then Some (time_in r) else reached_in file p (world_after w r) rs
 
 -- the earlier of two times
 abbrev or_time : Option ℕ → Option ℕ → Option ℕ
 or_time None later = later
 or_time (Some t) later = Some t
 
-reached_from-push : (rs : List Request) (w : World) (r : Request) (n : ℕ) (p : Point) → reached_from n p w (rs ++ r ∷ []) ≡ or_time (reached_from n p w rs) (if has_reached n p (world_after (world_from w rs) r) then Some (time_in r) else None)
-reached_from-push [] w r n p = refl
-reached_from-push (x ∷ xs) w r n p = go (cases_Bool (has_reached n p (world_after w x))) (reached_from-push xs (world_after w x) r n p)
+reached_in-push : (rs : List Request) (w : World) (r : Request) (n : ℕ) (p : Point) → reached_in n p w (rs ++ r ∷ []) ≡ or_time (reached_in n p w rs) (if has_reached_in n p (world_after (world_from w rs) r) then Some (time_in r) else None)
+reached_in-push [] w r n p = refl
+reached_in-push (x ∷ xs) w r n p = go (cases_Bool (has_reached_in n p (world_after w x))) (reached_in-push xs (world_after w x) r n p)
   where
-    go : (has_reached n p (world_after w x) ≡ true) ⊎ (has_reached n p (world_after w x) ≡ false) → reached_from n p (world_after w x) (xs ++ r ∷ []) ≡ or_time (reached_from n p (world_after w x) xs) (if has_reached n p (world_after (world_from (world_after w x) xs) r) then Some (time_in r) else None) → reached_from n p w (x ∷ xs ++ r ∷ []) ≡ or_time (reached_from n p w (x ∷ xs)) (if has_reached n p (world_after (world_from w (x ∷ xs)) r) then Some (time_in r) else None)
+    go : (has_reached_in n p (world_after w x) ≡ true) ⊎ (has_reached_in n p (world_after w x) ≡ false) → reached_in n p (world_after w x) (xs ++ r ∷ []) ≡ or_time (reached_in n p (world_after w x) xs) (if has_reached_in n p (world_after (world_from (world_after w x) xs) r) then Some (time_in r) else None) → reached_in n p w (x ∷ xs ++ r ∷ []) ≡ or_time (reached_in n p w (x ∷ xs)) (if has_reached_in n p (world_after (world_from w (x ∷ xs)) r) then Some (time_in r) else None)
     go (inl is) rest = rw is refl
     go (inr not) rest = rw not rest
 
 -- the facts about a fence of a file after a history
 record IsTold (before : List Request) (n : ℕ) (g : Fence) : Type 0 where
-  pub time : option_map (λ (s : Signal). s.at) g.signal ≡ reached_from n (point_in g) empty_world before
+  pub time : option_map (λ (s : Signal). s.at) g.signal ≡ reached_in n (point_in g) empty_world before
   pub cancelled : (s : Signal) → g.signal ≡ Some s → s.is_cancelled ≡ nat_lt (sum_of g.timeline before) g.value
 
 record HasSignals (w : World) (before : List Request) : Type 0 where
   pub files : (n : ℕ) (f : FileState) → w.objects.files n ≡ Some f → All (IsTold before n) f.fences
-  pub none : (n : ℕ) (p : Point) → w.objects.next ≤ n → reached_from n p empty_world before ≡ None
+  pub none : (n : ℕ) (p : Point) → w.objects.next ≤ n → reached_in n p empty_world before ≡ None
 
 -- a fence that is pending is not reached, and one that has signalled is
 pending-none : (g : Fence) → is_pending g ≡ true → g.signal ≡ None
@@ -61,7 +69,7 @@ pending-none g is = go g.signal is
     go None h = refl
     go (Some s) h = absurd (false≢true h)
 
-reached-test : (v : World) (n : ℕ) (f : FileState) (g : Fence) → v.objects.files n ≡ Some f → IsFence v.objects g → has_reached n (point_in g) v ≡ not (is_pending g)
+reached-test : (v : World) (n : ℕ) (f : FileState) (g : Fence) → v.objects.files n ≡ Some f → IsFence v.objects g → has_reached_in n (point_in g) v ≡ not (is_pending g)
 reached-test v n f g there is =
     let here : is_some (v.objects.files n) ≡ true = ap is_some there in
     rw here (elim (cases_Bool (is_pending g)) [
@@ -85,15 +93,15 @@ time-after r (Some x) (Some s) seen (inr came) was = None≢Some x (sym came.0)
 -- a fence after another request
 told-after : (before : List Request) (w : World) (r : Request) (n : ℕ) (f : FileState) (g h : Fence) → w ≡ world_of before → (world_after w r).objects.files n ≡ Some f → IsFence (world_after w r).objects h → point_in h ≡ point_in g → Came r g.signal h.signal
     → ((s : Signal) → h.signal ≡ Some s → s.is_cancelled ≡ nat_lt (sum_of h.timeline (before ++ r ∷ [])) h.value)
-    → option_map (λ (s : Signal). s.at) g.signal ≡ reached_from n (point_in g) empty_world before
+    → option_map (λ (s : Signal). s.at) g.signal ≡ reached_in n (point_in g) empty_world before
     → IsTold (before ++ r ∷ []) n h
 told-after before w r n f g h is there fence same how cancelled time = record {
   time =
-      time-after r g.signal h.signal (reached_from n (point_in g) empty_world before) how time
-      ∙ ap (λ b. or_time (reached_from n (point_in g) empty_world before) (if b then Some (time_in r) else None)) (sym (reached-test (world_after w r) n f h there fence))
-      ∙ ap (λ (x : World). or_time (reached_from n (point_in g) empty_world before) (if has_reached n (point_in h) (world_after x r) then Some (time_in r) else None)) is
-      ∙ ap (λ (p : Point). or_time (reached_from n p empty_world before) (if has_reached n (point_in h) (world_after (world_of before) r) then Some (time_in r) else None)) (sym same)
-      ∙ sym (reached_from-push before empty_world r n (point_in h));
+      time-after r g.signal h.signal (reached_in n (point_in g) empty_world before) how time
+      ∙ ap (λ b. or_time (reached_in n (point_in g) empty_world before) (if b then Some (time_in r) else None)) (sym (reached-test (world_after w r) n f h there fence))
+      ∙ ap (λ (x : World). or_time (reached_in n (point_in g) empty_world before) (if has_reached_in n (point_in h) (world_after x r) then Some (time_in r) else None)) is
+      ∙ ap (λ (p : Point). or_time (reached_in n p empty_world before) (if has_reached_in n (point_in h) (world_after (world_of before) r) then Some (time_in r) else None)) (sym same)
+      ∙ sym (reached_in-push before empty_world r n (point_in h));
   cancelled = cancelled;
 }
 
@@ -115,13 +123,13 @@ all-same before w r n f (g ∷ gs) is there idle each told =
     (all-same before w r n f gs is there idle (All-tail (IsFence (world_after w r).objects) g gs each) (All-tail (IsTold before n) g gs told))
 
 -- no file has a number that was not given
-none-after : (before : List Request) (w : World) (r : Request) → w ≡ world_of before → IsSound (world_after w r) → w.objects.next ≤ (world_after w r).objects.next → HasSignals w before → (n : ℕ) (p : Point) → (world_after w r).objects.next ≤ n → reached_from n p empty_world (before ++ r ∷ []) ≡ None
+none-after : (before : List Request) (w : World) (r : Request) → w ≡ world_of before → IsSound (world_after w r) → w.objects.next ≤ (world_after w r).objects.next → HasSignals w before → (n : ℕ) (p : Point) → (world_after w r).objects.next ≤ n → reached_in n p empty_world (before ++ r ∷ []) ≡ None
 none-after before w r is sound more h n p past =
     let gone : is_some ((world_after w r).objects.files n) ≡ false = ap is_some (sound.files n past) in
-    let test : has_reached n p (world_after w r) ≡ false = ap (λ b. b && is_reached (reach_of (world_after w r).objects) p) gone in
-    reached_from-push before empty_world r n p
-    ∙ ap (λ (x : World). or_time (reached_from n p empty_world before) (if has_reached n p (world_after x r) then Some (time_in r) else None)) (sym is)
-    ∙ ap (λ b. or_time (reached_from n p empty_world before) (if b then Some (time_in r) else None)) test
+    let test : has_reached_in n p (world_after w r) ≡ false = ap (λ b. b && is_reached (reach_of (world_after w r).objects) p) gone in
+    reached_in-push before empty_world r n p
+    ∙ ap (λ (x : World). or_time (reached_in n p empty_world before) (if has_reached_in n p (world_after x r) then Some (time_in r) else None)) (sym is)
+    ∙ ap (λ b. or_time (reached_in n p empty_world before) (if b then Some (time_in r) else None)) test
     ∙ ap (λ o. or_time o None) (h.none n p (omega arith))
 
 HasSignals-same : (before : List Request) (w : World) (r : Request) → w ≡ world_of before → IsSound (world_after w r) → w.objects.next ≤ (world_after w r).objects.next → (world_after w r).objects.files ≡ w.objects.files → ((t : ℕ) → added_by t r ≡ 0) → HasSignals w before → HasSignals (world_after w r) (before ++ r ∷ [])
@@ -428,7 +436,7 @@ file-status told (g ∷ gs) all =
 -- the fences of a file after a history
 pub record HaveSignalled (history : List Request) (n : ℕ) (f : FileState) : Type 0 where
   pub statuses : All (λ (g : Fence). status_before g.signal Signalled ≡ point_status (world_of history).objects.timelines history (point_in g)) f.fences
-  pub times : All (λ (g : Fence). option_map (λ (s : Signal). s.at) g.signal ≡ reached_from n (point_in g) empty_world history) f.fences
+  pub times : All (λ (g : Fence). option_map (λ (s : Signal). s.at) g.signal ≡ reached_in n (point_in g) empty_world history) f.fences
 
 pub signals-history : (history : List Request) → AreAccepted empty_world history → (n : ℕ) (f : FileState) → (world_of history).objects.files n ≡ Some f → HaveSignalled history n f
 signals-history history accepted n f there =
@@ -436,20 +444,5 @@ signals-history history accepted n f there =
     let told = (HasSignals-from history empty_world [] refl IsSound-empty accepted HasSums-empty (record { files = λ m g is. None≢Some g is; none = λ m p low. refl })).files n f there in
     record {
       statuses = all-statuses w history n f.fences (HasSums-history history accepted) ((IsSound-history history accepted).fences n f there).each told;
-      times = All-weaker (IsTold history n) (λ (g : Fence). option_map (λ (s : Signal). s.at) g.signal ≡ reached_from n (point_in g) empty_world history) (λ g its. its.time) f.fences told;
-    }
-
-pub ReportsFences-stands : (d : DeviceState) (history : List Request) → HasHistory d history → ReportsFences d history
-ReportsFences-stands d history had =
-    let w = world_of history in
-    let timelines : w.objects.timelines ≡ timeline_at d = ap (λ (o : Objects). o.timelines) (sym had.is) in
-    let there : (n : ℕ) (f : FileState) → file_at d n ≡ Some f → w.objects.files n ≡ Some f = λ n f is. sym (ap (λ (o : Objects). o.files n) had.is) ∙ is in
-    let fences : (n : ℕ) (f : FileState) → file_at d n ≡ Some f → All (λ (g : Fence). status_before g.signal Signalled ≡ point_status (timeline_at d) history (point_in g)) f.fences = λ n f is.
-    subst (λ ts. All (λ (g : Fence). status_before g.signal Signalled ≡ point_status ts history (point_in g)) f.fences) timelines
-    (signals-history history had.accepted n f (there n f is)).statuses in
-    record {
-      fences = fences;
-      files = λ n f is. file-status (λ (g : Fence). point_status (timeline_at d) history (point_in g)) f.fences (fences n f is);
-      times = λ n f is. (signals-history history had.accepted n f (there n f is)).times;
-      names = λ n f is. names-history history n f (there n f is);
+      times = All-weaker (IsTold history n) (λ (g : Fence). option_map (λ (s : Signal). s.at) g.signal ≡ reached_in n (point_in g) empty_world history) (λ g its. its.time) f.fences told;
     }

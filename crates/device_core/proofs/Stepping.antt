@@ -436,14 +436,14 @@ IsSound-after w (request.Fence t point now) h none =
     let there = no_cause (w.objects.timelines t) cause (missing_timeline w.objects t) (numbered w.objects (cond (is_some (w.objects.timelines t)) cause (Some (missing_timeline w.objects t))) none) in
     let k = there.0 in
     let fits : unwrapped k.value point ≤ GREATEST = fits-overflow (unwrapped k.value point) (sym (ap (λ o. overflow (unwrapped (value_in o) point)) there.1) ∙ there.2) in
-    IsSound-with_file w (option_map (λ k. one_fence_file t k point now) (w.objects.timelines t)) (asked t (w.objects.timelines t) point) h
+    IsSound-with_file w (option_map (λ k. one_fence_file t k point now) (w.objects.timelines t)) (asked t (value_in (w.objects.timelines t)) point) h
     (λ f is.
     let its : one_fence_file t k point now ≡ f = same_Some (sym (ap (option_map (λ k. one_fence_file t k point now)) there.1) ∙ is) in
     let fs : fence_at t k point now ∷ [] ≡ f.fences = ap (λ (x : FileState). x.fences) its in (
       subst (AreFences w.objects) fs (IsSound-fence w t point now k h there.1 fits),
-      subst (λ gs. AgreesAbove (reach_of w.objects) (entries_in gs) (asked t (w.objects.timelines t) point)) fs
-          (subst (λ o. AgreesAbove (reach_of w.objects) (entries_in (fence_at t k point now ∷ [])) (asked t o point)) (sym there.1)
-          (AgreesAbove-refl (reach_of w.objects) (asked t (Some k) point))),
+      subst (λ gs. AgreesAbove (reach_of w.objects) (entries_in gs) (asked t (value_in (w.objects.timelines t)) point)) fs
+          (subst (λ o. AgreesAbove (reach_of w.objects) (entries_in (fence_at t k point now ∷ [])) (asked t (value_in o) point)) (sym there.1)
+          (AgreesAbove-refl (reach_of w.objects) (asked t k.value point))),
     ))
 IsSound-after w (request.Inc t n now) h none =
     let there = no_cause (w.objects.timelines t) (overflow (value_in (w.objects.timelines t) + n)) (missing_timeline w.objects t) none in

@@ -14,11 +14,12 @@ ghost use Rattle.device_core.specs.declared.request.Request.TheVariants.{Fence a
 ghost use Rattle.device_core.specs.theorem.History.{AreAccepted, AreAnswers, HasHistory, empty_world, history_of, sum_of, world_of, reach_of};
 ghost use Rattle.device_core.specs.Sound.{IsSound};
 ghost use Rattle.device_core.specs.theorem.State.{DeviceState, FileState, objects_of};
-ghost use Rattle.device_core.specs.theorem.Headline.{put_into, reach_after, ReportsSums, ReportsWhatWasPut, ReportsBuffers, ReportsFences, ReportsNumbers, ReportsEachWaking};
+ghost use Rattle.device_core.specs.theorem.Headline.{ReportsSums, ReportsWhatWasPut, ReportsBuffers, ReportsFences, ReportsNumbers, ReportsEachWaking};
 ghost use Rattle.device_core.specs.theorem.Memory.{AreTrimmed};
 ghost use Rattle.device_core.specs.theorem.Request.{IsAnswer};
 ghost use Rattle.device_core.specs.theorem.Requests.{Have32Bits, kinds};
-ghost use Rattle.device_core.specs.theorem.Answered.{IsAnswered, timeline_reach};
+ghost use Rattle.device_core.specs.theorem.Put.{put_into, timeline_reach};
+ghost use Rattle.device_core.specs.theorem.Answered.{IsAnswered};
 ghost use Rattle.device_core.specs.theorem.Wrapping.{is_later, unwrapped};
 
 /// The kernel's comparison of 32 bits finds a point later than the value exactly if the 64-bit point that it represents
@@ -64,7 +65,14 @@ pub fn a_file_has_signalled_once_all_is_reached()
 /// The increments of a history, and which timelines are open after it, determine what each timeline has reached.
 pub fn the_reach_is_of_the_increments()
     ensures { (history : List Request) → AreAccepted empty_world history →
-        reach_after history ≡ map (timeline_reach history) (range_with_len 1 (length (kinds history))) }
+        reach_of (world_of history).objects ≡ map (timeline_reach history) (range_with_len 1 (length (kinds history))) }
+{}
+
+/// The requests of a history determine what was put into each file and buffer, by the increments, and by the order in
+/// which objects were made.
+pub fn the_put_points_are_of_the_requests()
+    ensures { (history : List Request) (number : ℕ) → AreAccepted empty_world history →
+        (world_of history).put number ≡ put_into history number }
 {}
 
 /// A new fence puts one point into its file: the 64-bit point nearest to the sum of its timeline's increments so far that

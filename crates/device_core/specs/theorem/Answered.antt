@@ -6,7 +6,6 @@ use Rattle.point_core.specs.declared.status.Status.{Status}
 use Rattle.point_core.specs.declared.status.Status.TheVariants.{Active, Signalled, Cancelled}
 use Rattle.point_core.specs.Agreement.{all_reached}
 use Rattle.point_core.specs.Usage.{usage_number}
-use Rattle.point_core.specs.Reach.{GREATEST}
 use Rattle.device_core.specs.declared.text.Text.{Text}
 use Rattle.device_core.specs.declared.info.FenceDriver.TheVariants.{SwSync}
 use Rattle.device_core.specs.declared.info.FenceInfo.{FenceInfo}
@@ -21,16 +20,11 @@ use Rattle.device_core.specs.theorem.Names.{array_name, as_text, kernel_name, st
 use Rattle.device_core.specs.theorem.Info.{stub_info}
 use Rattle.device_core.specs.theorem.State.{empty_text}
 use Rattle.device_core.specs.theorem.Request.{OnWoken}
-use Rattle.device_core.specs.theorem.History.{empty_world, history_after, sum_of}
+use Rattle.device_core.specs.theorem.History.{history_after, sum_of}
 use Rattle.device_core.specs.theorem.Signals.{first_status, opened_as}
-use Rattle.device_core.specs.theorem.Headline.{put_into, reach_after}
+use Rattle.device_core.specs.theorem.Put.{put_into, reach_after}
 use Rattle.device_core.specs.theorem.Requests.{causes, first_cause, is_file, is_timeline, kinds, open_kind}
 use Rattle.device_core.specs.theorem.Making.{Listed, Making, made_in, time_reached}
-
--- what a timeline has reached: the sum of its increments, or everything once it is closed
-abbrev pub timeline_reach : List Request → ℕ → ℕ
-timeline_reach history timeline =
-    if is_timeline (open_kind history timeline) then sum_of timeline history else GREATEST
 
 -- each point that was put into the file or buffer, at the usage or a stronger one, is reached
 abbrev pub is_reached_at : List Request → ℕ → ℕ → Bool
@@ -83,7 +77,7 @@ file_status history m = first_status (map (status_after history) m.points)
 
 -- the name with which a timeline was opened
 abbrev pub timeline_name : List Request → ℕ → Text
-timeline_name history timeline = unwrap_or (opened_as timeline empty_world history) empty_text
+timeline_name history timeline = unwrap_or (opened_as timeline [] history) empty_text
 
 -- the row of a point in the information on the file with the number
 abbrev pub row_of : List Request → ℕ → Listed → FenceInfo

@@ -1,5 +1,5 @@
 -- The main theorem's parts: what a device reports of all that was put into its files and buffers, and of its timelines.
-use Rattle.std.specs.Prelude.{◌≡◌, ◌↔◌, ℕ, ◌+◌, ◌-◌, ◌≤◌, true, List, map, Some, option_map, All, Contains, Result}
+use Rattle.std.specs.Prelude.{◌≡◌, ◌↔◌, ℕ, ◌+◌, ◌-◌, ◌≤◌, true, List, [], map, Some, option_map, All, Contains, Result}
 use Rattle.std.specs.List.{range_with_len}
 use Rattle.point_core.specs.declared.entry.Entry.{Entry}
 use Rattle.point_core.specs.declared.entry.Usage.{Usage}
@@ -18,21 +18,14 @@ use Rattle.device_core.specs.theorem.Buffers.{BufferState, at_usage, entries_of,
 use Rattle.device_core.specs.theorem.Listing.{pending_points}
 use Rattle.device_core.specs.theorem.Request.{is_waiting}
 use Rattle.device_core.specs.theorem.Times.{numbers_given, times_woken, times_begun, times_dropped, one_if}
-use Rattle.device_core.specs.theorem.History.{empty_world, world_of, reach_of, sum_of}
+use Rattle.device_core.specs.theorem.History.{sum_of}
+use Rattle.device_core.specs.theorem.Put.{put_into, reach_after}
 use Rattle.device_core.specs.theorem.Signals.{first_status, opened_as, point_status, reached_from}
 
 -- both have the same entries, in whatever order and however often
 pub record HasSameEntries (es fs : List Entry) : Type 0 where
   pub there : (e : Entry) → Contains es e → Contains fs e
   pub back : (e : Entry) → Contains fs e → Contains es e
-
--- the reach of the timelines after a history
-abbrev pub reach_after : List Request → List ℕ
-reach_after history = reach_of (world_of history).objects
-
--- all entries that a history put into the file or buffer with that number
-abbrev pub put_into : List Request → ℕ → List Entry
-put_into history number = (world_of history).put number
 
 -- above the timelines' values a file agrees with what was put into it
 pub record ReportsWhatWasPut (d : DeviceState) (history : List Request) : Type 0 where
@@ -94,11 +87,11 @@ pub record ReportsFences (d : DeviceState) (history : List Request) : Type 0 whe
       status_of f.fences ≡ first_status (map (λ (g : Fence). point_status (timeline_at d) history (point_in g)) f.fences)
   -- a fence has the time of the first request after which its file was there and its point reached
   pub times : (n : ℕ) (f : FileState) → file_at d n ≡ Some f →
-      All (λ (g : Fence). option_map (λ (s : Signal). s.at) g.signal ≡ reached_from n (point_in g) empty_world history)
+      All (λ (g : Fence). option_map (λ (s : Signal). s.at) g.signal ≡ reached_from n (point_in g) [] history)
       f.fences
   -- a fence has the name with which its timeline was opened
   pub names : (n : ℕ) (f : FileState) → file_at d n ≡ Some f →
-      All (λ (g : Fence). opened_as g.timeline empty_world history ≡ Some g.name) f.fences
+      All (λ (g : Fence). opened_as g.timeline [] history ≡ Some g.name) f.fences
 
 -- an open timeline is at the sum of its increments
 pub record ReportsSums (d : DeviceState) (history : List Request) : Type 0 where

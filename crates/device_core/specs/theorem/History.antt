@@ -26,9 +26,9 @@ pub record World : Type 0 where
 abbrev pub empty_world : World
 empty_world = record { objects = no_objects; put = λ _. [] }
 
--- the 64-bit point that a point of 32 bits represents
-abbrev pub asked : ℕ → Option Timeline → ℕ → List Entry
-asked number timeline point = as_entry (point_of number (unwrapped (value_in timeline) point)) ∷ []
+-- the 64-bit point that a point of 32 bits represents on the timeline with that number, at that value
+abbrev pub asked : ℕ → ℕ → ℕ → List Entry
+asked number value point = as_entry (point_of number (unwrapped value point)) ∷ []
 
 -- the entries that an export puts into its file, from those put into the buffer
 abbrev pub put_by_export : Result Usage Errno → List Entry → List Entry
@@ -40,26 +40,28 @@ abbrev pub put_by_import : Result Usage Errno → List Entry → List Entry → 
 put_by_import (Ok usage) put more = put ++ put_with usage more
 put_by_import (Err refusal) put more = put
 
--- the entries put into each object after a request
-abbrev pub put_after : World → Request → ℕ → List Entry
-put_after w (request.Open name) = w.put
-put_after w (request.Fence timeline point now) =
-    with_at w.put w.objects.next (asked timeline (w.objects.timelines timeline) point)
-put_after w (request.Inc timeline n now) = w.put
-put_after w (request.Merge a b name) = with_at w.put w.objects.next (w.put a ++ w.put b)
-put_after w (request.Status file) = w.put
-put_after w (request.IsSignalled file) = w.put
-put_after w (request.Info file) = w.put
-put_after w (request.Close number now) = w.put
-put_after w (request.Buffer now) = with_at w.put w.objects.next []
-put_after w (request.Export buffer flags) =
-    with_at w.put w.objects.next (put_by_export (export_usage flags) (w.put buffer))
-put_after w (request.Import buffer file flags) =
-    with_at w.put buffer (put_by_import (import_usage flags) (w.put buffer) (w.put file))
-put_after w (request.Test buffer usage) = w.put
+-- the entries put into each object after a request, given the next number and the value of each timeline
+abbrev pub put_after : (ℕ → List Entry) → ℕ → (ℕ → ℕ) → Request → ℕ → List Entry
+put_after put next value (request.Open name) = put
+put_after put next value (request.Fence timeline point now) = with_at put next (asked timeline (value timeline) point)
+put_after put next value (request.Inc timeline n now) = put
+put_after put next value (request.Merge a b name) = with_at put next (put a ++ put b)
+put_after put next value (request.Status file) = put
+put_after put next value (request.IsSignalled file) = put
+put_after put next value (request.Info file) = put
+put_after put next value (request.Close number now) = put
+put_after put next value (request.Buffer now) = with_at put next []
+put_after put next value (request.Export buffer flags) =
+    with_at put next (put_by_export (export_usage flags) (put buffer))
+put_after put next value (request.Import buffer file flags) =
+    with_at put buffer (put_by_import (import_usage flags) (put buffer) (put file))
+put_after put next value (request.Test buffer usage) = put
 
 abbrev pub world_after : World → Request → World
-world_after w r = record { objects = after w.objects r; put = put_after w r }
+world_after w r = record {
+  objects = after w.objects r;
+  put = put_after w.put w.objects.next (λ timeline. value_in (w.objects.timelines timeline)) r;
+}
 
 abbrev pub world_from : World → List Request → World
 world_from w [] = w

@@ -10,10 +10,10 @@ use Rattle.device_core.specs.theorem.Wrapping.{unwrapped}
 use Rattle.device_core.specs.theorem.Buffers.{export_usage}
 use Rattle.device_core.specs.theorem.State.{empty_text}
 use Rattle.device_core.specs.theorem.Request.{with_at}
-use Rattle.device_core.specs.theorem.History.{empty_world, put_by_export, sum_of}
+use Rattle.device_core.specs.theorem.History.{put_by_export, sum_of}
 use Rattle.device_core.specs.theorem.Listing.{pending_points}
 use Rattle.device_core.specs.theorem.Signals.{reached_from}
-use Rattle.device_core.specs.theorem.Headline.{put_into, reach_after}
+use Rattle.device_core.specs.theorem.Put.{put_into, reach_after}
 use Rattle.device_core.specs.theorem.Requests.{kind_made, kinds}
 
 -- a point that a file lists, and the point of 32 bits in its name
@@ -40,7 +40,7 @@ listing_file name points stub_at = making name (map low_half points) (if length 
 
 -- the time at which a point was reached while the file with the number was there, or 0
 abbrev pub time_reached : List Request → ℕ → Listed → ℕ
-time_reached history number l = unwrap_or (reached_from number l.point empty_world history) 0
+time_reached history number l = unwrap_or (reached_from number l.point [] history) 0
 
 -- the latest time at which a fence of a file signalled, its stub included
 abbrev pub last_signal : List Request → ℕ → Making → ℕ

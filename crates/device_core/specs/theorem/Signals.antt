@@ -1,5 +1,5 @@
 -- The signal of a fence along a history: when its point was reached, its status, and its name.
-use Rattle.std.specs.Prelude.{ℕ, Bool, ◌&&◌, nat_eq, nat_le, if◌then◌else◌, List, [], ◌∷◌, Option, None, Some, is_some}
+use Rattle.std.specs.Prelude.{ℕ, ◌+◌, Bool, ◌&&◌, nat_eq, nat_le, if◌then◌else◌, List, [], ◌∷◌, ◌++◌, length, Option, None, Some, is_some}
 use Rattle.point_core.specs.declared.entry.Point.{Point}
 use Rattle.point_core.specs.declared.status.Status.{Status}
 use Rattle.point_core.specs.declared.status.Status.TheVariants.{Active, Signalled, Cancelled}
@@ -8,7 +8,9 @@ use Rattle.device_core.specs.declared.text.Text.{Text}
 use Rattle.device_core.specs.declared.fence.Timeline.{Timeline}
 use Rattle.device_core.specs.declared.request.Request.{Request}
 use Rattle.device_core.specs.declared.request.Request.TheVariants as request
-use Rattle.device_core.specs.theorem.History.{World, reach_of, sum_of, world_after}
+use Rattle.device_core.specs.theorem.History.{sum_of}
+use Rattle.device_core.specs.theorem.Requests.{is_file, kinds, open_kind}
+use Rattle.device_core.specs.theorem.Put.{reach_after}
 
 -- the time at which a request is made, or 0 if it has none
 abbrev pub time_in : Request → ℕ
@@ -25,15 +27,15 @@ time_in (request.Export buffer flags) = 0
 time_in (request.Import buffer file flags) = 0
 time_in (request.Test buffer usage) = 0
 
--- there is a file of that number, and its timeline has reached the point
-abbrev pub has_reached : ℕ → Point → World → Bool
-has_reached file p w = is_some (w.objects.files file) && is_reached (reach_of w.objects) p
+-- a file of that number is open, and its timeline has reached the point
+abbrev pub has_reached : ℕ → Point → List Request → Bool
+has_reached file p history = is_file (open_kind history file) && is_reached (reach_after history) p
 
--- the time of the first request after which that holds
-abbrev pub reached_from : ℕ → Point → World → List Request → Option ℕ
-reached_from file p w [] = None
-reached_from file p w (r ∷ rs) =
-    if has_reached file p (world_after w r) then Some (time_in r) else reached_from file p (world_after w r) rs
+-- the time of the first request, among those after a history, after which that holds
+abbrev pub reached_from : ℕ → Point → List Request → List Request → Option ℕ
+reached_from file p history [] = None
+reached_from file p history (r ∷ rs) =
+    if has_reached file p (history ++ r ∷ []) then Some (time_in r) else reached_from file p (history ++ r ∷ []) rs
 
 -- a point is signalled once the increments of its timeline reach it; until then it is active while the timeline is
 -- open, and cancelled once it is closed
@@ -50,26 +52,27 @@ first_status (Signalled ∷ others) = first_status others
 first_status (Active ∷ others) = Active
 first_status (Cancelled ∷ others) = Cancelled
 
--- the name with which a request opens the timeline of that number
-abbrev pub name_in : ℕ → World → Request → Option Text
-name_in number w (request.Open name) = if nat_eq w.objects.next number then Some name else None
-name_in number w (request.Fence timeline point now) = None
-name_in number w (request.Inc timeline n now) = None
-name_in number w (request.Merge a b name) = None
-name_in number w (request.Status file) = None
-name_in number w (request.IsSignalled file) = None
-name_in number w (request.Info file) = None
-name_in number w (request.Close other now) = None
-name_in number w (request.Buffer now) = None
-name_in number w (request.Export buffer flags) = None
-name_in number w (request.Import buffer file flags) = None
-name_in number w (request.Test buffer usage) = None
+-- the name with which a request opens the timeline of that number, if the next object gets the number `next`
+abbrev pub name_in : ℕ → ℕ → Request → Option Text
+name_in number next (request.Open name) = if nat_eq next number then Some name else None
+name_in number next (request.Fence timeline point now) = None
+name_in number next (request.Inc timeline n now) = None
+name_in number next (request.Merge a b name) = None
+name_in number next (request.Status file) = None
+name_in number next (request.IsSignalled file) = None
+name_in number next (request.Info file) = None
+name_in number next (request.Close other now) = None
+name_in number next (request.Buffer now) = None
+name_in number next (request.Export buffer flags) = None
+name_in number next (request.Import buffer file flags) = None
+name_in number next (request.Test buffer usage) = None
 
 abbrev pub first_name : Option Text → Option Text → Option Text
 first_name None later = later
 first_name (Some name) later = Some name
 
--- the name with which the timeline of that number was opened
-abbrev pub opened_as : ℕ → World → List Request → Option Text
-opened_as number w [] = None
-opened_as number w (r ∷ rs) = first_name (name_in number w r) (opened_as number (world_after w r) rs)
+-- the name with which the timeline of that number was opened, by the requests after a history
+abbrev pub opened_as : ℕ → List Request → List Request → Option Text
+opened_as number history [] = None
+opened_as number history (r ∷ rs) =
+    first_name (name_in number (length (kinds history) + 1) r) (opened_as number (history ++ r ∷ []) rs)

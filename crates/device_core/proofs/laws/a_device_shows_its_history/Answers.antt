@@ -1,6 +1,6 @@
 use Rattle.device_core.proofs.Answered.{IsAnswered-stands}
-use Rattle.device_core.proofs.Reporting.{ReportsSums-stands, ReportsWhatWasPut-stands, ReportsBuffers-stands}
-use Rattle.device_core.proofs.Signals.{ReportsFences-stands}
+use Rattle.device_core.proofs.Reporting.{ReportsSums-stands}
+use Rattle.device_core.proofs.Said.{ReportsWhatWasPut-stands, ReportsBuffers-stands, ReportsFences-stands}
 use Rattle.device_core.proofs.Tables.{AreTrimmed-stands}
 use Rattle.device_core.proofs.laws.a_device_shows_its_history.Goals as goal
 

@@ -5,8 +5,8 @@ use Rattle.device_core.proofs.Histories.{HasRun-push}
 use Rattle.device_core.proofs.Answered.{AreAnswered-run}
 use Rattle.device_core.proofs.Tables.{AreTrimmed-stands}
 use Rattle.device_core.proofs.Counting.{ReportsNumbers-run, ReportsEachWaking-run}
-use Rattle.device_core.proofs.Reporting.{ReportsSums-stands, ReportsWhatWasPut-stands, ReportsBuffers-stands}
-use Rattle.device_core.proofs.Signals.{ReportsFences-stands}
+use Rattle.device_core.proofs.Reporting.{ReportsSums-stands}
+use Rattle.device_core.proofs.Said.{ReportsWhatWasPut-stands, ReportsBuffers-stands, ReportsFences-stands}
 use Rattle.device_core.proofs.runs.run.Goals as goal
 
 pub returns-clause-sums : goal.returns-clause-sums
