@@ -1,6 +1,6 @@
 //! `Device`: timelines, sync files and buffers by number, with the kernel's requests as calls. Each call finds its
 //! causes of refusal first, and changes nothing if one holds.
-ghost use Rattle.std.specs.Prelude.{◌≡◌, ◌⊎◌, ℕ, ◌+◌, ◌^◌, ◌≤◌, nat_eq, if◌then◌else◌, Some, None, is_some, ◌||◌, IsSome, IfSome, IfNone, OnOk, OnErr, IfOk, IfErr, MatchOption, Ok, Err, true, false, ◌<◌, ◌↔◌, Contains, length, ok_or, slice_get};
+ghost use Rattle.std.specs.Prelude.{[], ◌≡◌, ◌⊎◌, ℕ, ◌+◌, ◌^◌, ◌≤◌, nat_eq, if◌then◌else◌, Some, None, is_some, ◌||◌, IsSome, IfSome, IfNone, OnOk, OnErr, IfOk, IfErr, MatchOption, Ok, Err, true, false, ◌<◌, ◌↔◌, Contains, length, ok_or, slice_get};
 ghost use Rattle.std.specs.List.Sorted.{IsStrictlyIncreasing};
 ghost use Rattle.device_core.specs.declared.errno.Errno.TheVariants.{Invalid, NoEntry, NoMemory, NoNumber, Overflow};
 ghost use Rattle.device_core.specs.declared.text.Text.{Text as Name};
@@ -12,6 +12,7 @@ ghost use Rattle.device_core.specs.theorem.Memory.{KeepsWhatIsAlive, table_sizes
 ghost use Rattle.device_core.specs.Woken.{file_wakes};
 ghost use Rattle.device_core.specs.theorem.State.{nothing, at, timeline_at, file_at, file_of, new_timeline, raised, merged_files, one_fence_file, missing_timeline, missing_file, buffer_at, objects_of, AreSignalled};
 ghost use Rattle.device_core.specs.declared.request.Request.TheVariants as request;
+ghost use Rattle.device_core.specs.theorem.History.{HasHistory};
 ghost use Rattle.device_core.specs.theorem.Request.{AreWoken, IsCause, cause_of, closed, takes_memory};
 
 mod buffers;
@@ -71,7 +72,8 @@ impl Model for Device {
 impl Device {
     /// Nothing is open. Does not allocate.
     pub fn new(alloc: Global) -> Device
-        ensures { result ≡ nothing }
+        ensures nothing { result ≡ nothing }
+        ensures empty { HasHistory result [] }
     {
         Device {
             alloc,
