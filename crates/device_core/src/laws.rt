@@ -1,5 +1,5 @@
 //! Theorems about all points, fences and values: each law is the contract of a function with an empty body.
-ghost use Rattle.std.specs.Prelude.{◌≡◌, ℕ, ◌+◌, ◌^◌, ◌<◌, ◌≤◌, ◌++◌, List, [], nat_lt, All, ◌↔◌, ◌∷◌, Some, true, length, map, Result};
+ghost use Rattle.std.specs.Prelude.{◌≡◌, ℕ, ◌+◌, ◌^◌, ◌<◌, ◌≤◌, ◌++◌, List, [], nat_lt, All, ◌↔◌, ◌∷◌, Some, true, length, map, Contains, Result};
 ghost use Rattle.std.specs.List.{range_with_len};
 ghost use Rattle.point_core.specs.declared.entry.Entry.{Entry};
 ghost use Rattle.point_core.specs.Reach.{IsAtLeast};
@@ -13,6 +13,7 @@ ghost use Rattle.device_core.specs.declared.request.Request.{Request};
 ghost use Rattle.device_core.specs.declared.request.Request.TheVariants.{Fence as MakesFence};
 ghost use Rattle.device_core.specs.theorem.History.{AreAccepted, AreAnswers, HasHistory, empty_world, history_of, sum_of, world_of, reach_of};
 ghost use Rattle.device_core.specs.Sound.{IsSound};
+ghost use Rattle.device_core.specs.Accepted.{history_with, kind_of};
 ghost use Rattle.device_core.specs.theorem.State.{DeviceState, FileState, objects_of};
 ghost use Rattle.device_core.specs.theorem.Headline.{ReportsSums, ReportsWhatWasPut, ReportsBuffers, ReportsFences, ReportsNumbers, ReportsEachWaking};
 ghost use Rattle.device_core.specs.theorem.Memory.{AreTrimmed};
@@ -73,6 +74,13 @@ pub fn the_reach_is_of_the_increments()
 pub fn the_put_points_are_of_the_requests()
     ensures { (history : List Request) (number : ℕ) → AreAccepted empty_world history →
         (world_of history).put number ≡ put_into history number }
+{}
+
+/// For each kind of request some history has one. So only a lack of memory can make a device refuse all requests of a
+/// kind.
+pub fn each_kind_of_request_is_accepted()
+    ensures accepted { (request : Request) → AreAccepted empty_world (history_with request) }
+    ensures has { (request : Request) → Contains (map kind_of (history_with request)) (kind_of request) }
 {}
 
 /// A new fence puts one point into its file: the 64-bit point nearest to the sum of its timeline's increments so far that
