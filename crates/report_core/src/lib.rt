@@ -30,4 +30,4 @@ pub use rows::{
     file_row, row, status_text,
 };
 pub use settled::settled_text;
-pub use writing::{write_many, write_out, write_whole};
+pub use writing::{WRITE_BYTES, write_many, write_out, write_whole};

@@ -9,7 +9,7 @@ use point_core::Refusal;
 use std::io::Write;
 
 /// Output is collected up to this many bytes before it is written.
-const WRITE_BYTES: usize = 8192;
+pub const WRITE_BYTES: usize = 8192;
 
 const _: () = prove!(WRITE_BYTES == 8192);
 

@@ -7,12 +7,13 @@ use std::process::Abort;
 /// The most bytes of a read or a write, in turn.
 pub(crate) const PIECES: [usize; 4] = [1, 2, 7, 16384];
 
-/// Returns a script, at most `piece` bytes for each read. Fails at its end if it is to fail.
+/// Returns a script, at most `piece` bytes for each read, and counts the reads. Fails at its end if it is to fail.
 #[derive(Drop)]
 pub(crate) struct Source<'a> {
     pub(crate) script: &'a [u8],
     pub(crate) piece: usize,
     pub(crate) fails: bool,
+    pub(crate) reads: usize,
 }
 
 pub(crate) fn source_of(script: &[u8], piece: usize) -> Source<'_> {
@@ -20,6 +21,7 @@ pub(crate) fn source_of(script: &[u8], piece: usize) -> Source<'_> {
         script,
         piece,
         fails: false,
+        reads: 0,
     }
 }
 
@@ -28,11 +30,13 @@ pub(crate) fn failing_source_of(script: &[u8], piece: usize) -> Source<'_> {
         script,
         piece,
         fails: true,
+        reads: 0,
     }
 }
 
 impl<'a> Read for Source<'a> {
     fn read(&mut self, buf: &mut [u8]) -> io::Result<usize> {
+        self.reads = self.reads.saturating_add(1);
         let count = self.piece.min(buf.len()).min(self.script.len());
         if count == 0 && self.fails {
             return Err(io::Error::from(io::ErrorKind::Interrupted));
@@ -45,7 +49,7 @@ impl<'a> Read for Source<'a> {
 }
 
 /// Compares the written bytes with a text, and accepts at most `piece` bytes for each write. Fails once it has accepted
-/// `room` bytes.
+/// `room` bytes. Counts the writes.
 #[derive(Drop)]
 pub(crate) struct Sink<'a> {
     // the part of the text that is still to be written
@@ -54,6 +58,9 @@ pub(crate) struct Sink<'a> {
     pub(crate) strange: bool,
     pub(crate) piece: usize,
     pub(crate) room: usize,
+    pub(crate) writes: usize,
+    // the most bytes that a write was given
+    pub(crate) longest: usize,
     pub(crate) flush_fails: bool,
     pub(crate) flushes: usize,
     // the number of bytes still to be written at the last flush
@@ -66,6 +73,8 @@ pub(crate) fn sink_of(text: &[u8], piece: usize, room: usize) -> Sink<'_> {
         strange: false,
         piece,
         room,
+        writes: 0,
+        longest: 0,
         flush_fails: false,
         flushes: 0,
         unflushed: text.len(),
@@ -82,6 +91,8 @@ impl<'a> Sink<'a> {
 
 impl<'a> Write for Sink<'a> {
     fn write(&mut self, buf: &[u8]) -> io::Result<usize> {
+        self.writes = self.writes.saturating_add(1);
+        self.longest = self.longest.max(buf.len());
         let count = self.piece.min(buf.len()).min(self.room);
         if count == 0 {
             return Err(io::Error::from(io::ErrorKind::Interrupted));
