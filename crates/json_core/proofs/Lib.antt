@@ -1,5 +1,2 @@
-mod Adding
-mod Names
-mod Prefixes
+mod Counting
 mod Runs
-mod Writing

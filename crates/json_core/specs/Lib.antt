@@ -1,5 +1,2 @@
-pub mod Json
-pub mod Part
-pub mod Reporting
+pub mod Answering
 pub mod Run
-pub mod Written

@@ -1,30 +1,23 @@
 //! The JSON object of an answer: the line, its text, and the members that its kind of answer has.
-ghost use Rattle.std.specs.Prelude.{◌≡◌, ◌++◌, IfOk, IfErr, OnOk};
-ghost use Rattle.std.specs.Str.Lossy.{utf8_lossy};
-ghost use Rattle.point_core.specs.declared.refusal.Refusal.TheVariants.{Memory};
-ghost use Rattle.json_core.specs.Part.{Adds};
-ghost use Rattle.json_core.specs.Json.{accepted, answer_tokens, info_tokens, limit_of, line_text, line_tokens};
-ghost use Rattle.json_core.specs.Json.{limit_tokens, raised_tokens, refusal_tokens, report_tokens, said_tokens, show_tokens, value_tokens};
 
 use crate::array::put_array;
 use crate::part::{AnswerPart, put_all};
 use command_core::{Answer, Info, Report, ShowRow};
 use json::Writer;
-use point_core::{LimitKind, Refusal};
+use point_core::Refusal;
 use std::alloc::{AllocError, Global};
 
 /// Writes the object of line `number` after the text, and a line feed. Bytes of the line that are not UTF-8 are written
 /// as U+FFFD.
+///
+/// After a failure the text is lost.
 pub fn push_line(
     alloc: Global,
     number: u32,
     line: &[u8],
     answer: &Answer,
     text: Vec<u8>,
-) -> Result<Vec<u8>, Refusal>
-    ensures ok { IfOk result (λ written. written.items ≡ text.items ++ line_text number (utf8_lossy line.now) answer.now) }
-    ensures err { IfErr result (λ refusal. refusal ≡ Memory) }
-{
+) -> Result<Vec<u8>, AllocError> {
     match str::from_utf8(line) {
         Ok(line) => push_object(number, line, answer, text),
         Err(_) => {
@@ -34,10 +27,12 @@ pub fn push_line(
     }
 }
 
-fn push_object(number: u32, line: &str, answer: &Answer, text: Vec<u8>) -> Result<Vec<u8>, Refusal>
-    ensures ok { IfOk result (λ written. written.items ≡ text.items ++ line_text number line.now answer.now) }
-    ensures err { IfErr result (λ refusal. refusal ≡ Memory) }
-{
+fn push_object(
+    number: u32,
+    line: &str,
+    answer: &Answer,
+    text: Vec<u8>,
+) -> Result<Vec<u8>, AllocError> {
     let mut writer = Writer::new(text);
     put_line(&mut writer, number, line, answer)?;
     let mut text = writer.into_inner();
@@ -45,18 +40,18 @@ fn push_object(number: u32, line: &str, answer: &Answer, text: Vec<u8>) -> Resul
     Ok(text)
 }
 
-fn put_line(writer: &mut Writer, number: u32, line: &str, answer: &Answer) -> Result<(), AllocError>
-    ensures added { OnOk result (Adds writer.old writer.new (line_tokens number line.now answer.now)) }
-{
+fn put_line(
+    writer: &mut Writer,
+    number: u32,
+    line: &str,
+    answer: &Answer,
+) -> Result<(), AllocError> {
     put_said(writer, number, line)?;
     put_answer(writer, answer)?;
-    put_all(writer, &[AnswerPart::EndObject])?;
-    Ok(())
+    writer.end_object()
 }
 
-fn put_said(writer: &mut Writer, number: u32, line: &str) -> Result<(), AllocError>
-    ensures added { OnOk result (Adds writer.old writer.new (said_tokens number line.now)) }
-{
+fn put_said(writer: &mut Writer, number: u32, line: &str) -> Result<(), AllocError> {
     let parts = [
         AnswerPart::BeginObject,
         AnswerPart::Key("line"),
@@ -67,9 +62,7 @@ fn put_said(writer: &mut Writer, number: u32, line: &str) -> Result<(), AllocErr
     put_all(writer, &parts)
 }
 
-fn put_answer(writer: &mut Writer, answer: &Answer) -> Result<(), AllocError>
-    ensures added { OnOk result (Adds writer.old writer.new (answer_tokens answer.now)) }
-{
+fn put_answer(writer: &mut Writer, answer: &Answer) -> Result<(), AllocError> {
     match answer {
         Answer::Done => put_accepted(writer),
         Answer::Value(value) => put_value(writer, *value),
@@ -82,34 +75,23 @@ fn put_answer(writer: &mut Writer, answer: &Answer) -> Result<(), AllocError>
 }
 
 /// Writes the member of every answer that is no refusal.
-fn put_accepted(writer: &mut Writer) -> Result<(), AllocError>
-    ensures added { OnOk result (Adds writer.old writer.new accepted) }
-{
-    put_all(writer, &[AnswerPart::Key("ok"), AnswerPart::Bool(true)])
+fn put_accepted(writer: &mut Writer) -> Result<(), AllocError> {
+    writer.key("ok")?;
+    writer.boolean(true)
 }
 
-fn put_value(writer: &mut Writer, value: u64) -> Result<(), AllocError>
-    ensures added { OnOk result (Adds writer.old writer.new (value_tokens value)) }
-{
+fn put_value(writer: &mut Writer, value: u64) -> Result<(), AllocError> {
     put_accepted(writer)?;
-    put_all(
-        writer,
-        &[AnswerPart::Key("value"), AnswerPart::Number(value)],
-    )?;
-    Ok(())
+    writer.key("value")?;
+    writer.u64(value)
 }
 
-fn put_raised(writer: &mut Writer, value: u64, fired: &[u64]) -> Result<(), AllocError>
-    ensures added { OnOk result (Adds writer.old writer.new (raised_tokens value fired.now)) }
-{
+fn put_raised(writer: &mut Writer, value: u64, fired: &[u64]) -> Result<(), AllocError> {
     put_value(writer, value)?;
-    put_array(writer, "fired", fired)?;
-    Ok(())
+    put_array(writer, "fired", fired)
 }
 
-fn put_info(writer: &mut Writer, info: &Info) -> Result<(), AllocError>
-    ensures added { OnOk result (Adds writer.old writer.new (info_tokens info.now)) }
-{
+fn put_info(writer: &mut Writer, info: &Info) -> Result<(), AllocError> {
     put_accepted(writer)?;
     let file = [
         AnswerPart::Key("file"),
@@ -118,31 +100,22 @@ fn put_info(writer: &mut Writer, info: &Info) -> Result<(), AllocError>
         AnswerPart::Status(info.status),
     ];
     put_all(writer, &file)?;
-    put_array(writer, "fences", info.fences.as_slice())?;
-    Ok(())
+    put_array(writer, "fences", info.fences.as_slice())
 }
 
-fn put_show(writer: &mut Writer, rows: &[ShowRow]) -> Result<(), AllocError>
-    ensures added { OnOk result (Adds writer.old writer.new (show_tokens rows.now)) }
-{
+fn put_show(writer: &mut Writer, rows: &[ShowRow]) -> Result<(), AllocError> {
     put_accepted(writer)?;
-    put_array(writer, "rows", rows)?;
-    Ok(())
+    put_array(writer, "rows", rows)
 }
 
-fn put_report(writer: &mut Writer, report: &Report) -> Result<(), AllocError>
-    ensures added { OnOk result (Adds writer.old writer.new (report_tokens report.now)) }
-{
+fn put_report(writer: &mut Writer, report: &Report) -> Result<(), AllocError> {
     put_accepted(writer)?;
     put_array(writer, "timelines", report.timelines.as_slice())?;
     put_array(writer, "files", report.files.as_slice())?;
-    put_array(writer, "buffers", report.buffers.as_slice())?;
-    Ok(())
+    put_array(writer, "buffers", report.buffers.as_slice())
 }
 
-fn put_refusal(writer: &mut Writer, refusal: Refusal) -> Result<(), AllocError>
-    ensures added { OnOk result (Adds writer.old writer.new (refusal_tokens refusal)) }
-{
+fn put_refusal(writer: &mut Writer, refusal: Refusal) -> Result<(), AllocError> {
     let error = [
         AnswerPart::Key("ok"),
         AnswerPart::Bool(false),
@@ -154,29 +127,9 @@ fn put_refusal(writer: &mut Writer, refusal: Refusal) -> Result<(), AllocError>
         AnswerPart::Text(refusal.name()),
     ];
     put_all(writer, &error)?;
-    put_limit(writer, limit_of(refusal))?;
-    put_all(writer, &[AnswerPart::EndObject])?;
-    Ok(())
-}
-
-fn put_limit(writer: &mut Writer, limit: Option<LimitKind>) -> Result<(), AllocError>
-    ensures added { OnOk result (Adds writer.old writer.new (limit_tokens limit)) }
-{
-    match limit {
-        Some(kind) => put_all(
-            writer,
-            &[AnswerPart::Key("limit"), AnswerPart::Text(kind.word())],
-        ),
-        None => Ok(()),
+    if let Refusal::Limit(kind) = refusal {
+        writer.key("limit")?;
+        writer.string(kind.word())?;
     }
-}
-
-/// The limit that was reached, if the refusal is `Limit`.
-fn limit_of(refusal: Refusal) -> Option<LimitKind>
-    ensures { result ≡ limit_of refusal }
-{
-    match refusal {
-        Refusal::Limit(kind) => Some(kind),
-        _ => None,
-    }
+    writer.end_object()
 }

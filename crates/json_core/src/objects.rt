@@ -1,18 +1,11 @@
 //! `Objects`: a desk with the JSON output that is pending, as `script_core::Answers` is for text. It is the handler of a
 //! script's lines.
-ghost use Rattle.std.specs.Prelude.{◌≡◌, ◌+◌, ◌<◌, ◌⊎◌, ◌∷◌, ◌++◌, [], List, ℕ, Option, length, IfErr, IfOk};
-ghost use Rattle.std.specs.Prelude.{MatchOption, OnErr, OnOk};
-ghost use Rattle.std.specs.Io.KnownBytes.{Appends};
-ghost use Rattle.std.specs.Str.Lossy.{utf8_lossy};
-ghost use Rattle.desk_core.specs.theorem.Desk.{HasHistory};
-ghost use Rattle.line_core.specs.declared.line.Line.{Line as LineModel};
-ghost use Rattle.line_core.specs.Cutting.{cut};
-ghost use Rattle.line_core.specs.Script.{answered};
-ghost use Rattle.report_core.specs.Bytes.{AppendsFront, PassesOn};
-ghost use Rattle.json_core.specs.Json.{line_text};
+ghost use Rattle.std.specs.Prelude.{◌≡◌, ◌<◌, ◌⊎◌, ◌∷◌, ◌++◌, [], List, ℕ, Option, IfErr, IfOk};
 ghost use Rattle.point_core.specs.declared.refusal.Refusal.TheVariants.{Write as WriteFault, Memory};
-ghost use Rattle.json_core.specs.Reporting.{ReportsLine, ReportsPrefix};
-ghost use Rattle.json_core.specs.Written.{HasStopped, HasWritten};
+ghost use Rattle.line_core.specs.declared.line.Line.{Line as LineModel};
+ghost use Rattle.line_core.specs.Script.{answered};
+ghost use Rattle.script_core.specs.Output.{Grows};
+ghost use Rattle.json_core.specs.Answering.{AnswersLine, HasAnswered, HasStopped};
 
 use crate::members::push_line;
 use command_core::Answer;
@@ -39,7 +32,7 @@ impl Objects {
     /// No line has been answered.
     pub(crate) fn new(alloc: Global) -> Result<Objects, Refusal>
         ensures none { IfOk result (λ objects. (contents : Option (List ℕ)) →
-            HasWritten [] [] objects.desk objects.out.items objects.totals contents contents) }
+            HasAnswered [] [] objects.desk objects.totals contents contents) }
         ensures refusals { IfErr result (λ refusal. refusal ≡ Memory) }
     {
         Ok(Objects {
@@ -61,13 +54,10 @@ impl Objects {
         writer: &mut W,
     ) -> Result<(), Refusal>
         requires few { self.old.totals.lines < number }
-        ensures written { OnOk result ((lines : List (List ℕ)) → (text : List ℕ) → (said : List LineModel)
-            → (start : Option (List ℕ)) → number ≡ length lines + 1 → line.now ≡ cut text
-            → HasWritten lines said self.old.desk self.old.out.items self.old.totals start (W.contents writer.old)
-            → HasWritten (lines ++ text ∷ []) (said ++ answered number body [])
-            self.new.desk self.new.out.items self.new.totals start (W.contents writer.new)) }
-        ensures err { OnErr result (MatchOption body ⊥ (λ said. ReportsPrefix number line.now said
-            self.old.desk self.old.out.items (W.contents writer.old) (W.contents writer.new))) }
+        ensures answered { (lines : List (List ℕ)) → (text : List ℕ) → (said : List LineModel) → (start : Option (List ℕ))
+            → HasAnswered lines said self.old.desk self.old.totals start (W.contents writer.old)
+            → HasAnswered (lines ++ text ∷ []) (said ++ answered number body [])
+            self.new.desk self.new.totals start (W.contents writer.new) }
         ensures refusals { IfErr result (λ refusal. (refusal ≡ WriteFault) ⊎ (refusal ≡ Memory)) }
     {
         match body {
@@ -84,11 +74,8 @@ impl Objects {
         writer: &mut W,
     ) -> Result<(), Refusal>
         requires few { self.old.totals.lines < number }
-        ensures reported { OnOk result (ReportsLine number line.now body self.old.desk self.new.desk
-            self.old.out.items self.new.out.items self.old.totals self.new.totals
-            (W.contents writer.old) (W.contents writer.new)) }
-        ensures err { OnErr result (ReportsPrefix number line.now body
-            self.old.desk self.old.out.items (W.contents writer.old) (W.contents writer.new)) }
+        ensures answered { AnswersLine body self.old.desk self.new.desk self.old.totals self.new.totals }
+        ensures grows { Grows (W.contents writer.old) (W.contents writer.new) }
         ensures refusals { IfErr result (λ refusal. (refusal ≡ WriteFault) ⊎ (refusal ≡ Memory)) }
     {
         let answer = answer_line(&mut self.desk, body);
@@ -100,11 +87,9 @@ impl Objects {
     ///
     /// Fails with `Write` if a write failed or took no byte.
     fn write<W: Write>(&mut self, writer: &mut W) -> Result<(), Refusal>
-        ensures ok { OnOk result (Appends (W.contents writer.old) (W.contents writer.new) self.old.out.items) }
-        ensures none { OnOk result (self.new.out.items ≡ []) }
-        ensures err { OnErr result (AppendsFront (W.contents writer.old) (W.contents writer.new) self.old.out.items) }
+        ensures grows { Grows (W.contents writer.old) (W.contents writer.new) }
         ensures desk { self.new.desk ≡ self.old.desk }
-        ensures lines { self.new.totals ≡ self.old.totals }
+        ensures totals { self.new.totals ≡ self.old.totals }
         ensures refusals { IfErr result (λ refusal. refusal ≡ WriteFault) }
     {
         write_out(writer, &mut self.out)
@@ -115,8 +100,7 @@ impl Objects {
     /// Fails with `Write` if a write failed or took no byte, or the flush failed.
     pub(crate) fn finish<W: Write>(&mut self, writer: &mut W) -> Result<Totals, Refusal>
         ensures totals { IfOk result (λ totals. totals ≡ self.old.totals) }
-        ensures ok { OnOk result (Appends (W.contents writer.old) (W.contents writer.new) self.old.out.items) }
-        ensures err { OnErr result (AppendsFront (W.contents writer.old) (W.contents writer.new) self.old.out.items) }
+        ensures grows { Grows (W.contents writer.old) (W.contents writer.new) }
         ensures refusals { IfErr result (λ refusal. refusal ≡ WriteFault) }
     {
         self.write(writer)?;
@@ -126,13 +110,13 @@ impl Objects {
 }
 
 impl<W: Write> LineHandler<W, ()> for Objects {
-    ghost handled = { λ start lines said now. HasWritten lines said now.0.desk now.0.out.items now.0.totals
+    ghost handled = { λ start lines said now. HasAnswered lines said now.0.desk now.0.totals
         (W.contents start.1) (W.contents now.1) };
 
-    ghost ended = { λ end start lines said now. HasWritten lines said now.0.desk now.0.out.items now.0.totals
+    ghost ended = { λ end start lines said now. HasAnswered lines said now.0.desk now.0.totals
         (W.contents start.1) (W.contents now.1) };
 
-    ghost failed = { λ refusal start lines said now. HasStopped refusal lines said (W.contents start.1) (W.contents now.1) };
+    ghost failed = { λ refusal start lines said now. HasStopped refusal (W.contents start.1) (W.contents now.1) };
 
     fn handle(
         &mut self,
@@ -170,10 +154,7 @@ fn pass_line<W: Write>(
     out: &mut Vec<u8>,
     writer: &mut W,
 ) -> Result<(), Refusal>
-    ensures ok { OnOk result (PassesOn out.old.items out.new.items
-        (line_text number (utf8_lossy line.now) answer.now) (W.contents writer.old) (W.contents writer.new)) }
-    ensures err { OnErr result (AppendsFront (W.contents writer.old) (W.contents writer.new)
-        (out.old.items ++ line_text number (utf8_lossy line.now) answer.now)) }
+    ensures grows { Grows (W.contents writer.old) (W.contents writer.new) }
     ensures refusals { IfErr result (λ refusal. (refusal ≡ WriteFault) ⊎ (refusal ≡ Memory)) }
 {
     let waiting = mem::replace(out, Vec::new(alloc));

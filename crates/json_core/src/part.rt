@@ -1,9 +1,5 @@
-//! `AnswerPart`: a part of the JSON of an answer, so that an object is a list of parts, and its contract a list of tokens.
+//! `AnswerPart`: a part of the JSON of an answer, so that an object is a list of parts.
 //! `members.rt` and `array.rt` write objects by `put_all`.
-ghost use Rattle.std.specs.Prelude.{OnOk};
-ghost use Rattle.json.specs.Written.{Writes};
-ghost use Rattle.json.specs.Token.{string};
-ghost use Rattle.json_core.specs.Part.{Adds, token_of, tokens_of};
 
 use json::Writer;
 use point_core::{Name, Status};
@@ -14,8 +10,6 @@ use std::alloc::AllocError;
 pub(crate) enum AnswerPart<'a> {
     BeginObject,
     EndObject,
-    BeginArray,
-    EndArray,
     Key(&'a str),
     Text(&'a str),
     Name(&'a Name),
@@ -25,23 +19,17 @@ pub(crate) enum AnswerPart<'a> {
 }
 
 /// Writes the parts, one after another.
-pub(crate) fn put_all(writer: &mut Writer, parts: &[AnswerPart<'_>]) -> Result<(), AllocError>
-    ensures added { OnOk result (Adds writer.old writer.new (tokens_of parts.now)) }
-{
+pub(crate) fn put_all(writer: &mut Writer, parts: &[AnswerPart<'_>]) -> Result<(), AllocError> {
     for part in parts {
         put(writer, part)?;
     }
     Ok(())
 }
 
-fn put(writer: &mut Writer, part: &AnswerPart<'_>) -> Result<(), AllocError>
-    ensures written { Writes result writer.old writer.new (token_of part.now) }
-{
+fn put(writer: &mut Writer, part: &AnswerPart<'_>) -> Result<(), AllocError> {
     match part {
         AnswerPart::BeginObject => writer.begin_object(),
         AnswerPart::EndObject => writer.end_object(),
-        AnswerPart::BeginArray => writer.begin_array(),
-        AnswerPart::EndArray => writer.end_array(),
         AnswerPart::Key(name) => writer.key(name),
         AnswerPart::Text(text) => writer.string(text),
         AnswerPart::Name(name) => put_name(writer, name),
@@ -52,9 +40,7 @@ fn put(writer: &mut Writer, part: &AnswerPart<'_>) -> Result<(), AllocError>
 }
 
 /// A name is ASCII.
-fn put_name(writer: &mut Writer, name: &Name) -> Result<(), AllocError>
-    ensures written { Writes result writer.old writer.new (string name.now) }
-{
+fn put_name(writer: &mut Writer, name: &Name) -> Result<(), AllocError> {
     match str::from_utf8(name.as_bytes()) {
         Ok(text) => writer.string(text),
         Err(_) => Err(AllocError),

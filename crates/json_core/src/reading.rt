@@ -1,7 +1,7 @@
 //! Runs a script from a reader, and writes JSON. `run --json` calls it.
 ghost use Rattle.std.specs.Prelude.{[]};
+ghost use Rattle.json_core.specs.Answering.{HasAnswered};
 ghost use Rattle.json_core.specs.Run.{RunsJson};
-ghost use Rattle.json_core.specs.Written.{HasWritten};
 
 use crate::objects::Objects;
 use line_core::{Ending, for_each_line};
@@ -36,7 +36,7 @@ fn with_objects<R: Read, W: Write>(
     reader: &mut R,
     writer: &mut W,
 ) -> Result<Totals, Refusal>
-    requires fresh { HasWritten [] [] objects.old.desk objects.old.out.items objects.old.totals
+    requires fresh { HasAnswered [] [] objects.old.desk objects.old.totals
         (W.contents writer.old) (W.contents writer.old) }
     ensures run { RunsJson result (R.remaining reader.old) (R.remaining reader.new)
         (W.contents writer.old) (W.contents writer.new) }

@@ -1,9 +1,9 @@
--- By how the line was answered.
+-- The line is answered, whether it could be written or not.
 use Rattle.std.proofs.Common.{[], ◌∷◌, ◌++◌, subst, arith}
 use Rattle.line_core.specs.Script.{answered}
-use Rattle.line_core.proofs.Handling.{on-err, on-ok}
-use Rattle.json_core.specs.Written.{HasWritten, WritesObjectsPrefix}
-use Rattle.json_core.proofs.Prefixes.{prefix-next}
+use Rattle.line_core.proofs.Handling.{if-err}
+use Rattle.json_core.specs.Answering.{HasAnswered}
+use Rattle.json_core.proofs.Counting.{ok-anyway}
 use Rattle.json_core.proofs.objects.ObjectsLineHandlerUnit.handle.Goals as goal
 
 pub answer-requires : goal.answer-requires
@@ -14,23 +14,16 @@ returns-clause-ok g c =
     let number = c.args.line.now.number in
     let new = c.answer.new.self in
     let end = g.W.Write.contents c.answer.new.writer in
-    on-ok c.answer.result
-    (λ told start lines said text p place held.
-    let begin = g.W.Write.contents start.1 in
-    subst (λ body. HasWritten (lines ++ text ∷ []) (said ++ answered number body []) new.desk new.out.items new.totals begin end) c.body_of.ensures.body
-    (told lines text said begin place held p))
-    c.answer.ensures.written
+    ok-anyway c.answer.result
+    (λ start lines said text p place held.
+    subst (λ body. HasAnswered (lines ++ text ∷ []) (said ++ answered number body []) new.desk new.totals (g.W.Write.contents start.1) end) c.body_of.ensures.body
+    (c.answer.ensures.answered lines text said (g.W.Write.contents start.1) p))
 
 pub returns-clause-err : goal.returns-clause-err
 returns-clause-err g c =
-    let line = c.args.line.now in
-    let end = g.W.Write.contents c.answer.new.writer in
-    on-err c.answer.result
-    (λ stops refusal is start lines said text p place held.
-    let begin = g.W.Write.contents start.1 in
-    let front = prefix-next lines said _ _ _ begin _ end text line.bytes.now line.number c.body_of.result p place held stops in
-    record {
+    if-err c.answer.result
+    (λ refusal is start lines said text p place held. record {
       is = is;
-      written = λ more. subst (λ body. WritesObjectsPrefix ((lines ++ text ∷ []) ++ more) (said ++ answered line.number body []) begin end) c.body_of.ensures.body (front more);
+      grows = (c.answer.ensures.answered lines text said (g.W.Write.contents start.1) p).grows;
     })
-    c.answer.ensures.err c.answer.ensures.refusals
+    c.answer.ensures.refusals

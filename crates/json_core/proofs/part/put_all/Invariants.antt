@@ -1,7 +1,0 @@
-use Rattle.std.proofs.Common.{take}
-use Rattle.json_core.specs.Part.{tokens_of}
-use Rattle.json_core.specs.Part.{Adds}
-use Rattle.json_core.proofs.part.put_all.Given as goal
-
-abbrev pub invariant-loop-part : goal.invariant-loop-part
-invariant-loop-part l = Adds l.fn.writer l.writer (tokens_of (take l.part-index l.parts))
