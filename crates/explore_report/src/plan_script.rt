@@ -2,7 +2,7 @@
 //! `Report` and `fencectl` read it.
 ghost use Rattle.std.specs.Prelude.{◌≡◌, ◌+◌, IfErr, IfOk, drop, length, map, not, position, true};
 ghost use Rattle.line_core.specs.Script.{lines_of};
-ghost use Rattle.explore_core.specs.Found.{CanBeExplored, IsAll, IsTrue};
+ghost use Rattle.explore_core.specs.Found.{CanBeExplored, HasVisited, IsAll, IsShortest, IsTrue, ListsOnce};
 ghost use Rattle.explore_report.specs.Finding.{expectations, expected, expecting, expects};
 ghost use Rattle.explore_report.specs.Making.{section_at};
 ghost use Rattle.explore_report.specs.Plan.{after_notes};
@@ -66,7 +66,10 @@ impl<'a> PlanScript<'a> {
     pub fn explore(&self, alloc: Global, bound: usize) -> Result<Found, Refusal>
         requires explorable { CanBeExplored self.now.plan }
         ensures shown { IfOk result (λ found. IsTrue self.now.plan found) }
+        ensures once { IfOk result (λ found. ListsOnce found) }
         ensures all { IfOk result (λ found. found.covered ≡ true → IsAll self.now.plan found) }
+        ensures shortest { IfOk result (λ found. IsShortest self.now.plan found) }
+        ensures visited { IfOk result (λ found. HasVisited self.now.plan bound found) }
         ensures memory { IfErr result (λ refusal. refusal ≡ Refusal.Memory) }
     {
         explore(alloc, &self.plan, bound)
