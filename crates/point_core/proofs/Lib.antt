@@ -4,12 +4,9 @@ pub mod Indexes
 pub mod InUse
 pub mod Latest
 pub mod Listings
-pub mod Marked
 pub mod Merges
 pub mod Named
 pub mod Names
-pub mod Padded
-pub mod Placed
 pub mod Reached
 pub mod Results
 mod Rows

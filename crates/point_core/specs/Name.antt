@@ -1,6 +1,5 @@
-use Rattle.std.specs.Prelude.{◌≡◌, ℕ, ◌-◌, ◌≤◌, Bool, true, nat_le, ◌&&◌, ◌||◌, ◌==◌, List, ◌++◌, length, take, replicate, get_or, slice_set}
+use Rattle.std.specs.Prelude.{◌≡◌, ℕ, ◌+◌, ◌-◌, ◌≤◌, Bool, true, nat_le, ◌&&◌, ◌||◌, ◌==◌, List, ◌++◌, length, take, replicate, get_or, slice_set}
 use Rattle.std.specs.List.{list_all}
-use Rattle.point_core.specs.declared.lanes.TheConstants.{FEW_BYTES, LANES}
 use Rattle.point_core.specs.declared.name.TheConstants.{NAME_BYTES}
 
 -- both ends belong to the range
@@ -17,20 +16,16 @@ IsName bytes = (1 ≤ length bytes) × (length bytes ≤ NAME_BYTES) × (list_al
 
 -- the bytes of a name, and zeros after them
 abbrev pub padded : List ℕ → List ℕ
-padded bytes = bytes ++ replicate (LANES - length bytes) 0
+padded bytes = bytes ++ replicate (NAME_BYTES + 1 - length bytes) 0
 
--- few bytes, and zeros after them, in half of the lanes
-abbrev pub half_padded : List ℕ → List ℕ
-half_padded bytes = bytes ++ replicate (FEW_BYTES - length bytes) 0
+-- how a name is stored: its bytes, zeros after them, and its length last
+abbrev pub stored_of : List ℕ → List ℕ
+stored_of bytes = slice_set (padded bytes) NAME_BYTES (length bytes)
 
--- the lanes that hold a name: its bytes, zeros after them, and its length last
-abbrev pub lanes_of : List ℕ → List ℕ
-lanes_of bytes = slice_set (padded bytes) NAME_BYTES (length bytes)
-
--- the first lanes, as many as the last lane says
+-- the first bytes, as many as the last one says
 abbrev pub bytes_of : List ℕ → List ℕ
-bytes_of lanes = take (get_or lanes NAME_BYTES 0) lanes
+bytes_of stored = take (get_or stored NAME_BYTES 0) stored
 
--- the lanes hold a name
+-- a name is stored so
 abbrev pub IsStored : List ℕ → Type 0
-IsStored lanes = IsName (bytes_of lanes) × (lanes_of (bytes_of lanes) ≡ lanes)
+IsStored stored = IsName (bytes_of stored) × (stored_of (bytes_of stored) ≡ stored)
