@@ -102,30 +102,6 @@ pub count_skipped : (latest reach : List ℕ) (n ctx : ℕ) → ctx ≡ n + 1 �
 count_skipped latest reach n ctx is reached =
     ap length (skip_above latest reach (filter_map (point_above latest reach) (range_with_len 1 n)) n ctx refl is reached)
 
-cons_option-few : {X : Type 0} (o : Option X) → length (cons_option o []) ≤ 1
-cons_option-few None = omega arith
-cons_option-few (Some x) = omega arith
-
--- each context has at most one point
-above_count-few : (latest reach : List ℕ) (n : ℕ) → length (filter_map (point_above latest reach) (range_with_len 1 n)) ≤ n
-above_count-few latest reach zero = omega arith
-above_count-few latest reach (suc n) =
-    let before = filter_map (point_above latest reach) (range_with_len 1 n) in
-    let next = point_above latest reach (1 + n) in
-    let more = ap length (filter_map-range_more (point_above latest reach) 1 n) ∙ length-append before (cons_option next []) in
-    omega (arith, more, cons_option-few next, above_count-few latest reach n)
-
--- more contexts have no fewer points
-above_count-rises : (latest reach : List ℕ) (n more : ℕ) → length (filter_map (point_above latest reach) (range_with_len 1 n)) ≤ length (filter_map (point_above latest reach) (range_with_len 1 (more + n)))
-above_count-rises latest reach n zero =
-    let same : n ≡ zero + n = omega arith in
-    omega (arith, ap (λ k. length (filter_map (point_above latest reach) (range_with_len 1 k))) same)
-above_count-rises latest reach n (suc more) =
-    let before = filter_map (point_above latest reach) (range_with_len 1 (more + n)) in
-    let next : suc more + n ≡ suc (more + n) = omega arith in
-    let is = ap (λ k. length (filter_map (point_above latest reach) (range_with_len 1 k))) next ∙ ap length (filter_map-range_more (point_above latest reach) 1 (more + n)) ∙ length-append before (cons_option (point_above latest reach (1 + (more + n))) []) in
-    omega (arith, is, above_count-rises latest reach n more)
-
 skip_unused : (latest reach : List ℕ) (n more : ℕ) → ((ctx : ℕ) → n < ctx → value_at latest ctx ≡ 0) → filter_map (point_above latest reach) (range_with_len 1 n) ≡ filter_map (point_above latest reach) (range_with_len 1 (more + n))
 skip_unused latest reach n zero past = ap (λ k. filter_map (point_above latest reach) (range_with_len 1 k)) (omega arith)
 skip_unused latest reach n (suc more) past =
@@ -139,13 +115,3 @@ pub points_above-used : (latest reach : List ℕ) (n : ℕ) → n ≤ CONTEXTS �
 points_above-used latest reach n few past =
     skip_unused latest reach n (CONTEXTS - n) past
     ∙ filter_map-contexts (point_above latest reach) (CONTEXTS - n + n) (omega arith)
-
--- there are no more points than contexts in use
-pub points_above-few : (latest reach : List ℕ) (n : ℕ) → n ≤ CONTEXTS → ((ctx : ℕ) → n < ctx → value_at latest ctx ≡ 0) → length (points_above latest reach) ≤ n
-points_above-few latest reach n few past = omega (arith, ap length (points_above-used latest reach n few past), above_count-few latest reach n)
-
--- a place for a point of the next context
-pub points_above-room : (latest reach : List ℕ) (n ctx : ℕ) → n < CONTEXTS → ctx ≡ n + 1 → value_at reach ctx < value_at latest ctx → length (filter_map (point_above latest reach) (range_with_len 1 n)) < length (points_above latest reach)
-points_above-room latest reach n ctx low is above =
-    let all = ap length (filter_map-contexts (point_above latest reach) (CONTEXTS - (n + 1) + (n + 1)) (omega arith)) in
-    omega (arith, count_above latest reach n ctx is above, above_count-rises latest reach (n + 1) (CONTEXTS - (n + 1)), all)

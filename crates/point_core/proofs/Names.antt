@@ -1,7 +1,6 @@
 -- A name as it is stored.
-use Rattle.std.proofs.Common.{◌≡◌, ℕ, ◌++◌, ◌+◌, ◌-◌, ◌≤◌, true, false, true≢false, nat_eq, List, [], ◌∷◌, length, take, drop, get_or, replicate, slice_set, refl, sym, ap, subst, ◌∙◌, arith}
-use Rattle.std.proofs.lemmas.Bool.{eqb-true, eq-eqb}
-use Rattle.std.proofs.lemmas.List.{length-append, length-replicate, length-set, get_or-set_same, take-set-le, drop-replicate}
+use Rattle.std.proofs.Common.{◌≡◌, ℕ, ◌++◌, ◌-◌, ◌≤◌, false, true≢false, nat_eq, List, [], ◌∷◌, length, take, drop, replicate, slice_set, sym, ap, subst, ◌∙◌, arith}
+use Rattle.std.proofs.lemmas.List.{length-append, length-replicate, get_or-set_same, take-set-le, drop-replicate}
 use Rattle.std.proofs.Math.Seq.{take-append_seam}
 use Rattle.std.specs.Bool.{one_answer}
 use Rattle.std.specs.Cmp.Lexicographic.{bytes_decides}

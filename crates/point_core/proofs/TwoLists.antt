@@ -1,30 +1,15 @@
 -- Two lists of points by rising context, read as one.
-use Rattle.std.proofs.Common.{◌≡◌, ℕ, ◌+◌, ◌-◌, ◌<◌, ◌≤◌, refl, sym, ap, ◌∙◌, subst, List, [], ◌∷◌, ◌++◌, ◌≢◌, min, max, nat_lt, not, length, length-append, append_assoc, append-nil, map, arith, All, get_or, take, drop, if◌then◌else◌, inl, inr, ◌⊎◌}
-use Rattle.std.proofs.lemmas.Bool.{cases_lt, lt-ltb, le-ltb}
-use Rattle.std.proofs.lemmas.List.{drop_more, take_all, length-drop}
-use mir.Val.{bool_byte}
+use Rattle.std.proofs.Common.{◌≡◌, ℕ, ◌+◌, ◌-◌, ◌<◌, ◌≤◌, refl, sym, ap, ◌∙◌, subst, List, [], ◌∷◌, ◌++◌, length, length-append, append_assoc, append-nil, map, arith, All}
 use Rattle.std.proofs.lemmas.List.Elements.{All-nil, All-cons, All-head, All-tail, All-weaker, All-push, All-map, Contains-append_right}
 use Rattle.point_core.specs.declared.context.TheConstants.{CONTEXTS}
 use Rattle.point_core.specs.declared.entry.Point.{Point}
 use Rattle.point_core.specs.declared.entry.Entry.{Entry}
 use Rattle.point_core.specs.Reach.{value_at}
-use Rattle.point_core.specs.Agreement.{AgreesAbove, as_entry, as_entries, listing, merged, HasContexts, HasRisingContexts, AllAbove, point_of}
-use Rattle.point_core.specs.TwoLists.{AllFrom, IsPartedAt, HasRoomFor, with_above, with_all_above}
+use Rattle.point_core.specs.Agreement.{AgreesAbove, as_entry, as_entries, listing, merged, HasContexts, HasRisingContexts, AllAbove}
+use Rattle.point_core.specs.TwoLists.{AllFrom, IsFirstOf}
 use Rattle.point_core.proofs.Agreement.{IsStrictlyIncreasing-cons, AgreesAbove-refl, AgreesAbove-sym, AgreesAbove-trans, AgreesAbove-same, AgreesAbove-append, AgreesAbove-comm, AgreesAbove-covered, AgreesAbove-signalled, as_entries-append, listing-AgreesAbove}
 use Rattle.point_core.proofs.Canonical.{IsStrictlyIncreasing-tail, above-first, listing-itself}
 use Rattle.point_core.proofs.Listings.{HasContexts-nil, HasContexts-put}
-
--- p is a point of the lowest context in both lists: p and the rests agree with the whole lists
-pub record IsFirstOf (p : Point) (left right ps qs : List Point) : Type 0 where
-  pub agrees : (reach : List ℕ) →
-      AgreesAbove reach (as_entry p ∷ (as_entries left ++ as_entries right)) (as_entries ps ++ as_entries qs)
-  pub first : (ctx : ℕ) → AllFrom ctx ps → AllFrom ctx qs → ctx ≤ p.ctx
-  pub later : HasRisingContexts ps → HasRisingContexts qs →
-      (HasRisingContexts left × HasRisingContexts right) × (AllFrom (p.ctx + 1) left × AllFrom (p.ctx + 1) right)
-  pub context : (1 ≤ p.ctx) × (p.ctx ≤ CONTEXTS)
-  pub contexts : HasContexts (as_entries left) → HasContexts (as_entries right) →
-      HasContexts (as_entries ps) × HasContexts (as_entries qs)
-  pub shorter : length left + length right < length ps + length qs
 
 abbrev has_context : Entry → Type 0
 has_context e = (1 ≤ e.point.ctx) × (e.point.ctx ≤ CONTEXTS)
@@ -179,109 +164,6 @@ module _ {reach : List ℕ} {all others points left right : List Point} (p : Poi
         contexts = λ here there. let both = first.contexts here there in before.contexts both.0 both.1;
         room = omega (arith, before.room, first.shorter);
       }
-
--- an element of a list, and the rest
-pub drop-item : (ps : List Point) (i : ℕ) (p : Point) → i < length ps → p ≡ get_or ps i p → drop i ps ≡ p ∷ drop (i + 1) ps
-drop-item ps i p low is = drop_more ps i p low ∙ ap (λ q. q ∷ drop (i + 1) ps) (sym is)
-
-pub all-of_rest : (ps : List Point) (i : ℕ) → take (length ps - i) (drop i ps) ≡ drop i ps
-all-of_rest ps i = take_all (length ps - i) (drop i ps) (omega (arith, length-drop i ps))
-
-module _ (reach : List ℕ) (p : Point) (points : List Point) where
-  with_above-high : value_at reach p.ctx < p.value → with_above reach p points ≡ points ++ p ∷ []
-  with_above-high high = ap (λ b. if b then points ++ p ∷ [] else points) (lt-ltb (value_at reach p.ctx) p.value high)
-
-  with_above-low : p.value ≤ value_at reach p.ctx → with_above reach p points ≡ points
-  with_above-low low = ap (λ b. if b then points ++ p ∷ [] else points) (le-ltb (value_at reach p.ctx) p.value low)
-
-  length-with_above : length (with_above reach p points) ≤ length points + 1
-  length-with_above = elim (cases_lt (value_at reach p.ctx) p.value) [
-    | inl high ↦ let more = ap length (with_above-high high) in let one = length-append points (p ∷ []) in omega arith
-    | inr low ↦ let same = ap length (with_above-low low) in omega arith
-  ]
-
-  pub HasMerged-above : {all others left right ps qs : List Point} → HasMerged reach all others points left right → IsFirstOf p ps qs left right → HasMerged reach all others (with_above reach p points) ps qs
-  HasMerged-above {all} {others} {left} {right} {ps} {qs} before first = elim (cases_lt (value_at reach p.ctx) p.value) [
-    | inl high ↦ rw (with_above-high high) (HasMerged-push p ps qs before first high)
-    | inr low ↦ rw (with_above-low low) (HasMerged-skip p ps qs before first low)
-  ]
-
--- a list that has room for some points has room for the first, and then for the others
-pub HasRoomFor-first : (p : Point) (ps points : List Point) (capacity : ℕ) → HasRoomFor (p ∷ ps) points capacity → (1 ≤ p.ctx) × (p.ctx ≤ CONTEXTS) → length points < capacity
-HasRoomFor-first p ps points capacity h has =
-    let next = All-head (λ (q : Point). h.next ≤ q.ctx) p ps h.from in
-    omega (arith, next, has, h.few, h.room)
-
-pub HasRoomFor-rest : (reach : List ℕ) (p : Point) (ps points : List Point) (capacity : ℕ) → HasRoomFor (p ∷ ps) points capacity → (1 ≤ p.ctx) × (p.ctx ≤ CONTEXTS) → HasRoomFor ps (with_above reach p points) capacity
-HasRoomFor-rest reach p ps points capacity h has =
-    let next = All-head (λ (q : Point). h.next ≤ q.ctx) p ps h.from in
-    let more = length-with_above reach p points in
-    record {
-      next = p.ctx + 1;
-      few = omega (arith, next, has, h.few, more);
-      from = AllFrom-rest p ps h.rising;
-      rising = HasRisingContexts-rest p ps h.rising;
-      room = omega (arith, h.room, more);
-    }
-
-pub HasRoomFor-left : {reach : List ℕ} {all others points left right : List Point} (capacity : ℕ) → HasMerged reach all others points left right → min (length all + length others) CONTEXTS ≤ capacity → HasRoomFor left points capacity
-HasRoomFor-left capacity h room = record { next = h.next; few = h.few; from = h.from.0; rising = h.risings.0; room = omega (arith, h.room, room) }
-
-pub HasRoomFor-right : {reach : List ℕ} {all others points left right : List Point} (capacity : ℕ) → HasMerged reach all others points left right → min (length all + length others) CONTEXTS ≤ capacity → HasRoomFor right points capacity
-HasRoomFor-right capacity h room = record { next = h.next; few = h.few; from = h.from.1; rising = h.risings.1; room = omega (arith, h.room, room) }
-
--- both lists start with one context: the greater value covers both
-pub IsFirstOf-later : (p q : Point) (value : ℕ) (ps qs : List Point) → (1 ≤ p.ctx) × (p.ctx ≤ CONTEXTS) → p.ctx ≡ q.ctx → value ≡ max p.value q.value → IsFirstOf (point_of p.ctx value) ps qs (p ∷ ps) (q ∷ qs)
-IsFirstOf-later p q value ps qs has same is = elim (cases_lt p.value q.value) [
-  | inl low ↦
-      let later : value ≡ q.value = omega arith in
-      let is_q : point_of p.ctx value ≡ q = ap (point_of p.ctx) later ∙ ap (λ ctx. point_of ctx q.value) same in
-      subst (λ r. IsFirstOf r ps qs (p ∷ ps) (q ∷ qs)) (sym is_q) (IsFirstOf-right_covers p q ps qs (rw same at has) same (omega arith))
-  | inr low ↦
-      let later : value ≡ p.value = omega arith in
-      subst (λ r. IsFirstOf r ps qs (p ∷ ps) (q ∷ qs)) (ap (point_of p.ctx) (sym later)) (IsFirstOf-left_covers p q ps qs has same low)
-]
-
--- the lists start with one context: its later point, and the rests
-pub HasMerged-both : {reach : List ℕ} {all others points left right : List Point} (ps qs : List Point) (p q : Point) (value : ℕ) → IsPartedAt p ps left → IsPartedAt q qs right → p.ctx ≡ q.ctx → value ≡ max p.value q.value → HasMerged reach all others points left right → HasMerged reach all others (with_above reach (point_of p.ctx value) points) ps qs
-HasMerged-both {reach} {all} {others} {points} ps qs p q value here there same is before =
-    HasMerged-above reach (point_of p.ctx value) points (rw (here.parts, there.parts) at before) (IsFirstOf-later p q value ps qs here.context same is)
-
--- the lists start with two contexts: the point of the lower one, and the lists after it
-pub HasMerged-lower : {reach : List ℕ} {all others points left right : List Point} (ps qs : List Point) (p q : Point) (next : ℕ × ℕ) (more_left more_right : ℕ) → IsPartedAt p ps left → IsPartedAt q qs right → p.ctx ≢ q.ctx → next ≡ (if nat_lt p.ctx q.ctx then (p.ctx, p.value) else (q.ctx, q.value)) → more_left ≡ bool_byte (nat_lt p.ctx q.ctx) → more_right ≡ bool_byte (not (nat_lt p.ctx q.ctx)) → HasMerged reach all others points left right → HasMerged reach all others (with_above reach (point_of next.0 next.1) points) (drop more_left left) (drop more_right right)
-HasMerged-lower {reach} {all} {others} {points} ps qs p q next more_left more_right here there apart is is_left is_right before =
-    let whole = rw (here.parts, there.parts) at before in
-    elim (cases_lt p.ctx q.ctx) [
-      | inl low ↦
-          let after : HasMerged reach all others (with_above reach p points) ps (q ∷ qs) = HasMerged-above reach p points whole (IsFirstOf-left p ps (q ∷ qs) here.context (AllFrom-later p.ctx q qs low)) in
-          rw (here.parts, there.parts, is, is_left, is_right, lt-ltb p.ctx q.ctx low) after
-      | inr high ↦
-          let low : q.ctx < p.ctx = omega arith in
-          let after : HasMerged reach all others (with_above reach q points) (p ∷ ps) qs = HasMerged-above reach q points whole (IsFirstOf-right q (p ∷ ps) qs there.context (AllFrom-later q.ctx p ps low)) in
-          rw (here.parts, there.parts, is, is_left, is_right, le-ltb p.ctx q.ctx high) after
-    ]
-
--- what is lent of two lists from an index on
-pub HasMerged-lent : {reach : List ℕ} {all others points : List Point} (left right : List Point) (i j : ℕ) → HasMerged reach all others points (drop i left) (drop j right) → HasMerged reach all others points (take (length left - i) (drop i left)) (take (length right - j) (drop j right))
-HasMerged-lent left right i j h = rw (all-of_rest left i, all-of_rest right j) h
-
--- one list is left
-pub HasMerged-all_left : {reach : List ℕ} {all others : List Point} (left points : List Point) → HasContexts (as_entries left) → HasMerged reach all others points left [] → HasMerged reach all others (with_all_above reach left points) [] []
-HasMerged-all_left [] points within h = h
-HasMerged-all_left {reach} (p ∷ ps) points within h =
-    HasMerged-all_left ps (with_above reach p points) (All-tail has_context (as_entry p) (as_entries ps) within)
-    (HasMerged-above reach p points h (IsFirstOf-left p ps [] (All-head has_context (as_entry p) (as_entries ps) within) (λ _. AllFrom-nil (p.ctx + 1))))
-
-pub HasMerged-all_right : {reach : List ℕ} {all others : List Point} (right points : List Point) → HasContexts (as_entries right) → HasMerged reach all others points [] right → HasMerged reach all others (with_all_above reach right points) [] []
-HasMerged-all_right [] points within h = h
-HasMerged-all_right {reach} (p ∷ ps) points within h =
-    HasMerged-all_right ps (with_above reach p points) (All-tail has_context (as_entry p) (as_entries ps) within)
-    (HasMerged-above reach p points h (IsFirstOf-right p [] ps (All-head has_context (as_entry p) (as_entries ps) within) (λ _. AllFrom-nil (p.ctx + 1))))
-
--- one list is empty: after the points of the first, only the second is left
-pub HasMerged-first : {reach : List ℕ} {all others points : List Point} (left right : List Point) → (left ≡ []) ⊎ (right ≡ []) → HasContexts (as_entries left) → HasMerged reach all others points left right → HasMerged reach all others (with_all_above reach left points) [] right
-HasMerged-first {reach} {all} {others} {points} left right (inl none) within h = rw none (rw none at h)
-HasMerged-first {reach} {all} {others} {points} left right (inr none) within h = rw none (HasMerged-all_left left points within (rw none at h))
 
 -- both lists are empty
 pub merged-HasMerged : {reach : List ℕ} {all others points : List Point} → HasMerged reach all others points [] [] → points ≡ merged reach all others

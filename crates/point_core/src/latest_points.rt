@@ -64,14 +64,6 @@ impl LatestPoints {
         self.values.get(ctx.index())
     }
 
-    /// The latest point of the context at an index, from 0.
-    fn at(&self, index: usize) -> u64
-        requires within { index < CONTEXTS }
-        ensures value { result ≡ value_at self.now (index + 1) }
-    {
-        self.values.get(index)
-    }
-
     /// The number of contexts up to the last that has a point or a value.
     pub fn used(&self) -> usize
         ensures last { result ≡ used_of self.now }
@@ -110,9 +102,8 @@ impl LatestPoints {
         ensures points { IfOk result (λ ps. ps.items ≡ points_above self.now reach.now) }
         ensures memory { IfErr result (λ e. e ≡ Refusal.Memory) }
     {
-        let number = self.number_above(reach);
-        let mut points = Vec::with_capacity(alloc, number)?;
-        self.list_most(reach, &mut points, number)?;
+        let mut points = Vec::with_capacity(alloc, self.number_above(reach))?;
+        self.list(reach, &mut points)?;
         Ok(points)
     }
 
@@ -121,59 +112,17 @@ impl LatestPoints {
         ensures points { OnOk result (points.new.items ≡ points_above self.now reach.now) }
         ensures memory { IfErr result (λ e. e ≡ Refusal.Memory) }
     {
-        let most = self.most_above(reach, points.capacity());
-        self.list_most(reach, points, most)
-    }
-
-    /// An upper bound on the number of points above the reach, for which a list then makes room. The bound is the number of contexts
-    /// in use if the list has that much room. Else the points are counted, so that the list grows to at most twice its points: with
-    /// room for all contexts in use, each exported file would keep 4 KiB.
-    fn most_above(&self, reach: &Reach, room: usize) -> usize
-        ensures most { length (points_above self.now reach.now) ≤ result }
-    {
-        let used = self.used();
-        if used <= room {
-            return used;
-        }
-        let number = self.number_above(reach);
-        if number <= used / 2 { number } else { used }
-    }
-
-    /// As `list`, for at most `most` points. The points are written to places of a slice. While each was pushed, the list's length and
-    /// address were stored and loaded again for each, and a point took 20 instructions.
-    #[inline(always)]
-    fn list_most(&self, reach: &Reach, points: &mut Vec<Point>, most: usize) -> Result<(), Refusal>
-        requires most { length (points_above self.now reach.now) ≤ most }
-        ensures points { OnOk result (points.new.items ≡ points_above self.now reach.now) }
-        ensures memory { IfErr result (λ e. e ≡ Refusal.Memory) }
-    {
-        let unset = Point {
-            ctx: Context::at(0),
-            value: 0,
-        };
-        points.resize(most, unset)?;
-        let number = self.write_above(reach, points.as_mut_slice());
-        points.truncate(number);
-        Ok(())
-    }
-
-    /// Writes the latest points that are above the reach to the first of the places, and answers how many they are.
-    #[inline(always)]
-    fn write_above(&self, reach: &Reach, places: &mut [Point]) -> usize
-        requires room { length (points_above self.now reach.now) ≤ length places.old }
-        ensures points { take result places.new ≡ points_above self.now reach.now }
-    {
-        let mut number = 0;
+        points.clear();
         for index in 0..self.used() {
-            let value = self.at(index);
-            if value > reach.at(index) {
-                let place = &mut places[number];
-                place.ctx = Context::at(index);
-                place.value = value;
-                number += 1;
+            let ctx = Context::at(index);
+            let value = self.get(ctx);
+            if value > reach.get(ctx) {
+                points
+                    .push(Point { ctx, value })
+                    .map_err(|_| Refusal::Memory)?;
             }
         }
-        number
+        Ok(())
     }
 
     /// The number of contexts whose latest point is above the reach.
@@ -181,8 +130,8 @@ impl LatestPoints {
         ensures { result ≡ length (points_above self.now reach.now) }
     {
         let mut number = 0;
-        for place in 0..self.used() {
-            let ctx = Context::at(place);
+        for index in 0..self.used() {
+            let ctx = Context::at(index);
             if self.get(ctx) > reach.get(ctx) {
                 number += 1;
             }
