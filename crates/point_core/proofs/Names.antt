@@ -1,5 +1,5 @@
 -- A name as it is stored.
-use Rattle.std.proofs.Common.{◌≡◌, ℕ, ◌++◌, ◌-◌, ◌≤◌, false, true≢false, nat_eq, List, [], ◌∷◌, length, take, drop, replicate, slice_set, sym, ap, subst, ◌∙◌, arith}
+use Rattle.std.proofs.Common.{◌≡◌, ℕ, ◌++◌, ◌-◌, ◌≤◌, nat_eq, List, length, take, drop, replicate, slice_set, sym, ap, subst, ◌∙◌, arith}
 use Rattle.std.proofs.lemmas.List.{length-append, length-replicate, get_or-set_same, take-set-le, drop-replicate}
 use Rattle.std.proofs.Math.Seq.{take-append_seam}
 use Rattle.std.specs.Bool.{one_answer}
@@ -36,7 +36,3 @@ pub stored-after_copy : (bytes copied : List ℕ) → copied ≡ bytes → slice
 stored-after_copy bytes copied same =
     ap (λ front. slice_set (front ++ drop (length bytes) (replicate 32 0)) 31 (length bytes)) same
     ∙ ap (λ zeros. slice_set (bytes ++ zeros) 31 (length bytes)) (drop-replicate (length bytes) 32 0)
-
-pub some_bytes : (bytes : List ℕ) → nat_eq (length bytes) 0 ≡ false → 1 ≤ length bytes
-some_bytes [] none = absurd (true≢false none)
-some_bytes (b ∷ bytes) none = omega arith

@@ -41,7 +41,7 @@ impl Name {
         ensures valid { IsSome result ↔ IsName bytes.now }
         ensures value { IfSome result (λ name. name ≡ bytes.now) }
     {
-        if bytes.is_empty() || bytes.len() > NAME_BYTES || !are_allowed(bytes) {
+        if !(1..=NAME_BYTES).contains(&bytes.len()) || !are_allowed(bytes) {
             return None;
         }
         let mut stored = [0; NAME_BYTES + 1];
