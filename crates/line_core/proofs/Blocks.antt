@@ -7,7 +7,7 @@ use Rattle.std.proofs.lemmas.Bool.Decides.{nat_tests}
 use Rattle.std.proofs.lemmas.List.{take_all, take-take, take-append-le, drop-drop, drop-take}
 use Rattle.line_core.specs.declared.cutter.TheConstants.{HELD_BYTES}
 use Rattle.line_core.specs.Cutting.{cut}
-use Rattle.line_core.specs.ScriptLines.{LinesState, line_bytes, skipped_to}
+use Rattle.line_core.specs.ScriptLines.{line_bytes}
 
 -- the smaller of two bounds counts
 pub take-both : (m n : ℕ) (xs : List ℕ) → take m (take n xs) ≡ take (min n m) xs
@@ -79,28 +79,3 @@ some_from n e = grind (arith, nat_tests)
 -- a line that was held stays held
 pub held-some : (held piece : List ℕ) → 0 < length held → 0 < length (cut (held ++ piece))
 held-some held piece some = omega (arith, length-take HELD_BYTES (held ++ piece), length-append held piece)
-
--- ---- lines that were skipped
-
-abbrev state_of : ℕ → ℕ → Bool → List ℕ → ℕ → List ℕ → LinesState
-state_of read num ended line len ready = record { read = read; number = num; ended = ended; line = line; length = len; ready = ready }
-
--- the state after them
-pub state-skipped : (block line held : List ℕ) (next filled start len read num num' left : ℕ) (ended : Bool) → held ≡ [] → ended ≡ true → next ≤ filled → length (take (filled - next) (drop next block)) ≡ filled - next → left ≤ filled - next
-    → state_of read num' ended (line_bytes held block start 0) 0 (take (filled - (filled - left)) (drop (filled - left) block))
-    ≡ skipped_to (state_of read num ended line len (take (filled - next) (drop next block))) num' left
-state-skipped block line held next filled start len read num num' left ended none is inside many within =
-    let ready = take (filled - next) (drop next block) in
-    let nothing : min 0 HELD_BYTES ≡ 0 = omega arith in
-    let at : filled - left ≡ next + (length ready - left) = omega (arith, many, inside, within) in
-    let few : next + (length ready - left) ≤ filled = omega (arith, many, inside, within) in
-    let bytes : line_bytes held block start 0 ≡ [] = ap (λ xs. line_bytes xs block start 0) none ∙ ap (λ n. take n (drop start block)) nothing in
-    let rest : take (filled - (filled - left)) (drop (filled - left) block) ≡ drop (length ready - left) ready = ap (λ n. take (filled - n) (drop n block)) at ∙ ready-behind block next filled (length ready - left) few in
-    λ i. record {
-      read = read;
-      number = num';
-      ended = is i;
-      line = bytes i;
-      length = 0;
-      ready = rest i;
-    }

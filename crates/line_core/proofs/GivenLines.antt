@@ -8,7 +8,7 @@ use Rattle.line_core.specs.declared.script.TheConstants.{SCRIPT_BYTES}
 use Rattle.line_core.specs.Reading.{EndsSo}
 use Rattle.line_core.specs.Cutting.{cut}
 use Rattle.line_core.specs.Script.{is_line_feed, lines_of}
-use Rattle.line_core.specs.ScriptLines.{LinesState, HasGiven, GivesLine, IsDrained, HasEnded, GoesOn, Advances, open_number, open_line, open_length, gone_on, ended_at, all_held, filled_with, turns_to_come}
+use Rattle.line_core.specs.ScriptLines.{LinesState, HasGiven, GivesLine, IsDrained, HasEnded, GoesOn, Advances, open_number, gone_on, ended_at, all_held, filled_with, turns_to_come}
 use Rattle.line_core.proofs.Cutting.{cut-more, cut-none, take-nothing, take-append}
 use Rattle.line_core.proofs.Runs.{slice_split-some, slice_split-none, position-below}
 use Rattle.line_core.proofs.Fronts.{glue, glue-cons, some_lines, lines_of-append}
@@ -125,31 +125,6 @@ Ended-same before now s s' end given e number line len = record {
   number = number ∙ e.number;
   split = e.split;
 }
-
--- only the open line of the state matters
-pub Given-same : (before now : Option (List ℕ)) (s s' : LinesState) (given : List (List ℕ)) → HasGiven before now s given → s'.read ≡ s.read → open_number s' ≡ open_number s → open_line s' ≡ open_line s → open_length s' ≡ open_length s → s'.ready ≡ s.ready → HasGiven before now s' given
-Given-same before now s s' given p read number line len ready = record {
-  bytes = p.bytes;
-  consumed = p.consumed;
-  read = read ∙ p.read;
-  few = omega (arith, read, p.few);
-  number = number ∙ p.number;
-  front = p.front;
-  begun = line ∙ p.begun;
-  long = len ∙ p.long;
-  alone = p.alone;
-  split = λ more. p.split more ∙ ap (λ xs. given ++ lines_of (p.front ++ (xs ++ more))) (sym ready);
-}
-
--- a line that was returned has ended
-pub Given-ended : (before now : Option (List ℕ)) (s : LinesState) (given : List (List ℕ)) → GivesLine before now given s → s.ended ≡ true
-Given-ended before now s given p = ended s.ended refl
-  where
-    ended : (e : Bool) → s.ended ≡ e → e ≡ true
-    ended true is = refl
-    ended false is =
-        let same : s.number ≡ open_number s = sym (ap (λ e. cond e (s.number + 1) s.number) is) in
-        absurd (omega (arith, same, p.number, p.more.number, length-append given (p.line ∷ [])))
 
 -- ---- one more line, or all ready bytes
 

@@ -1,16 +1,11 @@
 -- The lines of a script, one by one.
-use Rattle.std.proofs.Common.{◌≡◌, ℕ, ◌+◌, ◌<◌, ◌≤◌, cond, List, [], ◌∷◌, length, Option, Some, refl, ap, ◌∙◌, arith}
-use Rattle.std.proofs.lemmas.Bool.{le-ltb}
+use Rattle.std.proofs.Common.{◌≡◌, ℕ, ◌+◌, ◌<◌, List, [], ◌∷◌, length, Option, Some, refl, ap, ◌∙◌, arith}
 use Rattle.std.proofs.lemmas.List.Splits.{length-slice_split}
-use Rattle.point_core.specs.declared.refusal.Refusal.TheVariants.{LongLine}
-use Rattle.line_core.specs.declared.line.TheConstants.{LINE_BYTES}
 use Rattle.line_core.specs.declared.line.Body.{Body}
-use Rattle.line_core.specs.declared.line.Body.TheVariants.{Bad}
 use Rattle.line_core.specs.declared.script.Ending.{Ending}
-use Rattle.line_core.specs.Line.{body_of, body_from}
+use Rattle.line_core.specs.Line.{body_of}
 use Rattle.line_core.specs.Lines.{lines_before}
 use Rattle.line_core.specs.Script.{is_line_feed, lines_of, answered, numbered}
-use Rattle.line_core.specs.Words.{words_of}
 
 pub numbered-cons : (end : Ending) (number : ℕ) (line : List ℕ) (more : List (List ℕ)) → 0 < length more → numbered end number (line ∷ more) ≡ answered number (body_of line) (numbered end (number + 1) more)
 numbered-cons end number line [] h = absurd (omega arith)
@@ -23,7 +18,3 @@ numbered-line end number bytes line rest e = ap (numbered end number) e ∙ numb
 -- a line that ends at a line feed, of the lines to come
 pub lines_before-line : (o : Option Ending) (end : Ending) (number : ℕ) (bytes line rest : List ℕ) (body : Option Body) → o ≡ Some end → lines_of bytes ≡ line ∷ lines_of rest → body ≡ body_of line → lines_before o number bytes ≡ answered number body (lines_before o (number + 1) rest)
 lines_before-line o end number bytes line rest body s e f = rw (s, f) (numbered-line end number bytes line rest e)
-
--- a line that is not too long is read by its words
-pub body_of-short : (line : List ℕ) → length line ≤ LINE_BYTES → body_of line ≡ body_from (words_of line)
-body_of-short line few = ap (λ b. cond b (Some (Bad LongLine)) (body_from (words_of line))) (le-ltb LINE_BYTES (length line) few)

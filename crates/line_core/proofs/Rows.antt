@@ -1,10 +1,8 @@
 -- Rows of the table: a property of each row holds for the row that a line's word finds.
-use Rattle.std.proofs.Common.{◌≡◌, ℕ, ◌<◌, nat_le, Bool, true, false, cond, is_some, List, [], ◌∷◌, length, map, Option, None, Some, option_map, refl, sym, ap, ◌∙◌, codes, arith}
-use Rattle.std.specs.List.{AllByRecursion, list_all}
+use Rattle.std.proofs.Common.{◌≡◌, ℕ, Bool, true, false, cond, is_some, List, [], ◌∷◌, map, Option, None, Some, option_map, refl, sym, ap, ◌∙◌, codes}
+use Rattle.std.specs.List.{AllByRecursion}
 use Rattle.std.specs.Option.{option_and_then}
-use Rattle.std.proofs.lemmas.Bool.Decides.{nat_tests}
 use Rattle.std.proofs.lemmas.List.Elements.{All-from_recursion}
-use Rattle.std.proofs.lemmas.List.Sums.{AllPass-from_list_all}
 use Rattle.std.proofs.lemmas.Slice.Eq.{bytes_eq-Decides}
 use Rattle.std.specs.Str.{bytes_eq}
 use Rattle.point_core.proofs.Named.{find-All, find-passes}
@@ -78,17 +76,6 @@ found-IsRow word row found = find-All IsRow (λ (r : Row). bytes_eq word r.form.
 found-word : (word : List ℕ) (row : Row) → row_at table word ≡ Some row → word ≡ row.form.word
 found-word word row found = (bytes_eq-Decides word row.form.word).0 (find-passes (λ (r : Row). bytes_eq word r.form.word) table row found)
 
--- a word that fails a test which each command's word passes is no command's
-no-passing : (test : List ℕ → Bool) (word : List ℕ) (words : List (List ℕ)) → list_all (λ (r : Row). test r.form.word) table ≡ true → test word ≡ false → command_from word words ≡ None
-no-passing test word words all fails = by (row_at table word) refl
-  where
-    by : (found : Option Row) → row_at table word ≡ found → option_and_then (λ (r : Row). r.made words) found ≡ None
-    by None at = refl
-    by (Some r) at =
-        let passes : test r.form.word ≡ true = find-All (λ (r : Row). test r.form.word ≡ true) (λ (r : Row). bytes_eq word r.form.word) table r (AllPass-from_list_all (λ (r : Row). test r.form.word) table all) at in
-        let own : test word ≡ true = ap test (found-word word r at) ∙ passes in
-        absurd (cc)
-
 -- the form of a word is its row's
 form_at-row_at : (rows : List Row) (word : List ℕ) → form_at (map (λ (r : Row). r.form) rows) word ≡ option_map (λ (r : Row). r.form) (row_at rows word)
 form_at-row_at [] word = refl
@@ -123,7 +110,3 @@ has_word word words c e = by (row_at table word) refl e
     by : (found : Option Row) → row_at table word ≡ found → option_and_then (λ (r : Row). r.made words) found ≡ Some c → word_of c ≡ word
     by None at e = absurd (cc)
     by (Some r) at e = (found-IsRow word r at).own words c e ∙ sym (found-word word r at)
-
--- no command's word has more than eight bytes
-pub no-long : (word : List ℕ) (words : List (List ℕ)) → 8 < length word → command_from word words ≡ None
-no-long word words long = no-passing (λ w. nat_le (length w) 8) word words refl (grind (arith, nat_tests))

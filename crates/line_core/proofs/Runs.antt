@@ -1,5 +1,5 @@
 -- The runs of elements between the elements that pass a test, from the front of a list.
-use Rattle.std.proofs.Common.{◌≡◌, ℕ, ◌+◌, ◌<◌, ◌≤◌, zero, suc, Bool, true, false, not, cond, nat_lt, List, [], ◌∷◌, length, get_or, take, drop, filter, None, Some, unwrap_or, refl, sym, ap, subst, ◌∙◌, arith, rules, drop-cons, add-one, one-add, add-zero, get_or-drop, length-take, length-drop}
+use Rattle.std.proofs.Common.{◌≡◌, ℕ, ◌+◌, ◌<◌, ◌≤◌, suc, Bool, true, false, not, cond, nat_lt, List, [], ◌∷◌, length, get_or, take, drop, filter, None, Some, unwrap_or, refl, sym, ap, ◌∙◌, arith, rules, drop-cons, add-one, one-add, add-zero, get_or-drop, length-take, length-drop}
 use Rattle.std.proofs.Math.Seq.{drop-length, take-length}
 use Rattle.std.specs.List.{slice_split, position_or_len, position, after_first}
 use Rattle.std.proofs.lemmas.List.Splits.{slice_split_first, slice_split_none}
@@ -81,23 +81,6 @@ module _ (p : ℕ → Bool) where
       let at = chosen (start xs) (length xs) i s in
       let other : p (get_or xs (start xs) 0) ≡ false = fails (get_or xs (start xs) 0) (passes_at_first (λ x. not (p x)) xs 0 at.0) in
       (omega (arith, length-drop i xs), ap p (get_or-drop i xs 0 0 ∙ ap (λ k. get_or xs k 0) (add-zero i ∙ sym at.1)) ∙ other)
-
-  front_case : (xs : List ℕ) (n : ℕ) (b : Bool) → 0 < position_or_len p xs → 0 < length xs → unwrap_or (cond b (Some (position_or_len p xs)) None) (length xs) ≡ n → 0 < n
-  front_case xs n true h l e = subst (λ k. 0 < k) e h
-  front_case xs n false h l e = subst (λ k. 0 < k) e l
-
-  -- the first run has an element
-  pub runs-front_some : (xs : List ℕ) (n : ℕ) → 0 < length xs → p (get_or xs 0 0) ≡ false → unwrap_or (position p xs) (length xs) ≡ n → 0 < n
-  runs-front_some xs n l f e = front_case xs n (nat_lt (position_or_len p xs) (length xs)) (begins xs l f) l e
-
-  first_of_front : (xs : List ℕ) (n : ℕ) → 0 < length xs → 0 < n → take 1 (take n xs) ≡ take 1 xs
-  first_of_front [] n l h = absurd (omega arith)
-  first_of_front (x ∷ xs) zero l h = absurd (omega arith)
-  first_of_front (x ∷ xs) (suc n) l h = refl
-
-  -- the first run begins as the elements do
-  pub runs-front_first : (xs : List ℕ) (n : ℕ) → 0 < length xs → p (get_or xs 0 0) ≡ false → unwrap_or (position p xs) (length xs) ≡ n → take 1 (take n xs) ≡ take 1 xs
-  runs-front_first xs n l f e = first_of_front xs n l (front_case xs n (nat_lt (position_or_len p xs) (length xs)) (begins xs l f) l e)
 
   -- the elements before the first that passes, and those after it
   pub slice_split-some : (xs : List ℕ) (i : ℕ) → position p xs ≡ Some i → slice_split p xs ≡ take i xs ∷ slice_split p (drop (i + 1) xs)

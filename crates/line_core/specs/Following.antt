@@ -5,6 +5,7 @@ use Rattle.std.specs.List.{list_all}
 use Rattle.point_core.specs.declared.name.TheConstants.{NAME_BYTES}
 use Rattle.point_core.specs.Name.{is_name_byte}
 use Rattle.point_core.specs.declared.entry.Usage.{Usage}
+use Rattle.command_core.specs.declared.command.Command.{Command}
 use Rattle.line_core.specs.Number.{number_of}
 use Rattle.line_core.specs.Usages.{usage_of, flags_of}
 use Rattle.line_core.specs.Words.{one_of, two_of, three_of, four_of}
@@ -61,3 +62,10 @@ two_names_and_flags words =
 
 abbrev pub name_and_usage : List (List ℕ) → Option (List ℕ × Usage)
 name_and_usage words = option_and_then (λ w. both (name_of w.0) (usage_of w.1)) (two_of words)
+
+-- the command is made of the operands, and there is none without them
+abbrev pub IsMadeOf : {A : Type 0} → (A → Command → Type 0) → Option A → Option Command → Type 0
+IsMadeOf makes None None = Unit {0}
+IsMadeOf makes None (Some command) = ⊥
+IsMadeOf makes (Some operands) None = ⊥
+IsMadeOf makes (Some operands) (Some command) = makes operands command

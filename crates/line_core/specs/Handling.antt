@@ -8,7 +8,7 @@ use Rattle.line_core.specs.declared.script.TheConstants.{SCRIPT_BYTES}
 use Rattle.line_core.specs.Cutting.{cut}
 use Rattle.line_core.specs.Reading.{IsInput, WasRead}
 use Rattle.line_core.specs.Script.{answered, ended_lines, last_body, lines_of, lines_until, script_of}
-use Rattle.line_core.specs.ScriptLines.{GivesLine, HasGiven, LinesState}
+use Rattle.line_core.specs.ScriptLines.{HasGiven, LinesState}
 
 -- How lines were handled: relates the state before the first line, the lines, the ones of them that have an answer, and
 -- the state after the last.
@@ -71,29 +71,6 @@ pub record HandlesGiven {S : Type 0} (handled : Handled S) (before now : Option 
   pub given : List (List ℕ)
   pub has : HasGiven before now s given
   pub so_far : handled start given (ended_lines 1 given) at
-
--- all returned lines but the last were handled
-pub record HandlesBefore {S : Type 0} (handled : Handled S) (before now : Option (List ℕ)) (s : LinesState) (start at : S) : Type 0 where
-  pub given : List (List ℕ)
-  pub gives : GivesLine before now given s
-  pub so_far : handled start given (ended_lines 1 given) at
-
--- the last returned line is still to be handled
-pub record IsDue {S : Type 0} (handled : Handled S) (s : LinesState) (at : S) : Type 0 where
-  pub before : Option (List ℕ)
-  pub now : Option (List ℕ)
-  pub start : S
-  pub is : HandlesBefore handled before now s start at
-
--- the line that was due was handled, and the lines that were returned after it
-abbrev pub HandlesOn : {S : Type 0} → Handled S → LinesState → LinesState → S → S → Type 0
-HandlesOn {S} handled s t old new = (before now : Option (List ℕ)) (start : S)
-    → HandlesBefore handled before now s start old → HandlesGiven handled before now t start new
-
--- a call failed in the line that was due, or in a line after it
-abbrev pub StopsOn : {S : Type 0} → Handled S → Handled S → LinesState → S → S → Type 0
-StopsOn {S} handled failed s old new = (before now : Option (List ℕ)) (start : S)
-    → HandlesBefore handled before now s start old → StopsAmong failed before start new
 
 -- ---- the whole script
 

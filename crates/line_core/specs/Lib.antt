@@ -4,14 +4,10 @@ pub mod Fronts
 pub mod Handling
 pub mod Line
 pub mod Lines
-pub mod Marks
 pub mod Number
 pub mod Reading
-pub mod Scan
 pub mod Script
 pub mod ScriptLines
-pub mod Spelling
 pub mod Table
-pub mod Takes
 pub mod Usages
 pub mod Words

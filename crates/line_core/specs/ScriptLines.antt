@@ -124,17 +124,6 @@ filled_with s bytes = record {
   ready = take (SCRIPT_BYTES - s.read) bytes;
 }
 
--- the lines up to that number were returned, and `left` of the ready bytes are left
-abbrev pub skipped_to : LinesState → ℕ → ℕ → LinesState
-skipped_to s num left = record {
-  read = s.read;
-  number = num;
-  ended = true;
-  line = [];
-  length = 0;
-  ready = drop (length s.ready - left) s.ready;
-}
-
 -- the next line ends at its line feed, the first among the ready bytes
 pub record EndsLine (old new : LinesState) : Type 0 where
   pub place : ℕ
@@ -145,20 +134,6 @@ pub record EndsLine (old new : LinesState) : Type 0 where
 abbrev pub Advances : LinesState → Bool → LinesState → Type 0
 Advances old true new = EndsLine old new
 Advances old false new = (position is_line_feed old.ready ≡ None) × (new ≡ all_held (gone_on old))
-
--- ---- lines that scans find
-
--- the number of the line that was returned last, and the bytes after it
-pub record Place : Type 0 where
-  pub number : ℕ
-  pub ready : List ℕ
-
--- the next line, by its number, length and bytes, ends at the first line feed
-pub record IsNextLine (old new : Place) (num len : ℕ) (bytes : List ℕ) : Type 0 where
-  pub found : position is_line_feed old.ready ≡ Some len
-  pub number : num ≡ old.number + 1
-  pub held : bytes ≡ cut (take len old.ready)
-  pub is : new ≡ record { number = old.number + 1; ready = drop (len + 1) old.ready }
 
 -- ---- how they are stored
 

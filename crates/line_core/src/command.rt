@@ -1,196 +1,126 @@
-//! Parses a command line. A `take_*` function reads the operands of a command and gives the command to the visitor; commands with
-//! equal operands share one. If the words don't fit the command's row, it answers none and does nothing.
-//!
-//! None of them is inlined: each contains the visitor's use of its command (`NOTES.md`), and the loop over lines would contain all.
-//! They take the bytes after the first word and the marks of these, which go in registers.
+//! The command of a line. The command's word chooses a function, which reads the words after it as operands, and returns none
+//! if a word is missing, too many or malformed. The table of commands has the same rows.
 ghost use Rattle.std.specs.Prelude.{◌≡◌, None, Some, if◌then◌else◌, option_map};
-ghost use Rattle.line_core.specs.Following.{one_name, one_number, name_and_number, two_names_and_number};
-ghost use Rattle.line_core.specs.Following.{three_names, two_names_number_and_usage, two_names_and_flags, name_and_usage};
-ghost use Rattle.line_core.specs.Marks.{HasMarksIfKnown};
-ghost use Rattle.line_core.specs.Table.{command_from};
-ghost use Rattle.line_core.specs.Takes.{TakesCommand, TakesMade};
-ghost use Rattle.line_core.specs.Words.{are_none, words_of};
 ghost use Rattle.command_core.specs.declared.command.Command.{Command};
+ghost use Rattle.line_core.specs.Following.{IsMadeOf, one_name, one_number, name_and_number, two_names_and_number};
+ghost use Rattle.line_core.specs.Following.{three_names, two_names_number_and_usage, two_names_and_flags, name_and_usage};
+ghost use Rattle.line_core.specs.Table.{command_from};
+ghost use Rattle.line_core.specs.Words.{are_none, words_of};
 
-use crate::line::Body;
 use crate::number::number;
-use crate::spelling::Spelling;
-use crate::takes::Takes;
 use crate::usages::{flags, usage};
-use crate::words::{first_word, four, one, three, two};
+use crate::words::{first_word, four, is, one, three, two};
 use command_core::Command;
 use point_core::Name;
 
-/// Passes on the command of a line, given its first word and the bytes after it, if they fit a row of the table. The
-/// commands that are most frequent in scripts are compared first.
-#[inline(always)]
-pub(crate) fn take_command<V: Takes>(
-    word: &[u8],
-    rest: &[u8],
-    marks: u64,
-    to: &mut V,
-) -> Option<V::Given>
-    requires ready { V.can_take to.old }
-    requires marks { HasMarksIfKnown rest.now marks }
-    ensures taken { TakesCommand V.takes to.old (command_from word.now (words_of rest.now)) result to.new }
+/// The command of a line, given its first word and the bytes after it, if they fit a row of the table. The commands
+/// that are most frequent in scripts are compared first.
+pub(crate) fn command(word: &[u8], rest: &[u8]) -> Option<Command>
+    ensures command { result ≡ command_from word.now (words_of rest.now) }
 {
-    let spelling = Spelling::of(word)?;
     match word {
-        _ if spelling.is("close") => take_name(rest, marks, to, Command::Close),
-        _ if spelling.is("merge") => take_merge(rest, marks, to),
-        _ if spelling.is("fence") => take_fence(rest, marks, to),
-        _ if spelling.is("wait") => take_name(rest, marks, to, Command::Wait),
-        _ if spelling.is("inc") => take_name_and_number(rest, marks, to, Command::Inc),
-        _ if spelling.is("watch") => take_name_and_number(rest, marks, to, Command::Watch),
-        _ if spelling.is("add") => take_add(rest, marks, to),
-        _ if spelling.is("import") => take_names_and_flags(rest, marks, to, Command::Import),
-        _ if spelling.is("export") => take_names_and_flags(rest, marks, to, Command::Export),
-        _ if spelling.is("test") => take_test(rest, marks, to),
-        _ if spelling.is("value") => take_name(rest, marks, to, Command::Value),
-        _ if spelling.is("timeline") => take_name(rest, marks, to, Command::Timeline),
-        _ if spelling.is("buffer") => take_name(rest, marks, to, Command::Buffer),
-        _ if spelling.is("info") => take_name(rest, marks, to, Command::Info),
-        _ if spelling.is("show") => take_name(rest, marks, to, Command::Show),
-        _ if spelling.is("trim") => take_name(rest, marks, to, Command::Trim),
-        _ if spelling.is("unwatch") => take_unwatch(rest, marks, to),
-        _ if spelling.is("shut") => take_name(rest, marks, to, Command::Shut),
-        _ if spelling.is("report") => take_report(rest, marks, to),
+        _ if is(word, "close") => named(rest, Command::Close),
+        _ if is(word, "merge") => merge(rest),
+        _ if is(word, "fence") => fence(rest),
+        _ if is(word, "wait") => named(rest, Command::Wait),
+        _ if is(word, "inc") => inc(rest),
+        _ if is(word, "watch") => watch(rest),
+        _ if is(word, "add") => add(rest),
+        _ if is(word, "import") => import(rest),
+        _ if is(word, "export") => export(rest),
+        _ if is(word, "test") => test(rest),
+        _ if is(word, "value") => named(rest, Command::Value),
+        _ if is(word, "timeline") => named(rest, Command::Timeline),
+        _ if is(word, "buffer") => named(rest, Command::Buffer),
+        _ if is(word, "info") => named(rest, Command::Info),
+        _ if is(word, "show") => named(rest, Command::Show),
+        _ if is(word, "trim") => named(rest, Command::Trim),
+        _ if is(word, "unwatch") => unwatch(rest),
+        _ if is(word, "shut") => named(rest, Command::Shut),
+        _ if is(word, "report") => report(rest),
         _ => None,
     }
 }
 
-/// Takes the command that one name makes.
-#[inline(never)]
-fn take_name<V: Takes, F: FnOnce(Name) -> Command>(
-    rest: &[u8],
-    marks: u64,
-    to: &mut V,
-    make: F,
-) -> Option<V::Given>
-    requires ready { V.can_take to.old }
-    requires marks { HasMarksIfKnown rest.now marks }
+/// The command that `make` makes of a name, if that is the only operand.
+fn named<F: FnOnce(Name) -> Command>(rest: &[u8], make: F) -> Option<Command>
     requires callable { F.IsAlwaysCallable make }
-    ensures taken { TakesMade V.takes to.old (F.post make) (one_name (words_of rest.now)) result to.new }
+    ensures made { IsMadeOf (F.post make) (one_name (words_of rest.now)) result }
 {
-    let name = Name::read(one(rest, marks)?)?;
-    Some(to.take(Body::Cmd(make(name))))
+    let name = Name::read(one(rest)?)?;
+    Some(make(name))
 }
 
-/// Takes the command that a name and a number make.
-#[inline(never)]
-fn take_name_and_number<V: Takes, F: FnOnce(Name, u64) -> Command>(
-    rest: &[u8],
-    marks: u64,
-    to: &mut V,
-    make: F,
-) -> Option<V::Given>
-    requires ready { V.can_take to.old }
-    requires marks { HasMarksIfKnown rest.now marks }
-    requires callable { F.IsAlwaysCallable make }
-    ensures taken { TakesMade V.takes to.old (λ w. F.post make w.0 w.1) (name_and_number (words_of rest.now)) result to.new }
+fn inc(rest: &[u8]) -> Option<Command>
+    ensures command { result ≡ option_map (λ w. Command.Inc w.0 w.1) (name_and_number (words_of rest.now)) }
 {
-    let (name_word, number_word) = two(rest, marks)?;
-    let name = Name::read(name_word)?;
-    let number = number(number_word)?;
-    Some(to.take(Body::Cmd(make(name, number))))
+    let (timeline, n) = two(rest)?;
+    Some(Command::Inc(Name::read(timeline)?, number(n)?))
 }
 
-/// Takes the command that two names and sync flags make.
-#[inline(never)]
-fn take_names_and_flags<V: Takes, F: FnOnce(Name, Name, u32) -> Command>(
-    rest: &[u8],
-    marks: u64,
-    to: &mut V,
-    make: F,
-) -> Option<V::Given>
-    requires ready { V.can_take to.old }
-    requires marks { HasMarksIfKnown rest.now marks }
-    requires callable { F.IsAlwaysCallable make }
-    ensures taken { TakesMade V.takes to.old (λ w. F.post make w.0 w.1 w.2) (two_names_and_flags (words_of rest.now)) result to.new }
+fn watch(rest: &[u8]) -> Option<Command>
+    ensures command { result ≡ option_map (λ w. Command.Watch w.0 w.1) (name_and_number (words_of rest.now)) }
 {
-    let (first_word, second_word, flags_word) = three(rest, marks)?;
-    let first = Name::read(first_word)?;
-    let second = Name::read(second_word)?;
-    let flags = flags(flags_word)?;
-    Some(to.take(Body::Cmd(make(first, second, flags))))
+    let (file, cookie) = two(rest)?;
+    Some(Command::Watch(Name::read(file)?, number(cookie)?))
 }
 
-#[inline(never)]
-fn take_fence<V: Takes>(rest: &[u8], marks: u64, to: &mut V) -> Option<V::Given>
-    requires ready { V.can_take to.old }
-    requires marks { HasMarksIfKnown rest.now marks }
-    ensures taken { TakesCommand V.takes to.old
-        (option_map (λ w. Command.Fence w.0 w.1 w.2) (two_names_and_number (words_of rest.now))) result to.new }
+fn unwatch(rest: &[u8]) -> Option<Command>
+    ensures command { result ≡ option_map Command.Unwatch (one_number (words_of rest.now)) }
 {
-    let (file_word, timeline_word, point_word) = three(rest, marks)?;
-    let file = Name::read(file_word)?;
-    let timeline = Name::read(timeline_word)?;
-    let point = number(point_word)?;
-    Some(to.take(Body::Cmd(Command::Fence(file, timeline, point))))
+    let cookie = one(rest)?;
+    Some(Command::Unwatch(number(cookie)?))
 }
 
-#[inline(never)]
-fn take_merge<V: Takes>(rest: &[u8], marks: u64, to: &mut V) -> Option<V::Given>
-    requires ready { V.can_take to.old }
-    requires marks { HasMarksIfKnown rest.now marks }
-    ensures taken { TakesCommand V.takes to.old
-        (option_map (λ w. Command.Merge w.0 w.1 w.2) (three_names (words_of rest.now))) result to.new }
+fn fence(rest: &[u8]) -> Option<Command>
+    ensures command { result ≡ option_map (λ w. Command.Fence w.0 w.1 w.2) (two_names_and_number (words_of rest.now)) }
 {
-    let (file_word, first_word, second_word) = three(rest, marks)?;
-    let file = Name::read(file_word)?;
-    let first = Name::read(first_word)?;
-    let second = Name::read(second_word)?;
-    Some(to.take(Body::Cmd(Command::Merge(file, first, second))))
+    let (file, timeline, point) = three(rest)?;
+    Some(Command::Fence(Name::read(file)?, Name::read(timeline)?, number(point)?))
 }
 
-#[inline(never)]
-fn take_add<V: Takes>(rest: &[u8], marks: u64, to: &mut V) -> Option<V::Given>
-    requires ready { V.can_take to.old }
-    requires marks { HasMarksIfKnown rest.now marks }
-    ensures taken { TakesCommand V.takes to.old
-        (option_map (λ w. Command.Add w.0 w.1 w.2 w.3) (two_names_number_and_usage (words_of rest.now))) result to.new }
+fn merge(rest: &[u8]) -> Option<Command>
+    ensures command { result ≡ option_map (λ w. Command.Merge w.0 w.1 w.2) (three_names (words_of rest.now)) }
 {
-    let (buffer_word, timeline_word, point_word, usage_word) = four(rest, marks)?;
-    let buffer = Name::read(buffer_word)?;
-    let timeline = Name::read(timeline_word)?;
-    let point = number(point_word)?;
-    let usage = usage(usage_word)?;
-    Some(to.take(Body::Cmd(Command::Add(buffer, timeline, point, usage))))
+    let (file, first, second) = three(rest)?;
+    Some(Command::Merge(Name::read(file)?, Name::read(first)?, Name::read(second)?))
 }
 
-#[inline(never)]
-fn take_test<V: Takes>(rest: &[u8], marks: u64, to: &mut V) -> Option<V::Given>
-    requires ready { V.can_take to.old }
-    requires marks { HasMarksIfKnown rest.now marks }
-    ensures taken { TakesCommand V.takes to.old
-        (option_map (λ w. Command.Test w.0 w.1) (name_and_usage (words_of rest.now))) result to.new }
+fn add(rest: &[u8]) -> Option<Command>
+    ensures command { result ≡ option_map (λ w. Command.Add w.0 w.1 w.2 w.3) (two_names_number_and_usage (words_of rest.now)) }
 {
-    let (buffer_word, usage_word) = two(rest, marks)?;
-    let buffer = Name::read(buffer_word)?;
-    let usage = usage(usage_word)?;
-    Some(to.take(Body::Cmd(Command::Test(buffer, usage))))
+    let (buffer, timeline, point, usage_word) = four(rest)?;
+    Some(Command::Add(
+        Name::read(buffer)?,
+        Name::read(timeline)?,
+        number(point)?,
+        usage(usage_word)?,
+    ))
 }
 
-#[inline(never)]
-fn take_unwatch<V: Takes>(rest: &[u8], marks: u64, to: &mut V) -> Option<V::Given>
-    requires ready { V.can_take to.old }
-    requires marks { HasMarksIfKnown rest.now marks }
-    ensures taken { TakesCommand V.takes to.old
-        (option_map Command.Unwatch (one_number (words_of rest.now))) result to.new }
+fn import(rest: &[u8]) -> Option<Command>
+    ensures command { result ≡ option_map (λ w. Command.Import w.0 w.1 w.2) (two_names_and_flags (words_of rest.now)) }
 {
-    let cookie = number(one(rest, marks)?)?;
-    Some(to.take(Body::Cmd(Command::Unwatch(cookie))))
+    let (buffer, file, access) = three(rest)?;
+    Some(Command::Import(Name::read(buffer)?, Name::read(file)?, flags(access)?))
 }
 
-#[inline(never)]
-fn take_report<V: Takes>(rest: &[u8], marks: u64, to: &mut V) -> Option<V::Given>
-    requires ready { V.can_take to.old }
-    requires marks { HasMarksIfKnown rest.now marks }
-    ensures taken { TakesCommand V.takes to.old
-        (if are_none (words_of rest.now) then Some Command.Report else None) result to.new }
+fn export(rest: &[u8]) -> Option<Command>
+    ensures command { result ≡ option_map (λ w. Command.Export w.0 w.1 w.2) (two_names_and_flags (words_of rest.now)) }
 {
-    match first_word(rest, marks) {
-        None => Some(to.take(Body::Cmd(Command::Report))),
-        Some(_) => None,
-    }
+    let (file, buffer, access) = three(rest)?;
+    Some(Command::Export(Name::read(file)?, Name::read(buffer)?, flags(access)?))
+}
+
+fn test(rest: &[u8]) -> Option<Command>
+    ensures command { result ≡ option_map (λ w. Command.Test w.0 w.1) (name_and_usage (words_of rest.now)) }
+{
+    let (buffer, usage_word) = two(rest)?;
+    Some(Command::Test(Name::read(buffer)?, usage(usage_word)?))
+}
+
+fn report(rest: &[u8]) -> Option<Command>
+    ensures command { result ≡ if are_none (words_of rest.now) then Some Command.Report else None }
+{
+    first_word(rest).is_none().then_some(Command::Report)
 }

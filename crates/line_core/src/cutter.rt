@@ -2,8 +2,7 @@
 //! that spans two blocks, which it adds in parts. Users of the library feed it byte by byte; no program here does.
 ghost use Rattle.std.specs.Prelude.{◌≡◌, ◌≤◌, ◌==◌, [], length};
 
-use crate::line::{LINE_BYTES, Line};
-use crate::takes::body_of;
+use crate::line::{LINE_BYTES, Line, body_of};
 use std::marker::Model;
 
 /// The number of bytes of a line that are kept: one more than a line may have, so that an over-long line shows.

@@ -2,12 +2,10 @@
 //! a handler that writes its output then shows each answer before the next read.
 ghost use Rattle.std.specs.Prelude.{◌≡◌, ◌+◌, ◌≤◌, [], IfErr, IfOk, OnOk};
 ghost use Rattle.line_core.specs.declared.script.TheConstants.{SCRIPT_BYTES};
-ghost use Rattle.line_core.specs.Handling.{FailsLast, HandlesLast, HandlesOn, HandlesScript, IsDue, IsNext, StopsAmong, StopsOn};
-ghost use Rattle.line_core.specs.ScriptLines.{turns_to_come};
+ghost use Rattle.line_core.specs.Handling.{FailsLast, HandlesLast, HandlesScript, IsNext, StopsAmong};
 ghost use Rattle.line_core.specs.Reading.{ConsumesAtMost};
 
 use crate::raw_line::RawLine;
-use crate::scanned_lines::ScannedLines;
 use crate::script::{Ending, SCRIPT_BYTES};
 use crate::script_lines::ScriptLines;
 use point_core::Refusal;
@@ -88,7 +86,8 @@ pub fn for_each_line<R: Read, O, N, H: LineHandler<O, N>>(
     let mut lines = ScriptLines::new();
     loop {
         if lines.advance() {
-            handle_lines(&mut lines, handler, output, notes)?;
+            let line = lines.line();
+            handler.handle(&line, output, notes)?;
         } else {
             handler.pause(output, notes)?;
             if let Some(ending) = lines.read(reader) {
@@ -97,34 +96,6 @@ pub fn for_each_line<R: Read, O, N, H: LineHandler<O, N>>(
                 return Ok(ending);
             }
         }
-    }
-}
-
-/// Handles the present line, and the lines after it that scans find.
-fn handle_lines<O, N, H: LineHandler<O, N>>(
-    lines: &mut ScriptLines,
-    handler: &mut H,
-    output: &mut O,
-    notes: &mut N,
-) -> Result<(), Refusal>
-    requires due { IsDue H.handled lines.old (handler.old, output.old, notes.old) }
-    ensures ok { OnOk result (HandlesOn H.handled lines.old lines.new
-        (handler.old, output.old, notes.old) (handler.new, output.new, notes.new)) }
-    ensures err { IfErr result (λ refusal. StopsOn H.handled (H.failed refusal) lines.old
-        (handler.old, output.old, notes.old) (handler.new, output.new, notes.new)) }
-    ensures turns { turns_to_come lines.new ≤ turns_to_come lines.old }
-{
-    let mut line = lines.line();
-    let mut scanned = ScannedLines::after(line.number, lines.ready());
-    loop {
-        handler.handle(&line, output, notes)?;
-        let Some(next) = scanned.next() else {
-            let number = line.number;
-            let left = scanned.left();
-            lines.skip_to(number, left);
-            return Ok(());
-        };
-        line = next;
     }
 }
 

@@ -1,9 +1,7 @@
 //! `RawLine`: a line of a script before it is parsed.
 ghost use Rattle.std.specs.Prelude.{◌≡◌};
-ghost use Rattle.std.proofs.Props.{props};
-ghost use Rattle.line_core.specs.Marks.{MayHaveMarks, HasMarks-prop};
 
-/// A line of a script as bytes, with the marks of its words if a scan has found them.
+/// A line of a script as bytes.
 #[derive(Clone, Copy, Debug)]
 pub struct RawLine<'a> {
     /// Lines are numbered from 1.
@@ -12,9 +10,6 @@ pub struct RawLine<'a> {
     pub bytes: &'a [u8],
     /// The number of bytes of the line, without its line feed.
     pub length: usize,
-    // the marks of `bytes`, if they are known
-    pub(crate) marks: Option<u64>,
-    ghost marked: { MayHaveMarks bytes.now marks } by { Prim.hlevel (props, HasMarks-prop) },
 }
 
 impl<'a> RawLine<'a> {
@@ -28,7 +23,6 @@ impl<'a> RawLine<'a> {
             number,
             bytes,
             length,
-            marks: None,
         }
     }
 }

@@ -3,10 +3,7 @@ ghost use Rattle.std.specs.Prelude.{◌≡◌, ◌+◌, ◌^◌, ◌<◌, ◌∷
 ghost use Rattle.point_core.specs.declared.refusal.Refusal.TheVariants.{Memory};
 ghost use Rattle.line_core.specs.Script.{is_line_feed, lines_of, script_of, ending_of, last_body, answered};
 
-use crate::line::{Body, Line};
-use crate::marks::WIDE_LANES;
-use crate::scan::wide_lane_feeds;
-use crate::takes::body_of;
+use crate::line::{Body, Line, body_of};
 use memchr::memchr;
 use point_core::{LimitKind, Refusal};
 use std::alloc::Global;
@@ -127,20 +124,11 @@ pub fn first_line(bytes: &[u8]) -> Option<(&[u8], &[u8])>
     Some((&bytes[..end], &bytes[end + 1..]))
 }
 
-/// The place of the first line feed. For most lines, this takes fewer instructions than `memchr`.
+/// The place of the first line feed.
 pub(crate) fn first_line_feed(bytes: &[u8]) -> Option<usize>
     ensures place { result ≡ position is_line_feed bytes.now }
 {
-    let mut start = 0;
-    while bytes.len() - start >= WIDE_LANES {
-        let feeds = wide_lane_feeds(bytes, start);
-        if feeds != 0 {
-            return Some(start + feeds.trailing_zeros() as usize);
-        }
-        start += WIDE_LANES;
-    }
-    let place = memchr(b'\n', &bytes[start..])?;
-    Some(start + place)
+    memchr(b'\n', bytes)
 }
 
 impl<'a> Iterator for Lines<'a> {

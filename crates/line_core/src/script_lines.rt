@@ -52,7 +52,7 @@ impl Model for ScriptLines {
 
 impl ScriptLines {
     ghost use Rattle.line_core.specs.ScriptLines.{HasGiven, GoesOn, HasEnded, IsDrained, turns_to_come};
-    ghost use Rattle.line_core.specs.ScriptLines.{gone_on, ended_at, all_held, filled_with, skipped_to};
+    ghost use Rattle.line_core.specs.ScriptLines.{gone_on, ended_at, all_held, filled_with};
 
     /// No read was made, and no line returned.
     pub fn new() -> ScriptLines
@@ -93,7 +93,6 @@ impl ScriptLines {
     }
 
     /// Advances to the next line, if its line feed was read; else returns false. It searches for the line feed.
-    #[inline(never)]
     pub fn advance(&mut self) -> bool
         ensures next { (before now : Option (List ℕ)) → (given : List (List ℕ)) →
             HasGiven before now self.old given → GoesOn before now given result self.new }
@@ -113,18 +112,6 @@ impl ScriptLines {
         }
     }
 
-    /// Skips the lines up to line `number`, and all ready bytes but the last `left`.
-    pub(crate) fn skip_to(&mut self, number: u32, left: usize)
-        requires ended { self.old.ended ≡ true }
-        requires within { left ≤ length self.old.ready }
-        requires few { number + left ≤ self.old.number + length self.old.ready }
-        ensures skipped { self.new ≡ skipped_to self.old number left }
-    {
-        self.cutter.begin_line(number);
-        self.length = 0;
-        self.next = self.filled - left;
-    }
-
     /// Reads once, at most a block; returns none if bytes were read, else how the script ends. An interrupted read
     /// counts as failed. At most one byte past the limit of a script is read.
     pub fn read<R: Read>(&mut self, reader: &mut R) -> Option<Ending>
@@ -137,7 +124,7 @@ impl ScriptLines {
             → HasEnded before (R.remaining reader.new) self.new ending given) }
         ensures turns { result ≡ None → turns_to_come self.new < turns_to_come self.old }
     {
-        // What is tested is not the room: in some built programs, a read of no bytes was then taken for a read of some.
+        // Tests the bytes read, not the room: with the room, some built programs lost the case `Ok(0)`.
         if self.read > SCRIPT_BYTES {
             return Some(Ending::TooLong);
         }
@@ -155,9 +142,8 @@ impl ScriptLines {
     }
 
     /// The bytes that were read after the present line.
-    pub(crate) fn ready(&self) -> &[u8]
+    fn ready(&self) -> &[u8]
         ensures bytes { result.now ≡ self.now.ready }
-        ensures few { self.now.number + length result.now < 2 ^ 32 }
     {
         &self.block[self.next..self.filled]
     }

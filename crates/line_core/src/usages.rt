@@ -2,7 +2,7 @@
 ghost use Rattle.std.specs.Prelude.{◌≡◌, is_some};
 ghost use Rattle.line_core.specs.Usages.{usage_of, flags_of};
 
-use crate::spelling::Spelling;
+use crate::words::is;
 use point_core::Usage;
 
 /// Linux's `DMA_BUF_SYNC_READ`.
@@ -12,17 +12,15 @@ const SYNC_WRITE: u32 = 2;
 /// Linux's `DMA_BUF_SYNC_RW`.
 const SYNC_READ_WRITE: u32 = SYNC_READ | SYNC_WRITE;
 
-/// The usage that the word names. Those that are most frequent in scripts are compared first.
-#[inline(always)]
+/// The usage that the word names.
 pub(crate) fn usage(word: &[u8]) -> Option<Usage>
     ensures usage { result ≡ usage_of word.now }
 {
-    let spelling = Spelling::of(word)?;
     match word {
-        _ if spelling.is("write") => Some(Usage::Write),
-        _ if spelling.is("read") => Some(Usage::Read),
-        _ if spelling.is("bookkeep") => Some(Usage::Bookkeep),
-        _ if spelling.is("kernel") => Some(Usage::Kernel),
+        _ if is(word, "kernel") => Some(Usage::Kernel),
+        _ if is(word, "write") => Some(Usage::Write),
+        _ if is(word, "read") => Some(Usage::Read),
+        _ if is(word, "bookkeep") => Some(Usage::Bookkeep),
         _ => None,
     }
 }
@@ -31,11 +29,10 @@ pub(crate) fn usage(word: &[u8]) -> Option<Usage>
 pub(crate) fn flags(word: &[u8]) -> Option<u32>
     ensures flags { result ≡ flags_of word.now }
 {
-    let spelling = Spelling::of(word)?;
     match word {
-        _ if spelling.is("read") => Some(SYNC_READ),
-        _ if spelling.is("write") => Some(SYNC_WRITE),
-        _ if spelling.is("rw") => Some(SYNC_READ_WRITE),
+        _ if is(word, "read") => Some(SYNC_READ),
+        _ if is(word, "write") => Some(SYNC_WRITE),
+        _ if is(word, "rw") => Some(SYNC_READ_WRITE),
         _ => None,
     }
 }

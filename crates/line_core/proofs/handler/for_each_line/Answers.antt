@@ -2,40 +2,53 @@
 use Rattle.std.proofs.Common.{[], ◌∷◌, ◌++◌, ◌∙◌, refl}
 use Rattle.std.proofs.lemmas.Result.{err_from_is_err_and}
 use Rattle.line_core.proofs.EndedLines.{ended_lines, ended-within, given-within}
-use Rattle.line_core.proofs.Handling.{given-begins, last-failed, script-handled}
+use Rattle.line_core.proofs.Handling.{given-begins, last-failed, line-handled, script-handled}
 use Rattle.line_core.proofs.handler.for_each_line.Goals as goal
 
 pub loop-lines-init : goal.loop-lines-init
 loop-lines-init g c = record { given = []; has = c.new-lines.ensures.none (g.R.Read.remaining c.args.reader.now); so_far = c.requires.fresh }
 
-pub handle_lines-requires : goal.handle_lines-requires
-handle_lines-requires g c =
+pub handle-requires : goal.handle-requires
+handle-requires g c =
     let at = c.loop-lines.invariant in
-    let before = g.R.Read.remaining c.args.reader.now in
-    let now = g.R.Read.remaining c.loop-lines.reader in
+    let more = c.if-advance.ensures.next (g.R.Read.remaining c.args.reader.now) (g.R.Read.remaining c.loop-lines.reader) at.given at.has in
     record {
-      due = record {
-        before = before;
-        now = now;
+      next = record {
         start = (c.args.handler.now, c.args.output.now, c.args.notes.now);
-        is = record { given = at.given; gives = c.if-advance.ensures.next before now at.given at.has; so_far = at.so_far };
+        lines = at.given;
+        said = ended_lines 1 at.given;
+        so_far = at.so_far;
+        is = c.line-line.ensures.number ∙ more.number;
       };
     }
 
 pub loop-lines-preserved-in-Continue-1 : goal.loop-lines-preserved-in-Continue-1
 loop-lines-preserved-in-Continue-1 g c =
     let at = c.loop-lines.invariant in
-    let before = g.R.Read.remaining c.args.reader.now in
-    let now = g.R.Read.remaining c.loop-lines.reader in
-    c.in_ok-handle_lines.ensures.ok before now _ (record { given = at.given; gives = c.if-advance.ensures.next before now at.given at.has; so_far = at.so_far })
+    let more = c.if-advance.ensures.next (g.R.Read.remaining c.args.reader.now) (g.R.Read.remaining c.loop-lines.reader) at.given at.has in
+    let line = c.line-line.result in
+    let handled = g.H.LineHandler.handled in
+    record {
+      given = at.given ++ more.line ∷ [];
+      has = more.more;
+      so_far = line-handled handled handled at.given more.line line.bytes.now line.number _ _ _ at.so_far (c.line-line.ensures.number ∙ more.number) (c.line-line.ensures.bytes ∙ more.is.held) c.in_ok-handle.ensures.ok;
+    }
 
-pub returns-in_err-handle_lines-clause-err : goal.returns-in_err-handle_lines-clause-err
-returns-in_err-handle_lines-clause-err g c =
+pub returns-in_err-handle-clause-err : goal.returns-in_err-handle-clause-err
+returns-in_err-handle-clause-err g c =
     let q = err_from_is_err_and c.from_residual.result c.from_residual.ensures.1 in
     let at = c.loop-lines.invariant in
     let before = g.R.Read.remaining c.args.reader.now in
     let now = g.R.Read.remaining c.loop-lines.reader in
-    rw (q.1, q.2) (c.in_err-handle_lines.ensures.err before now _ (record { given = at.given; gives = c.if-advance.ensures.next before now at.given at.has; so_far = at.so_far }))
+    let more = c.if-advance.ensures.next before now at.given at.has in
+    let line = c.line-line.result in
+    let given = at.given ++ more.line ∷ [] in
+    rw (q.1, q.2) (record {
+      lines = given;
+      said = ended_lines 1 given;
+      begins = given-begins before now c.advance.new.self given more.more;
+      at = line-handled g.H.LineHandler.handled (g.H.LineHandler.failed _) at.given more.line line.bytes.now line.number _ _ _ at.so_far (c.line-line.ensures.number ∙ more.number) (c.line-line.ensures.bytes ∙ more.is.held) c.in_err-handle.ensures.err;
+    })
 
 pub returns-in_err-pause-clause-err : goal.returns-in_err-pause-clause-err
 returns-in_err-pause-clause-err g c =
@@ -51,8 +64,8 @@ returns-in_err-pause-clause-err g c =
       at = c.in_err-pause.ensures.err _ at.given (ended_lines 1 at.given) at.so_far;
     })
 
-pub returns-in_err-handle_lines-clause-within : goal.returns-in_err-handle_lines-clause-within
-returns-in_err-handle_lines-clause-within g c =
+pub returns-in_err-handle-clause-within : goal.returns-in_err-handle-clause-within
+returns-in_err-handle-clause-within g c =
     let at = c.loop-lines.invariant in
     let before = g.R.Read.remaining c.args.reader.now in
     let now = g.R.Read.remaining c.loop-lines.reader in
@@ -78,11 +91,7 @@ loop-lines-preserved g c =
     let at = c.loop-lines.invariant in
     let before = g.R.Read.remaining c.args.reader.now in
     let none = c.if-advance.ensures.next before (g.R.Read.remaining c.loop-lines.reader) at.given at.has in
-    record {
-      given = at.given;
-      has = c.in_default.ensures.more refl before at.given none.0;
-      so_far = c.in_ok-pause.ensures.ok _ at.given (ended_lines 1 at.given) at.so_far;
-    }
+    record { given = at.given; has = c.in_default.ensures.more refl before at.given none.0; so_far = c.in_ok-pause.ensures.ok _ at.given (ended_lines 1 at.given) at.so_far }
 
 pub end_script-requires : goal.end_script-requires
 end_script-requires g c =
@@ -96,7 +105,7 @@ end_script-requires g c =
         lines = at.given;
         said = ended_lines 1 at.given;
         so_far = c.in_ok-pause.ensures.ok _ at.given (ended_lines 1 at.given) at.so_far;
-        is = c.line-line.ensures.number ∙ ended.number;
+        is = c.line-line-in-Some.ensures.number ∙ ended.number;
       };
     }
 
@@ -108,9 +117,9 @@ returns-in_err-end_script-clause-err g c =
     let now = g.R.Read.remaining c.loop-lines.reader in
     let none = c.if-advance.ensures.next before now at.given at.has in
     let ended = c.in-Some.ensures.ended before at.given none.0 in
-    let line = c.line-line.result in
+    let line = c.line-line-in-Some.result in
     let waited = c.in_ok-pause.ensures.ok _ at.given (ended_lines 1 at.given) at.so_far in
-    rw (q.1, q.2) (last-failed g.H.LineHandler.handled before now (g.R.Read.remaining c.read.new.reader) c.advance.new.self c.read.new.self at.given line.number line.bytes.now _ _ _ none.0 waited c.in-Some.ending (g.H.LineHandler.failed _) ended c.line-line.ensures.number c.line-line.ensures.bytes c.in_err-end_script.ensures.err)
+    rw (q.1, q.2) (last-failed g.H.LineHandler.handled before now (g.R.Read.remaining c.read.new.reader) c.advance.new.self c.read.new.self at.given line.number line.bytes.now _ _ _ none.0 waited c.in-Some.ending (g.H.LineHandler.failed _) ended c.line-line-in-Some.ensures.number c.line-line-in-Some.ensures.bytes c.in_err-end_script.ensures.err)
 
 pub returns-in_err-end_script-clause-within : goal.returns-in_err-end_script-clause-within
 returns-in_err-end_script-clause-within g c =
@@ -133,6 +142,6 @@ returns-in-Some-clause-ok g c =
     let now = g.R.Read.remaining c.loop-lines.reader in
     let none = c.if-advance.ensures.next before now at.given at.has in
     let ended = c.in-Some.ensures.ended before at.given none.0 in
-    let line = c.line-line.result in
+    let line = c.line-line-in-Some.result in
     let waited = c.in_ok-pause.ensures.ok _ at.given (ended_lines 1 at.given) at.so_far in
-    script-handled g.H.LineHandler.handled before now (g.R.Read.remaining c.read.new.reader) c.advance.new.self c.read.new.self at.given line.number line.bytes.now _ _ _ none.0 waited c.in-Some.ending g.H.LineHandler.ended ended c.line-line.ensures.number c.line-line.ensures.bytes c.in_ok-end_script.ensures.ok
+    script-handled g.H.LineHandler.handled before now (g.R.Read.remaining c.read.new.reader) c.advance.new.self c.read.new.self at.given line.number line.bytes.now _ _ _ none.0 waited c.in-Some.ending g.H.LineHandler.ended ended c.line-line-in-Some.ensures.number c.line-line-in-Some.ensures.bytes c.in_ok-end_script.ensures.ok

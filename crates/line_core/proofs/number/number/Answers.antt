@@ -1,7 +1,7 @@
 use Rattle.std.proofs.Common.{sym, subst, ◌∙◌, arith}
 use Rattle.std.specs.Str.Parse.{ParsesUnsigned}
 use Rattle.line_core.proofs.Numbers.{number_of-not_utf8, number_of-parsed}
-use Rattle.line_core.proofs.number.long_number.Goals as goal
+use Rattle.line_core.proofs.number.number.Goals as goal
 
 pub returns-in-Ok : goal.returns-in-Ok
 returns-in-Ok c =
