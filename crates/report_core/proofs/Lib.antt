@@ -1,9 +1,7 @@
-mod Ends
+pub mod Digits
 pub mod Fronts
+pub mod Lines
 pub mod Numbered
 pub mod PassedOn
-pub mod Placed
 pub mod Statuses
-pub mod Widths
-pub mod Written
 pub mod Yielded

@@ -2,10 +2,8 @@ pub mod Answer
 pub mod Bytes
 pub mod Columns
 pub mod LineEnd
-pub mod Room
 pub mod RowKind
 pub mod Row
 pub mod Settled
 pub mod Status
-pub mod Subject
 pub mod Tables

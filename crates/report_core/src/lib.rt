@@ -5,10 +5,7 @@
 #![tactic(auto)]
 
 mod answer;
-mod columns;
-mod fence_line;
 mod line;
-mod number_line;
 mod passing;
 mod report;
 mod row_kind;
@@ -21,7 +18,6 @@ pub use answer::{
     done_line, fences_text, info_line_text, info_text, print, refusal_line, value_line, value_text,
 };
 pub use line::{TEXT_LINE_BYTES, TextLine};
-pub use number_line::push_numbered;
 pub use passing::{pass_answer, pass_objects};
 pub use report::{report_text, rows_text, show_text};
 pub use row_kind::RowKind;

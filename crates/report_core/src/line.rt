@@ -1,7 +1,8 @@
-//! `TextLine`: one line of output, which is built from its end to its start, so that numbers need no length in advance.
-ghost use Rattle.std.specs.Prelude.{◌≡◌, ◌++◌, ◌+◌, ◌≤◌, ◌∷◌, [], OnOk, OnErr, Err, decimal, length, take};
+//! `TextLine`: one line of output, on the stack. All text of this crate is written by it: its parts are put one after
+//! another, and the whole line is appended to the output, so a failure for memory leaves no part of a line.
+ghost use Rattle.std.specs.Prelude.{◌≡◌, ◌++◌, ◌+◌, ◌≤◌, ◌∷◌, [], OnOk, OnErr, Err, decimal, length};
 ghost use Rattle.point_core.specs.declared.refusal.Refusal.TheVariants.{Memory};
-ghost use Rattle.report_core.specs.Columns.{spaces};
+ghost use Rattle.report_core.specs.Columns.{spaces, column, right};
 
 use crate::rows::{KIND_WIDTH, NUMBER_WIDTH, SUBJECT_WIDTH};
 use itoa::write_digits;
@@ -16,19 +17,11 @@ pub const TEXT_LINE_BYTES: usize = 2 * (KIND_WIDTH + 1)
 
 const _: () = prove!(TEXT_LINE_BYTES == 92);
 
-/// Lines up to this length are appended with one fixed-size copy.
-const SHORT_BYTES: usize = 32;
-
-/// The bytes of the array: behind the line there is room for the rest of a copy.
-const ARRAY_BYTES: usize = TEXT_LINE_BYTES + SHORT_BYTES;
-
-const _: () = prove!(ARRAY_BYTES == 124);
-
-/// A line of output on the stack. Each part is put before those that are there.
+/// A line of output, as far as it is written.
 #[derive(Drop)]
 pub struct TextLine {
-    bytes: [u8; ARRAY_BYTES],
-    start: usize,
+    bytes: [u8; TEXT_LINE_BYTES],
+    len: usize,
 }
 
 impl Model for TextLine {
@@ -38,104 +31,150 @@ impl Model for TextLine {
 
     ghost Value = { List ℕ };
 
-    ghost view = { λ l. take (TEXT_LINE_BYTES - l.start) (drop l.start l.bytes) };
+    ghost view = { λ l. take l.len l.bytes };
 
-    // there are spaces before the line
-    ghost invariant = { λ l. (l.start ≤ TEXT_LINE_BYTES) × (take l.start l.bytes ≡ spaces l.start) };
+    // there are spaces behind the line
+    ghost invariant = { λ l. (l.len ≤ TEXT_LINE_BYTES) × (drop l.len l.bytes ≡ spaces (TEXT_LINE_BYTES - l.len)) };
 }
 
 impl TextLine {
-    /// A line with only a line feed.
-    #[inline(always)]
-    pub fn new() -> Self
-        ensures { result ≡ 10 ∷ [] }
+    /// An empty line.
+    pub(crate) fn new() -> Self
+        ensures { result ≡ [] }
     {
-        let mut bytes = [b' '; ARRAY_BYTES];
-        bytes[TEXT_LINE_BYTES - 1] = b'\n';
         TextLine {
-            bytes,
-            start: TEXT_LINE_BYTES - 1,
+            bytes: [b' '; TEXT_LINE_BYTES],
+            len: 0,
         }
     }
 
-    /// The number of its bytes.
-    #[inline(always)]
-    pub fn len(&self) -> usize
-        ensures { result ≡ length self.now }
-    {
-        TEXT_LINE_BYTES - self.start
-    }
-
-    /// Puts that many spaces before the line.
-    #[inline(always)]
-    pub fn put_spaces(&mut self, count: usize)
-        requires { length self.old + count ≤ TEXT_LINE_BYTES }
-        ensures text { self.new ≡ spaces count ++ self.old }
-        ensures len { length self.new ≡ length self.old + count }
-    {
-        self.start -= count;
-    }
-
-    /// Puts the text before the line.
-    #[inline(always)]
-    pub fn put_text(&mut self, text: &[u8])
-        requires { length self.old + length text.now ≤ TEXT_LINE_BYTES }
-        ensures text { self.new ≡ text.now ++ self.old }
-        ensures len { length self.new ≡ length self.old + length text.now }
-    {
-        let start = self.start - text.len();
-        self.bytes[start..self.start].copy_from_slice(text);
-        self.start = start;
-    }
-
-    /// Puts the number, in decimal, before the line.
-    #[inline(always)]
-    pub fn put_number(&mut self, number: u64)
-        requires { length self.old + NUMBER_WIDTH ≤ TEXT_LINE_BYTES }
-        ensures text { self.new ≡ decimal number ++ self.old }
-        ensures len { length self.new ≤ length self.old + NUMBER_WIDTH }
-    {
-        self.start = write_digits(number, &mut self.bytes, self.start);
-    }
-
     /// Its bytes.
-    #[inline(always)]
     pub fn as_bytes(&self) -> &[u8]
         ensures value { result.now ≡ self.now }
         ensures few { length self.now ≤ TEXT_LINE_BYTES }
     {
-        &self.bytes[self.start..TEXT_LINE_BYTES]
+        &self.bytes[..self.len]
+    }
+
+    /// Puts the text behind the line.
+    pub(crate) fn put(&mut self, text: &[u8])
+        requires room { length self.old + length text.now ≤ TEXT_LINE_BYTES }
+        ensures text { self.new ≡ self.old ++ text.now }
+        ensures len { length self.new ≡ length self.old + length text.now }
+    {
+        let end = self.len + text.len();
+        self.bytes[self.len..end].copy_from_slice(text);
+        self.len = end;
+    }
+
+    /// Puts that many spaces behind the line.
+    pub(crate) fn pad(&mut self, count: usize)
+        requires room { length self.old + count ≤ TEXT_LINE_BYTES }
+        ensures text { self.new ≡ self.old ++ spaces count }
+        ensures len { length self.new ≡ length self.old + count }
+    {
+        self.len += count;
+    }
+
+    /// Puts the number, in decimal, behind the line.
+    pub(crate) fn put_digits(&mut self, number: u64)
+        requires room { length self.old + NUMBER_WIDTH ≤ TEXT_LINE_BYTES }
+        ensures text { self.new ≡ self.old ++ decimal number }
+        ensures len { length self.new ≡ length self.old + length (decimal number) }
+        ensures few { length (decimal number) ≤ NUMBER_WIDTH }
+    {
+        self.put_counted(number, digit_count(number));
+    }
+
+    /// Puts the number, which has `count` digits, behind the line.
+    #[inline(always)]
+    fn put_counted(&mut self, number: u64, count: usize)
+        requires count { count ≡ length (decimal number) }
+        requires few { count ≤ NUMBER_WIDTH }
+        requires room { length self.old + count ≤ TEXT_LINE_BYTES }
+        ensures text { self.new ≡ self.old ++ decimal number }
+        ensures len { length self.new ≡ length self.old + count }
+    {
+        let end = self.len + count;
+        write_digits(number, &mut self.bytes, end);
+        self.len = end;
+    }
+
+    /// Puts a space and the word behind the line.
+    pub(crate) fn put_word(&mut self, word: &[u8])
+        requires room { length self.old + length word.now + 1 ≤ TEXT_LINE_BYTES }
+        ensures text { self.new ≡ self.old ++ 32 ∷ word.now }
+        ensures len { length self.new ≡ length self.old + length word.now + 1 }
+    {
+        self.pad(1);
+        self.put(word);
+    }
+
+    /// Puts a space and the number behind the line.
+    pub(crate) fn put_number(&mut self, number: u64)
+        requires room { length self.old + NUMBER_WIDTH + 1 ≤ TEXT_LINE_BYTES }
+        ensures text { self.new ≡ self.old ++ 32 ∷ decimal number }
+        ensures len { length self.new ≤ length self.old + NUMBER_WIDTH + 1 }
+    {
+        self.pad(1);
+        self.put_digits(number);
+    }
+
+    /// Puts the text, left-aligned in a column, and the space after the column.
+    pub(crate) fn put_column(&mut self, text: &[u8], width: usize)
+        requires fits { length text.now ≤ width }
+        requires room { length self.old + width + 1 ≤ TEXT_LINE_BYTES }
+        ensures text { self.new ≡ self.old ++ column width text.now }
+        ensures len { length self.new ≡ length self.old + width + 1 }
+    {
+        self.put(text);
+        self.pad(width - text.len());
+        self.pad(1);
+    }
+
+    /// Puts the text, right-aligned in a column. A text that is wider than the column is put whole.
+    pub(crate) fn put_right(&mut self, text: &[u8], width: usize)
+        requires text { length self.old + length text.now ≤ TEXT_LINE_BYTES }
+        requires column { length self.old + width ≤ TEXT_LINE_BYTES }
+        ensures text { self.new ≡ self.old ++ right width text.now }
+        ensures len { length text.now ≤ width → length self.new ≡ length self.old + width }
+    {
+        self.pad(width.saturating_sub(text.len()));
+        self.put(text);
+    }
+
+    /// Puts the number, right-aligned in a column. A number that is wider than the column is put whole.
+    pub(crate) fn put_number_right(&mut self, number: u64, width: usize)
+        requires room { length self.old + width + NUMBER_WIDTH ≤ TEXT_LINE_BYTES }
+        ensures text { self.new ≡ self.old ++ right width (decimal number) }
+        ensures len { length (decimal number) ≤ width → length self.new ≡ length self.old + width }
+        ensures few { length (decimal number) ≤ NUMBER_WIDTH }
+    {
+        let count = digit_count(number);
+        self.pad(width.saturating_sub(count));
+        self.put_counted(number, count);
     }
 
     /// Appends the line to `out`.
     ///
     /// Fails only with Memory, and then leaves `out` as it was.
-    #[inline(always)]
-    pub fn push_to(&self, out: &mut Vec<u8>) -> Result<(), Refusal>
+    pub(crate) fn push_to(&self, out: &mut Vec<u8>) -> Result<(), Refusal>
         ensures ok { OnOk result (out.new.items ≡ out.old.items ++ self.now) }
         ensures err { OnErr result ((result ≡ Err Memory) × (out.new.items ≡ out.old.items)) }
     {
-        let start = self.start;
-        let length = self.len();
-        if length <= SHORT_BYTES {
-            push_first(&self.bytes[start..start + SHORT_BYTES], length, out)
-        } else {
-            push_first(self.as_bytes(), length, out)
-        }
+        out.extend_from_slice(self.as_bytes())?;
+        Ok(())
     }
 }
 
-/// Appends the first `count` of the bytes to `out`, by a copy of all of them. If the compiler knows their number, the
-/// copy is a few moves and no call.
-///
-/// Fails only with Memory, and then leaves `out` as it was.
-#[inline(always)]
-fn push_first(bytes: &[u8], count: usize, out: &mut Vec<u8>) -> Result<(), Refusal>
-    requires { count ≤ length bytes.now }
-    ensures ok { OnOk result (out.new.items ≡ out.old.items ++ take count bytes.now) }
-    ensures err { OnErr result ((result ≡ Err Memory) × (out.new.items ≡ out.old.items)) }
+/// How many digits the number has.
+fn digit_count(number: u64) -> usize
+    ensures count { result ≡ length (decimal number) }
+    ensures few { result ≤ NUMBER_WIDTH }
 {
-    out.extend_from_slice(bytes)?;
-    out.truncate(out.len() - (bytes.len() - count));
-    Ok(())
+    if number == 0 {
+        return 1;
+    }
+    let power = number.ilog10();
+    power as usize + 1
 }

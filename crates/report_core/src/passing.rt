@@ -7,7 +7,7 @@ ghost use Rattle.report_core.specs.declared.writing.TheConstants.{WRITE_BYTES};
 ghost use Rattle.report_core.specs.Bytes.{AppendsFront, PassesOn};
 ghost use Rattle.report_core.specs.Answer.{objects_text, text_of};
 
-use crate::answer::{push_owned, push_row_count};
+use crate::answer::{push_answer, push_row_count};
 use crate::table_item::{TableItem, push_each};
 use crate::writing::write_many;
 use command_core::{Answer, FileRow};
@@ -18,7 +18,6 @@ use std::io::Write;
 ///
 /// Fails with Write if a write failed or took no byte, and with Memory if an allocation failed: then a prefix of the
 /// pending output and of the text is written, and `out` is unspecified.
-#[inline(always)]
 pub fn pass_answer<W: Write>(
     line: u32,
     answer: Answer,
@@ -32,7 +31,7 @@ pub fn pass_answer<W: Write>(
         (out.old.items ++ text_of line answer)) }
     ensures refusals { IfErr result (λ refusal. (refusal ≡ WriteFault) ⊎ (refusal ≡ Memory)) }
 {
-    push_owned(line, answer, out)?;
+    push_answer(line, &answer, out)?;
     write_many(writer, out)?;
     Ok(())
 }
@@ -41,7 +40,6 @@ pub fn pass_answer<W: Write>(
 /// so that the text is never stored as a whole.
 ///
 /// Fails as `pass_answer`.
-#[inline(never)]
 pub fn pass_objects<W: Write>(
     count: u128,
     timelines: &[TimelineRow],

@@ -24,7 +24,6 @@ pub fn show_text(rows: &[ShowRow], out: &mut Vec<u8>) -> Result<(), Refusal>
 /// As `show_text`: an iterator makes each row as it is asked for.
 ///
 /// Fails only with Memory. `out` then begins with its old bytes.
-#[inline(always)]
 pub fn rows_text<I: Iterator<Item = ShowRow> + Drop>(
     rows: I,
     out: &mut Vec<u8>,

@@ -1,6 +1,5 @@
 //! `RowKind`: the kind of a row, which is its first column.
-ghost use Rattle.std.specs.Prelude.{◌≡◌};
-ghost use Rattle.report_core.specs.Columns.{left};
+ghost use Rattle.std.specs.Prelude.{◌≡◌, ◌≤◌, length};
 ghost use Rattle.report_core.specs.RowKind.{kind_word};
 
 use crate::rows::KIND_WIDTH;
@@ -21,7 +20,8 @@ pub enum RowKind {
 impl RowKind {
     /// The word of the first column.
     pub fn word(self) -> &'static str
-        ensures { result.now ≡ kind_word self }
+        ensures text { result.now ≡ kind_word self }
+        ensures len { length result.now ≤ KIND_WIDTH }
     {
         match self {
             RowKind::Timeline => "timeline",
@@ -32,24 +32,6 @@ impl RowKind {
             RowKind::Level(Usage::Write) => "write",
             RowKind::Level(Usage::Read) => "read",
             RowKind::Level(Usage::Bookkeep) => "bookkeep",
-        }
-    }
-
-    /// The word, left-aligned in the first column. It is given by value: of a text of the program it would first be asked whether
-    /// it overlaps the row.
-    #[inline(always)]
-    pub(crate) fn column(self) -> [u8; KIND_WIDTH]
-        ensures { result ≡ left KIND_WIDTH (kind_word self) }
-    {
-        match self {
-            RowKind::Timeline => *b"timeline",
-            RowKind::Closed => *b"closed  ",
-            RowKind::File => *b"file    ",
-            RowKind::Buffer => *b"buffer  ",
-            RowKind::Level(Usage::Kernel) => *b"kernel  ",
-            RowKind::Level(Usage::Write) => *b"write   ",
-            RowKind::Level(Usage::Read) => *b"read    ",
-            RowKind::Level(Usage::Bookkeep) => *b"bookkeep",
         }
     }
 }

@@ -1,12 +1,13 @@
 //! The text of `clients`: the end that all clients' plans come to.
-ghost use Rattle.std.specs.Prelude.{◌≡◌, ◌++◌, ◌+◌, ◌<◌, OnOk, OnErr, Err};
+ghost use Rattle.std.specs.Prelude.{◌≡◌, ◌++◌, ◌∷◌, ◌+◌, ◌≤◌, OnOk, OnErr, Err, decimal, length};
 ghost use Rattle.std.specs.List.{flat_map, enumerate_from};
 ghost use Rattle.std.specs.Io.{StartsWith};
 ghost use Rattle.point_core.specs.declared.refusal.Refusal.TheVariants.{Memory};
 ghost use Rattle.report_core.specs.Settled.{client_text, table_text, settled_text};
 
-use crate::columns::{Subject, push_row};
+use crate::line::TextLine;
 use crate::row_kind::RowKind;
+use crate::rows::{NUMBER_WIDTH, push_row};
 use crate::table_item::push_each;
 use point_core::{Items, Refusal, TopRow};
 use resv_core::Settled;
@@ -30,7 +31,8 @@ fn push_clients(out: &mut Vec<u8>, values: &[u64]) -> Result<(), Refusal>
     ensures err { OnErr result ((result ≡ Err Memory) × StartsWith out.new.items out.old.items) }
 {
     for (place, value) in values.iter().enumerate() {
-        push_row(out, RowKind::Timeline, client(place as u64 + 1), *value)?;
+        let client = numbered(b'c', place as u64 + 1);
+        push_row(RowKind::Timeline, client.as_bytes(), *value, out)?;
     }
     Ok(())
 }
@@ -49,19 +51,19 @@ fn push_table(out: &mut Vec<u8>, buffer: u64, rows: &[TopRow]) -> Result<(), Ref
     ensures ok { OnOk result (out.new.items ≡ out.old.items ++ table_text (buffer, rows.now)) }
     ensures err { OnErr result ((result ≡ Err Memory) × StartsWith out.new.items out.old.items) }
 {
-    push_row(
-        out,
-        RowKind::Buffer,
-        Subject::Numbered(b'b', buffer),
-        rows.len() as u64,
-    )?;
+    let name = numbered(b'b', buffer);
+    push_row(RowKind::Buffer, name.as_bytes(), rows.len() as u64, out)?;
     push_each(rows, out)?;
     Ok(())
 }
 
-/// The name of a client.
-pub(crate) fn client(number: u64) -> Subject<'static>
-    ensures { result ≡ Subject.Numbered 99 number }
+/// The letter and the number, as clients and buffers are named.
+pub(crate) fn numbered(letter: u8, number: u64) -> TextLine
+    ensures text { result ≡ letter ∷ decimal number }
+    ensures len { length result ≤ NUMBER_WIDTH + 1 }
 {
-    Subject::Numbered(b'c', number)
+    let mut name = TextLine::new();
+    name.put(&[letter]);
+    name.put_digits(number);
+    name
 }

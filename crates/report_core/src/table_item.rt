@@ -8,12 +8,11 @@ ghost use Rattle.report_core.specs.Row.{file_row_text};
 ghost use Rattle.report_core.specs.Settled.{top_text};
 ghost use Rattle.report_core.specs.Tables.{buffer_text, show_row_text, timeline_text};
 
-use crate::columns::push_row;
-use crate::fence_line::push_fence;
+use crate::answer::push_fence;
 use crate::report::show_text;
 use crate::row_kind::RowKind;
-use crate::rows::{file_row, row};
-use crate::settled::client;
+use crate::rows::{file_row, push_row, row};
+use crate::settled::numbered;
 use command_core::{BufferRows, FenceRow, FileRow, ShowRow};
 use point_core::{Refusal, TimelineRow, TopRow};
 
@@ -50,7 +49,6 @@ pub(crate) fn push_each<T: TableItem>(items: &[T], out: &mut Vec<u8>) -> Result<
 impl TableItem for FenceRow {
     ghost text = { fence_text };
 
-    #[inline(always)]
     fn push(&self, out: &mut Vec<u8>) -> Result<(), Refusal> {
         push_fence(self, out)
     }
@@ -59,7 +57,6 @@ impl TableItem for FenceRow {
 impl TableItem for ShowRow {
     ghost text = { show_row_text };
 
-    #[inline(always)]
     fn push(&self, out: &mut Vec<u8>) -> Result<(), Refusal> {
         row(RowKind::Level(self.usage), &self.timeline, self.point, out)
     }
@@ -102,11 +99,12 @@ impl TableItem for TopRow {
     ghost text = { top_text };
 
     fn push(&self, out: &mut Vec<u8>) -> Result<(), Refusal> {
+        let client = numbered(b'c', u64::from(self.ctx.number()));
         push_row(
-            out,
             RowKind::Level(self.usage),
-            client(u64::from(self.ctx.number())),
+            client.as_bytes(),
             self.point,
+            out,
         )
     }
 }

@@ -35,7 +35,6 @@ pub fn write_whole<W: Write>(writer: &mut W, bytes: &[u8]) -> Result<(), Refusal
 /// Writes the output if it has `WRITE_BYTES` or more, and clears it.
 ///
 /// Fails as `write_whole`; a prefix was then written, and the output still holds all of its bytes.
-#[inline(always)]
 pub fn write_many<W: Write>(writer: &mut W, out: &mut Vec<u8>) -> Result<(), Refusal>
     ensures ok { OnOk result ((written : List ℕ) × (out.old.items ≡ written ++ out.new.items)
         × Appends (W.contents writer.old) (W.contents writer.new) written) }
@@ -52,7 +51,6 @@ pub fn write_many<W: Write>(writer: &mut W, out: &mut Vec<u8>) -> Result<(), Ref
 /// Writes the output, and clears it. Without output there is no write.
 ///
 /// Fails as `write_many`.
-#[inline(never)]
 pub fn write_out<W: Write>(writer: &mut W, out: &mut Vec<u8>) -> Result<(), Refusal>
     ensures ok { OnOk result ((written : List ℕ) × (out.old.items ≡ written ++ out.new.items)
         × Appends (W.contents writer.old) (W.contents writer.new) written) }

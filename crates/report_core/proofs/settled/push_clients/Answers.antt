@@ -5,7 +5,6 @@ use Rattle.std.proofs.lemmas.Result.{err_from_is_err_and}
 use Rattle.report_core.specs.Settled.{client_text}
 use Rattle.report_core.specs.declared.row_kind.RowKind.TheVariants.{Timeline}
 use Rattle.report_core.specs.Row.{row_text}
-use Rattle.report_core.specs.Subject.{subject_text}
 use Rattle.report_core.proofs.Fronts.{StartsWith-trans}
 use Rattle.report_core.proofs.Numbered.{numbered-next}
 use Rattle.report_core.proofs.settled.push_clients.Goals as goal
@@ -23,5 +22,5 @@ loop-place-preserved c =
     let value = get_or values c.loop-place.place 0 in
     let new = c.loop-place.out.items in
     let later = c.push_row.new.out.items in
-    let next : later ≡ new ++ client_text (c.loop-place.place + 1, value) = c.in_ok-push_row.ensures.ok ∙ ap (λ subject. new ++ row_text Timeline (subject_text subject) value) c.client.ensures in
+    let next : later ≡ new ++ client_text (c.loop-place.place + 1, value) = c.in_ok-push_row.ensures.ok ∙ ap (λ subject. new ++ row_text Timeline subject value) (c.as_bytes.ensures.value ∙ c.numbered-client.ensures.text) in
     numbered-next client_text c.args.out.now.items new later 1 c.loop-place.place (c.loop-place.place + 1) values value c.loop-place-test.true (omega arith) (get_or_default values c.loop-place.place 0 value c.loop-place-test.true) c.loop-place.invariant next
