@@ -2,6 +2,4 @@ pub mod Digits
 pub mod Fronts
 pub mod Lines
 pub mod Numbered
-pub mod PassedOn
 pub mod Statuses
-pub mod Yielded

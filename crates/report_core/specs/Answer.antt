@@ -12,10 +12,7 @@ use Rattle.command_core.specs.declared.answer.Info.{Info}
 use Rattle.command_core.specs.declared.answer.FenceRow.{FenceRow}
 use Rattle.command_core.specs.declared.answer.ShowRow.{ShowRow}
 use Rattle.command_core.specs.Tables.{Tables, row_count}
-use Rattle.point_core.specs.declared.timeline_row.TimelineRow.{TimelineRow}
-use Rattle.command_core.specs.declared.answer.FileRow.{FileRow}
-use Rattle.report_core.specs.Row.{file_row_text}
-use Rattle.report_core.specs.Tables.{timeline_text, show_text as rows_text, report_text as tables_text}
+use Rattle.report_core.specs.Tables.{show_text as rows_text, report_text as tables_text}
 use Rattle.command_core.specs.declared.answer.Maker.{Maker}
 use Rattle.command_core.specs.declared.answer.Maker.TheVariants.{SwSync, Stub}
 
@@ -50,10 +47,6 @@ raised_text value fired = value_line value ++ flat_map fired_text fired
 -- the number of rows, and the rows
 abbrev pub show_text : List ShowRow → List ℕ
 show_text rows = value_line (length rows) ++ rows_text rows
-
--- a report up to its buffers: the number of its rows, the timelines and the files
-abbrev pub objects_text : ℕ → List TimelineRow → List FileRow → List ℕ
-objects_text count timelines files = (value_line count ++ flat_map timeline_text timelines) ++ flat_map file_row_text files
 
 abbrev pub report_text : Tables → List ℕ
 report_text tables = value_line (row_count tables) ++ tables_text tables

@@ -1,10 +1,7 @@
 //! The text of each answer, as `specs/Answer.antt` defines it.
-ghost use Rattle.std.specs.Prelude.{◌≡◌, ◌+◌, ◌≤◌, ◌∷◌, ◌++◌, [], List, OnOk, OnErr, Err, codes, decimal, length};
-ghost use Rattle.std.specs.List.{flat_map};
+ghost use Rattle.std.specs.Prelude.{◌≡◌, ◌+◌, ◌≤◌, ◌∷◌, ◌++◌, [], OnOk, OnErr, Err, codes, decimal, length};
 ghost use Rattle.std.specs.Io.{StartsWith};
-ghost use Rattle.std.specs.Iterator.{Drains, IsFinite};
 ghost use Rattle.point_core.specs.declared.refusal.Refusal.TheVariants.{Memory};
-ghost use Rattle.command_core.specs.declared.answer.FenceRow.{FenceRow as FenceRowModel};
 ghost use Rattle.report_core.specs.Answer.{line_text, fired_text, raised_text, driver_of, fence_text, info_line, info_text, show_text};
 ghost use Rattle.report_core.specs.Answer.{report_text, refusal_text, details, value_line, text_of};
 ghost use Rattle.report_core.specs.LineEnd.{line_end};
@@ -15,7 +12,7 @@ use crate::rows::{KIND_WIDTH, status_text};
 use crate::table_item::push_each;
 use command_core::{Answer, FenceRow, Info, Maker, Report, ShowRow};
 use itoa::Buffer;
-use point_core::{Name, Refusal, Status};
+use point_core::Refusal;
 
 /// The most bytes of a driver's name, `sw_sync`.
 const DRIVER_BYTES: usize = 7;
@@ -123,7 +120,7 @@ fn push_raised(value: u64, fired: &[u64], out: &mut Vec<u8>) -> Result<(), Refus
     ensures ok { OnOk result (out.new.items ≡ out.old.items ++ raised_text value fired.now) }
     ensures err { OnErr result ((result ≡ Err Memory) × StartsWith out.new.items out.old.items) }
 {
-    value_text(value, out)?;
+    value_line(value).push_to(out)?;
     for cookie in fired {
         push_fired(*cookie, out)?;
     }
@@ -139,16 +136,6 @@ fn push_fired(cookie: u64, out: &mut Vec<u8>) -> Result<(), Refusal>
     line.push_to(out)
 }
 
-/// Appends the text of an answer that is a number to `out`. The answer of `show` begins with it.
-///
-/// Fails only with Memory. `out` then begins with its old bytes.
-pub fn value_text(value: u64, out: &mut Vec<u8>) -> Result<(), Refusal>
-    ensures ok { OnOk result (out.new.items ≡ out.old.items ++ value_line value) }
-    ensures err { OnErr result ((result ≡ Err Memory) × StartsWith out.new.items out.old.items) }
-{
-    value_line(value).push_to(out)
-}
-
 /// Appends the answer of `info` to `out`: a line for the file, with the number of its fences, and a line for each of them.
 ///
 /// Fails only with Memory. `out` then begins with its old bytes.
@@ -156,29 +143,22 @@ pub fn info_text(info: &Info, out: &mut Vec<u8>) -> Result<(), Refusal>
     ensures ok { OnOk result (out.new.items ≡ out.old.items ++ info_text info.now) }
     ensures err { OnErr result ((result ≡ Err Memory) × StartsWith out.new.items out.old.items) }
 {
-    let fences = info.fences.as_slice();
-    info_line_text(&info.name, info.status, fences.len(), out)?;
-    push_each(fences, out)?;
+    push_file(info, out)?;
+    push_each(info.fences.as_slice(), out)?;
     Ok(())
 }
 
-/// Appends the first line of the answer of `info` to `out`, for a file with `count` fences.
-///
-/// Fails only with Memory. `out` then begins with its old bytes.
-pub fn info_line_text(
-    name: &Name,
-    status: Status,
-    count: usize,
-    out: &mut Vec<u8>,
-) -> Result<(), Refusal>
-    ensures ok { OnOk result (out.new.items ≡ out.old.items ++ info_line name.now status count) }
+/// Appends the line of the file to `out`: its name, its status and the number of its fences.
+fn push_file(info: &Info, out: &mut Vec<u8>) -> Result<(), Refusal>
+    ensures ok { OnOk result (out.new.items ≡ out.old.items
+        ++ info_line info.now.name info.now.status (length info.now.fences)) }
     ensures err { OnErr result ((result ≡ Err Memory) × StartsWith out.new.items out.old.items) }
 {
     let mut line = TextLine::new();
     line.put(b"ok");
-    line.put_word(name.as_bytes());
-    line.put_word(status_text(status));
-    line.put_number(count as u64);
+    line.put_word(info.name.as_bytes());
+    line.put_word(status_text(info.status));
+    line.put_number(info.fences.as_slice().len() as u64);
     line.put(b"\n");
     line.push_to(out)
 }
@@ -212,30 +192,11 @@ fn put_driver(line: &mut TextLine, driver: Maker)
     }
 }
 
-/// Appends the line of each of the fences to `out`, as `info_text`: an iterator makes each as it is asked for.
-///
-/// Fails only with Memory. `out` then begins with its old bytes.
-pub fn fences_text<I: Iterator<Item = FenceRow> + Drop>(
-    fences: I,
-    out: &mut Vec<u8>,
-) -> Result<(), Refusal>
-    requires can { I.can_next fences }
-    requires ends { IsFinite (I.remaining fences) }
-    ensures ok { OnOk result ((rows : List FenceRowModel) × Drains I.next_gives fences rows
-        × (out.new.items ≡ out.old.items ++ flat_map fence_text rows)) }
-    ensures err { OnErr result ((result ≡ Err Memory) × StartsWith out.new.items out.old.items) }
-{
-    for fence in fences {
-        push_fence(&fence, out)?;
-    }
-    Ok(())
-}
-
 fn push_show(rows: &[ShowRow], out: &mut Vec<u8>) -> Result<(), Refusal>
     ensures ok { OnOk result (out.new.items ≡ out.old.items ++ show_text rows.now) }
     ensures err { OnErr result ((result ≡ Err Memory) × StartsWith out.new.items out.old.items) }
 {
-    value_text(rows.len() as u64, out)?;
+    value_line(rows.len() as u64).push_to(out)?;
     show_text(rows, out)?;
     Ok(())
 }
@@ -250,9 +211,7 @@ fn push_report(report: &Report, out: &mut Vec<u8>) -> Result<(), Refusal>
 }
 
 /// Appends the line with the number of a report's rows to `out`.
-///
-/// Fails only with Memory. `out` then begins with its old bytes.
-pub(crate) fn push_row_count(count: u128, out: &mut Vec<u8>) -> Result<(), Refusal>
+fn push_row_count(count: u128, out: &mut Vec<u8>) -> Result<(), Refusal>
     ensures ok { OnOk result (out.new.items ≡ out.old.items ++ value_line count) }
     ensures err { OnErr result ((result ≡ Err Memory) × StartsWith out.new.items out.old.items) }
 {

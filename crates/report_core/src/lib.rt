@@ -14,12 +14,10 @@ mod settled;
 mod table_item;
 mod writing;
 
-pub use answer::{
-    done_line, fences_text, info_line_text, info_text, print, refusal_line, value_line, value_text,
-};
+pub use answer::{done_line, info_text, print, refusal_line, value_line};
 pub use line::{TEXT_LINE_BYTES, TextLine};
-pub use passing::{pass_answer, pass_objects};
-pub use report::{report_text, rows_text, show_text};
+pub use passing::pass_answer;
+pub use report::{report_text, show_text};
 pub use row_kind::RowKind;
 pub use rows::{
     COUNT_WIDTH, FILE_ROW_BYTES, KIND_WIDTH, NUMBER_WIDTH, ROW_BYTES, STATUS_BYTES, SUBJECT_WIDTH,

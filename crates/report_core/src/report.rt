@@ -1,12 +1,10 @@
 //! The text of tables: a buffer's rows, and a report of all timelines, files and buffers.
-ghost use Rattle.std.specs.Prelude.{◌≡◌, ◌++◌, List, OnOk, OnErr, Err};
+ghost use Rattle.std.specs.Prelude.{◌≡◌, ◌++◌, OnOk, OnErr, Err};
 ghost use Rattle.std.specs.Io.{StartsWith};
-ghost use Rattle.std.specs.Iterator.{Drains, IsFinite};
 ghost use Rattle.point_core.specs.declared.refusal.Refusal.TheVariants.{Memory};
-ghost use Rattle.command_core.specs.declared.answer.ShowRow.{ShowRow as ShowRowModel};
 ghost use Rattle.report_core.specs.Tables.{show_text, report_text};
 
-use crate::table_item::{TableItem, push_each};
+use crate::table_item::push_each;
 use command_core::{Report, ShowRow};
 use point_core::Refusal;
 
@@ -18,25 +16,6 @@ pub fn show_text(rows: &[ShowRow], out: &mut Vec<u8>) -> Result<(), Refusal>
     ensures err { OnErr result ((result ≡ Err Memory) × StartsWith out.new.items out.old.items) }
 {
     push_each(rows, out)?;
-    Ok(())
-}
-
-/// As `show_text`: an iterator makes each row as it is asked for.
-///
-/// Fails only with Memory. `out` then begins with its old bytes.
-pub fn rows_text<I: Iterator<Item = ShowRow> + Drop>(
-    rows: I,
-    out: &mut Vec<u8>,
-) -> Result<(), Refusal>
-    requires can { I.can_next rows }
-    requires ends { IsFinite (I.remaining rows) }
-    ensures ok { OnOk result ((shown : List ShowRowModel) × Drains I.next_gives rows shown
-        × (out.new.items ≡ out.old.items ++ show_text shown)) }
-    ensures err { OnErr result ((result ≡ Err Memory) × StartsWith out.new.items out.old.items) }
-{
-    for row in rows {
-        row.push(out)?;
-    }
     Ok(())
 }
 
