@@ -1,2 +1,3 @@
+pub mod NotedLines
 pub mod Notes
 pub mod Written

@@ -1,13 +1,15 @@
 //! Runs a script from a reader, and writes an explanation after the answer of each refused line. `fencectl explain` and
 //! the prompt call it.
-ghost use Rattle.script_core.specs.Notes.{NotesFollow};
+ghost use Rattle.std.specs.Prelude.{[]};
+ghost use Rattle.script_core.specs.Answering.{HasAnswered};
 ghost use Rattle.script_core.specs.Run.{RunsScript};
-ghost use Rattle.reason_core.specs.Notes.{NotedIn};
+ghost use Rattle.reason_core.specs.Notes.{NotesFollow};
 
 use crate::explainer::Explainer;
 use crate::look::NoteLook;
+use line_core::{Ending, for_each_line};
 use point_core::Refusal;
-use script_core::{Totals, answer_script};
+use script_core::Totals;
 use std::alloc::Global;
 use std::io::{Read, Write};
 
@@ -32,9 +34,29 @@ pub fn explain<R: Read, W: Write, N: Write>(
         (W.contents writer.old) (W.contents writer.new) }
 
     // Whatever the result, each note follows the answers of all lines up to its own.
-    ensures follows { NotesFollow (NotedIn N.contents) (R.remaining reader.old)
+    ensures follows { NotesFollow N.contents (R.remaining reader.old)
         (W.contents writer.old) (W.contents writer.new) notes.old notes.new }
 {
-    let mut explainer = Explainer::new(alloc, look);
-    answer_script(alloc, &mut explainer, reader, writer, notes)
+    let mut explainer = Explainer::new(alloc, look)?;
+    with_explainer(&mut explainer, reader, writer, notes)
+}
+
+fn with_explainer<R: Read, W: Write, N: Write>(
+    explainer: &mut Explainer,
+    reader: &mut R,
+    writer: &mut W,
+    notes: &mut N,
+) -> Result<Totals, Refusal>
+    requires fresh { HasAnswered [] explainer.old.answers (W.contents writer.old) (W.contents writer.old) }
+    ensures run { RunsScript result (R.remaining reader.old) (R.remaining reader.new)
+        (W.contents writer.old) (W.contents writer.new) }
+    ensures follows { NotesFollow N.contents (R.remaining reader.old)
+        (W.contents writer.old) (W.contents writer.new) notes.old notes.new }
+{
+    let ending = for_each_line(reader, explainer, writer, notes)?;
+    let totals = explainer.answers.finish(writer)?;
+    match ending {
+        Ending::Failed => Err(Refusal::Read),
+        Ending::Whole | Ending::TooLong => Ok(totals),
+    }
 }

@@ -13,10 +13,11 @@ use Rattle.line_core.specs.declared.script.Ending.TheVariants as ending
 use Rattle.line_core.specs.declared.script.TheConstants.{SCRIPT_BYTES}
 use Rattle.script_core.specs.declared.totals.Totals.{Totals}
 use Rattle.line_core.specs.Handling.{BeginsScript}
-use Rattle.line_core.specs.Reading.{IsInput, WasRead, EndsSo}
+use Rattle.line_core.specs.Reading.{WasRead, EndsSo}
 use Rattle.line_core.specs.Script.{lines_until, script_of}
 use Rattle.report_core.specs.Answer.{text_of}
-use Rattle.script_core.specs.Output.{answer_of_line, history_after_line, output_from, IsLineAnswer, AreLineAnswers, texts_of, NoneIsMemory, WritesAnswers, WritesPrefix, Counts, AnswersScript, AnswersEndedLines}
+use Rattle.script_core.specs.Output.{answer_of_line, history_after_line, output_from, IsLineAnswer, AreLineAnswers, texts_of, NoneIsMemory, WritesAnswers, WritesPrefix, Counts, AnswersScript, AnswersInput, AnswersEndedLines, WritesInputPrefix}
+use Rattle.script_core.specs.Answering.{AnswersLines}
 use Rattle.line_core.proofs.Inputs.{input_from, script_of-whole, script_of-too_long, lines_until-short}
 use Rattle.script_core.proofs.Progress.{AppendsFront-all}
 
@@ -65,22 +66,22 @@ WritesPrefix-all lines given old new w = record {
 }
 
 -- the lines that were answered are the script's first
-pub prefix_written : (known : Option (List ℕ)) (lines : List (List ℕ)) (said : List Line) (old new : Option (List ℕ)) → BeginsScript known lines said → WritesPrefix said old new → (script : List ℕ) × IsInput known script × WritesPrefix (script_of script) old new
+pub prefix_written : (known : Option (List ℕ)) (lines : List (List ℕ)) (said : List Line) (old new : Option (List ℕ)) → BeginsScript known lines said → WritesPrefix said old new → WritesInputPrefix known old new
 prefix_written known lines said old new b w = (b.script, b.is, WritesPrefix-more said b.rest (script_of b.script) old new b.first w)
 
 module _ (known left : Option (List ℕ)) (bytes : List ℕ) (end : Ending) (lines : List Line) (read : WasRead known left bytes end) (among : lines ≡ lines_until end (take SCRIPT_BYTES bytes)) (old new : Option (List ℕ)) where
-  pub all_written : (totals : Totals) → (end ≡ ending.Whole) ⊎ (end ≡ ending.TooLong) → (given : List Answer) × WritesAnswers lines given old new × Counts totals given → (script : List ℕ) × IsInput known script × AnswersScript script totals old new
+  pub all_written : (totals : Totals) → (end ≡ ending.Whole) ⊎ (end ≡ ending.TooLong) → AnswersLines lines totals old new → AnswersInput known totals old new
   all_written totals ends w =
       let input = input_from known left bytes read.consumed in
       let whole : script_of input.0 ≡ lines_until end (take SCRIPT_BYTES bytes) = elim ends [
         | inl e ↦ script_of-whole known left bytes input.0 input.1 (subst (EndsSo left bytes) e read.ends) ∙ ap (λ x. lines_until x (take SCRIPT_BYTES bytes)) (sym e)
         | inr e ↦ script_of-too_long known left bytes input.0 input.1 (subst (EndsSo left bytes) e read.ends) ∙ ap (λ x. lines_until x (take SCRIPT_BYTES bytes)) (sym e)
       ] in
-      (input.0, input.1.input, AnswersScript-from input.0 lines w.0 totals old new (whole ∙ sym among) w.1 w.2)
+      (input.0, input.1.input, AnswersScript-from input.0 lines w.given totals old new (whole ∙ sym among) w.answers w.counts)
 
-  pub ended_written : (totals : Totals) → end ≡ ending.Failed → (given : List Answer) × WritesAnswers lines given old new × Counts totals given → AnswersEndedLines known left old new
+  pub ended_written : (totals : Totals) → end ≡ ending.Failed → AnswersLines lines totals old new → AnswersEndedLines known left old new
   ended_written totals e w =
       let short : length bytes ≤ SCRIPT_BYTES = subst (EndsSo left bytes) e read.ends in
       let lines_are : lines ≡ lines_until ending.Failed bytes = among ∙ ap (λ x. lines_until x (take SCRIPT_BYTES bytes)) e ∙ lines_until-short ending.Failed bytes short in
-      let answers : WritesAnswers (lines_until ending.Failed bytes) w.0 old new = subst (λ ls. WritesAnswers ls w.0 old new) lines_are w.1 in
-      record { bytes = bytes; consumed = read.consumed; few = short; given = w.0; answers = answers }
+      let answers : WritesAnswers (lines_until ending.Failed bytes) w.given old new = subst (λ ls. WritesAnswers ls w.given old new) lines_are w.answers in
+      record { bytes = bytes; consumed = read.consumed; few = short; given = w.given; answers = answers }

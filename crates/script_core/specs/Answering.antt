@@ -1,18 +1,15 @@
 -- Lines that are answered one after another.
-use Rattle.std.specs.Prelude.{◌≡◌, ◌≤◌, ◌+◌, ◌⊎◌, ℕ, List, [], ◌∷◌, ◌++◌, Option, None, Some, Result, Ok, OnOk, OnErr, IfOk, IfErr, if◌then◌else◌}
+use Rattle.std.specs.Prelude.{◌≡◌, ℕ, List, [], ◌∷◌, ◌++◌, Option}
 use Rattle.std.specs.Io.KnownBytes.{Appends}
 use Rattle.point_core.specs.declared.refusal.Refusal.{Refusal}
-use Rattle.point_core.specs.declared.refusal.Refusal.TheVariants.{Write as WriteFault, Memory}
-use Rattle.line_core.specs.declared.line.Body.{Body}
 use Rattle.command_core.specs.declared.command.Command.{Command}
 use Rattle.command_core.specs.declared.answer.Answer.{Answer}
-use Rattle.desk_core.specs.theorem.Answer.{is_refused}
 use Rattle.desk_core.specs.theorem.Desk.{DeskState, HasHistory}
 use Rattle.line_core.specs.declared.line.Line.{Line}
 use Rattle.script_core.specs.declared.totals.Totals.{Totals}
-use Rattle.report_core.specs.Bytes.{AppendsFront, PassesOn}
+use Rattle.report_core.specs.Bytes.{PassesOn}
 use Rattle.report_core.specs.Answer.{text_of}
-use Rattle.script_core.specs.Output.{history_after_line, IsLineAnswer, AreLineAnswers, refusal_of, texts_of, Grows, WritesAnswers, WritesPrefix, Counts}
+use Rattle.script_core.specs.Output.{history_after_line, IsLineAnswer, AreLineAnswers, refusal_of, texts_of, WritesAnswers, WritesPrefix, Counts}
 
 -- the history after lines with these answers
 abbrev pub history_along : List Command → List Line → List Answer → List Command
@@ -62,37 +59,8 @@ pub record AnswersLine (l : Line) (refused : Option Refusal) (before after : Ans
   pub passed : PassesOn before.out after.out (text_of l.number given) old new
   pub refusal : refusal_of given ≡ refused
 
--- The answer of line `number` was counted, and its text was passed on, or a part of what was pending was written.
-pub record Passes (number : ℕ) (given : Answer) (passed : Result (Option Refusal) Refusal) (before after : AnswersState)
-    (old new : Option (List ℕ)) : Type 0 where
-  pub ok : OnOk passed (PassesOn before.out after.out (text_of number given) old new)
-  pub refused : IfOk passed (λ refused. refusal_of given ≡ refused)
-  pub err : OnErr passed (AppendsFront old new (before.out ++ text_of number given))
-  pub desk : after.desk ≡ before.desk
-  pub lines : after.totals.lines ≡ before.totals.lines + 1
-  pub counted : after.totals.refused ≡ before.totals.refused + (if is_refused given then 1 else 0)
-  pub refusals : IfErr passed (λ refusal. (refusal ≡ WriteFault) ⊎ (refusal ≡ Memory))
-
 -- the lines were answered, and the totals count them
 pub record AnswersLines (lines : List Line) (totals : Totals) (old new : Option (List ℕ)) : Type 0 where
   pub given : List Answer
   pub answers : WritesAnswers lines given old new
   pub counts : Counts totals given
-
--- Line `number` was answered, or an answer could not be passed on: all clauses of `answer_body` as one proposition.
-pub record IsAnswered (number : ℕ) (body : Body) (given : Result (Option Refusal) Refusal) (before after : AnswersState)
-    (old new : Option (List ℕ)) : Type 0 where
-  pub ok : OnOk given ((done : List Line) → (start : Option (List ℕ)) → HasAnswered done before start old
-      → HasAnswered (done ++ record { number = number; body = body } ∷ []) after start new)
-  pub refused : IfOk given (λ refused. AnswersLine (record { number = number; body = body }) refused before after old new)
-  pub err : OnErr given ((done : List Line) → (start : Option (List ℕ)) → HasAnswered done before start old
-      → WritesPrefix (done ++ record { number = number; body = body } ∷ []) start new)
-  pub grows : Grows old new
-  pub lines : after.totals.lines ≤ before.totals.lines + 1
-  pub refusals : IfErr given (λ refusal. (refusal ≡ WriteFault) ⊎ (refusal ≡ Memory))
-
--- If there is a body, its line was answered; else nothing happened.
-abbrev pub IsAnsweredIf : ℕ → Option Body → Result (Option Refusal) Refusal → AnswersState → AnswersState
-    → Option (List ℕ) → Option (List ℕ) → Type 0
-IsAnsweredIf number None given before after old new = (given ≡ Ok None) × (after ≡ before) × (new ≡ old)
-IsAnsweredIf number (Some body) given before after old new = IsAnswered number body given before after old new

@@ -18,15 +18,7 @@ use Rattle.line_core.specs.declared.script.Ending.TheVariants as ending
 use Rattle.line_core.specs.declared.script.TheConstants.{SCRIPT_BYTES}
 use Rattle.line_core.specs.Reading.{IsInput}
 use Rattle.line_core.specs.Script.{script_of, lines_until}
-use Rattle.desk_core.specs.declared.report.BufferTops.{BufferTops}
-use Rattle.desk_core.specs.theorem.Desk.{DeskState}
-use Rattle.desk_core.specs.Keeping.{named_buffer}
-use Rattle.report_core.specs.Tables.{buffer_text}
 use Rattle.report_core.specs.Answer.{text_of}
-
--- the part of a report of a buffer whose tops are not named yet
-abbrev pub tops_text : DeskState → BufferTops → List ℕ
-tops_text desk b = buffer_text (named_buffer desk.timelines b)
 
 -- the unique answer of a line
 abbrev pub answer_of_line : List Command → Body → Answer
@@ -64,12 +56,7 @@ AreLineAnswers history (l ∷ ls) (a ∷ rest) =
 -- the refusal, if the answer is one
 abbrev pub refusal_of : Answer → Option Refusal
 refusal_of (answer.Refused refusal) = Some refusal
-refusal_of answer.Done = None
-refusal_of (answer.Value n) = None
-refusal_of (answer.Raised n fired) = None
-refusal_of (answer.Info i) = None
-refusal_of (answer.Show rows) = None
-refusal_of (answer.Report report) = None
+refusal_of _ = None
 
 abbrev pub texts_of : List Line → List Answer → List ℕ
 texts_of [] given = []

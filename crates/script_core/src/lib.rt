@@ -3,17 +3,12 @@
 //! `specs/Output.antt` defines the output of a script.
 #![tactic(auto)]
 
-mod answerer;
-mod answering;
 mod answers;
-mod next_line;
 mod reading;
-mod report;
 mod totals;
 
-pub use answerer::{Answerer, NoNotes};
 pub use answers::{Answers, answer_line};
 pub use line_core::{Body, Line, LineCutter, read_script};
-pub use reading::{answer_script, engine};
+pub use reading::engine;
 pub use report_core::{done_line, print, refusal_line, value_line, write_many, write_out};
 pub use totals::Totals;

@@ -2,11 +2,8 @@
 //! answer.
 ghost use Rattle.std.specs.Prelude.{[]};
 ghost use Rattle.script_core.specs.Answering.{HasAnswered};
-ghost use Rattle.script_core.specs.Notes.{NotesFollow};
 ghost use Rattle.script_core.specs.Run.{RunsScript};
 
-use crate::answerer::{Answerer, NoNotes};
-use crate::answering::Answering;
 use crate::answers::Answers;
 use crate::totals::Totals;
 use line_core::{Ending, for_each_line};
@@ -31,47 +28,21 @@ pub fn engine<R: Read, W: Write>(
     ensures run { RunsScript result (R.remaining reader.old) (R.remaining reader.new)
         (W.contents writer.old) (W.contents writer.new) }
 {
-    answer_script(alloc, &mut NoNotes, reader, writer, &mut ())
-}
-
-/// Runs a script as `engine` does, but has each line answered by `answerer`, which may write notes about it to `notes`.
-///
-/// Fails as `engine` does: also with Write if a write of a note failed, and with Memory if `answerer` could not
-/// allocate.
-pub fn answer_script<R: Read, W: Write, N, A: Answerer<N>>(
-    alloc: Global,
-    answerer: &mut A,
-    reader: &mut R,
-    writer: &mut W,
-    notes: &mut N,
-) -> Result<Totals, Refusal>
-    ensures run { RunsScript result (R.remaining reader.old) (R.remaining reader.new)
-        (W.contents writer.old) (W.contents writer.new) }
-
-    // Whatever the result, each note follows the answers of all lines up to its own.
-    ensures follows { NotesFollow A.noted (R.remaining reader.old) (W.contents writer.old) (W.contents writer.new)
-        notes.old notes.new }
-{
     let mut answers = Answers::new(alloc)?;
-    with_answers(answerer, &mut answers, reader, writer, notes)
+    with_answers(&mut answers, reader, writer)
 }
 
-fn with_answers<R: Read, W: Write, N, A: Answerer<N>>(
-    answerer: &mut A,
+fn with_answers<R: Read, W: Write>(
     answers: &mut Answers,
     reader: &mut R,
     writer: &mut W,
-    notes: &mut N,
 ) -> Result<Totals, Refusal>
     requires fresh { HasAnswered [] answers.old (W.contents writer.old) (W.contents writer.old) }
     ensures run { RunsScript result (R.remaining reader.old) (R.remaining reader.new)
         (W.contents writer.old) (W.contents writer.new) }
-    ensures follows { NotesFollow A.noted (R.remaining reader.old) (W.contents writer.old) (W.contents writer.new)
-        notes.old notes.new }
 {
-    let mut answering = Answering { answerer, answers };
-    let ending = for_each_line(reader, &mut answering, writer, notes)?;
-    let totals = answering.answers.finish(writer)?;
+    let ending = for_each_line(reader, answers, writer, &mut ())?;
+    let totals = answers.finish(writer)?;
     match ending {
         Ending::Failed => Err(Refusal::Read),
         Ending::Whole | Ending::TooLong => Ok(totals),
