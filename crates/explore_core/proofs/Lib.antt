@@ -17,3 +17,5 @@ pub mod Replaying
 pub mod Parting
 pub mod Recording
 pub mod Counting
+pub mod Leaving
+pub mod Commuting

@@ -13,6 +13,7 @@ ghost use Rattle.command_core.specs.declared.answer.Answer.{Answer};
 ghost use Rattle.explore_core.specs.Schedule.{Lines, Standing, Schedule, ComesTo, IsStuck, IsAnswered};
 ghost use Rattle.explore_core.specs.Covering.{MayAsk, AreEnough, HasAlike, AnswersThere, IsStuckThere};
 ghost use Rattle.explore_core.specs.Alike.{AsksOnly, AreAlike, after_answer, answers_along};
+ghost use Rattle.explore_core.specs.Independence.{AreIndependent, Commute, IsRoomy, Passes};
 
 /// No command distinguishes alike worlds, and after it they are alike again: so they answer alike forever.
 pub fn alike_worlds_answer_alike()
@@ -33,6 +34,13 @@ pub fn desks_that_look_alike_answer_alike()
     ensures ever { (asked : List ℕ → Bool) (d e : DeskState) (history other cs : List Command) →
         HasHistory d history → HasHistory e other → LooksAlike asked d e → All (AsksOnly asked) cs →
         answers_along (world_of history) cs ≡ answers_along (world_of other) cs }
+{}
+
+/// Independent commands commute: whichever is made first, both are answered alike, and the worlds after both are alike. So two
+/// schedules that differ only in the order of two such lines give the same answers forever.
+pub fn independent_commands_commute()
+    ensures { (asked : List ℕ → Bool) (w : World) (c d : Command) →
+        IsRoomy w → AreIndependent asked c d → Passes w c → Passes w d → Commute asked w c d }
 {}
 
 /// A search that has visited enough standings (`AreEnough`) has seen every schedule: where it leads, how its lines are answered,
