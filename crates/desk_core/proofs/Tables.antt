@@ -1,10 +1,8 @@
 -- What is reported of a buffer and of everything is what the world has.
-use Rattle.std.proofs.Common.{◌≡◌, ℕ, suc, ◌+◌, ◌<◌, ◌≤◌, refl, sym, ap, subst, ◌∙◌, List, [], ◌∷◌, length, map, get_or, option_map, unwrap_or, arith, All}
-use Rattle.std.specs.List.{IsDistinct, sum, sum_by}
-use Rattle.std.proofs.lemmas.List.{length-map, get_or-map}
-use Rattle.std.proofs.lemmas.List.Sums.{sum-map}
+use Rattle.std.proofs.Common.{◌≡◌, ℕ, suc, ◌<◌, ◌≤◌, refl, ap, subst, ◌∙◌, List, [], ◌∷◌, length, map, get_or, option_map, unwrap_or, arith, All}
+use Rattle.std.specs.List.{IsDistinct}
 use Rattle.std.proofs.lemmas.Simd.{map-map}
-use Rattle.std.proofs.lemmas.List.Elements.{All-from_get_or, All-head, All-map, All-tail}
+use Rattle.std.proofs.lemmas.List.Elements.{All-head, All-tail}
 use Rattle.point_core.specs.declared.context.TheConstants.{CONTEXTS}
 use Rattle.point_core.specs.declared.status.Status.{Status}
 use Rattle.point_core.specs.Named.{same_name}
@@ -14,27 +12,23 @@ use Rattle.point_core.specs.Agreement.{all_reached, as_entries}
 use Rattle.point_core.proofs.Agreement.{AgreesAbove-sym}
 use Rattle.point_core.proofs.Reached.{all_reached-AgreesAbove}
 use Rattle.point_core.specs.declared.timeline_row.TimelineRow.{TimelineRow}
-use Rattle.timeline_core.specs.Timeline.{Timeline, clocks_of, reach_of, rows_of as timeline_rows}
+use Rattle.timeline_core.specs.Timeline.{clocks_of, reach_of, rows_of as timeline_rows}
 use Rattle.syncfile_core.specs.SyncFile.{File}
-use Rattle.point_core.specs.declared.listing.TopRow.{TopRow}
-use Rattle.resv_core.specs.Resv.{rows_of}
 use Rattle.resv_core.proofs.Runs.{rows_of-AgreesAbove}
-use Rattle.dmabuf_core.specs.Buffers.{Buffer, names_of, entries_of}
+use Rattle.dmabuf_core.specs.Buffers.{names_of, entries_of}
 use Rattle.command_core.specs.declared.command.Command.TheVariants as command
 use Rattle.command_core.specs.declared.answer.Answer.TheVariants as answer
 use Rattle.command_core.specs.declared.answer.ShowRow.{ShowRow}
 use Rattle.command_core.specs.declared.answer.FileRow.{FileRow}
 use Rattle.command_core.specs.declared.answer.BufferRows.{BufferRows}
-use Rattle.command_core.specs.Tables.{Tables, row_count, rows_beside}
-use Rattle.desk_core.specs.declared.report.BufferTops.{BufferTops}
-use Rattle.desk_core.specs.declared.report.ReportTops.{ReportTops}
+use Rattle.command_core.specs.Tables.{Tables}
 use Rattle.desk_core.specs.theorem.World.{World, MadeFile, MadeBuffer, buffer_put_set}
 use Rattle.desk_core.specs.theorem.Answer.{listed_points, fence_count, show_row, show_rows, file_row, buffer_rows, report_of}
 use Rattle.desk_core.specs.theorem.Desk.{DeskState}
 use Rattle.desk_core.specs.Sound.{WasMade}
-use Rattle.desk_core.specs.Keeping.{AreRowsMade, HasNoneBehind, Keeps, IsDone, file_row_at, buffer_rows_at, buffer_tops_at, buffers_with_tops, named_buffer, named_tables, report_at, tops_beside, tops_count}
+use Rattle.desk_core.specs.Keeping.{Keeps, IsDone, file_row_at, buffer_rows_at, report_at}
 use Rattle.desk_core.proofs.Keeping.{kept_names, kept_points, made_names, made_points, AgreesAbove-listed_points}
-use Rattle.desk_core.proofs.Reporting.{named-own, rows_of-made}
+use Rattle.desk_core.proofs.Reporting.{named-own}
 
 -- a buffer
 
@@ -47,10 +41,6 @@ IsDone-show desk name rows is = record {
   reported = λ world k. ap answer.Show (is ∙ ap (λ ts. show_rows ts (entries_of desk.buffers name)) k.holds.timelines ∙ show_rows-keeps k name);
   held = λ world k. k.holds;
 }
-
--- the rows of the buffer's tops
-pub IsDone-tops : (desk : DeskState) (name : List ℕ) (tops : List TopRow) (rows : List ShowRow) → tops ≡ rows_of (entries_of desk.buffers name) (reach_of desk.timelines) → rows ≡ map (show_row desk.timelines) tops → IsDone desk (command.Show name) (answer.Show rows) desk
-IsDone-tops desk name tops rows table is = IsDone-show desk name rows (is ∙ ap (map (show_row desk.timelines)) table)
 
 -- the files
 
@@ -116,51 +106,17 @@ report-keeps {desk} {world} k =
     ap (λ files. report_with timelines files (map (buffer_rows_at world.timelines desk.buffers) (names_of desk.buffers))) (file_rows-reported world desk.files world.files k.sound.made k.sound.timelines.room k.holds.names k.holds.points)
     ∙ ap (report_with timelines (map (file_row world) world.files)) (buffer_rows-reported k)
 
-pub IsDone-report : (desk : DeskState) (report : Tables) → report ≡ report_at desk.timelines desk.files desk.buffers → IsDone desk command.Report (answer.Report report) desk
-IsDone-report desk report is = record {
-  accepted = refl;
-  reported = λ world k. ap answer.Report (is ∙ ap (λ ts. report_at ts desk.files desk.buffers) k.holds.timelines ∙ report-keeps k);
-  held = λ world k. k.holds;
-}
-
--- the tops of all buffers, which are then named
-
-pub IsDone-report_tops : (desk : DeskState) (timelines : List TimelineRow) (files : List FileRow) (buffers : List BufferTops) → timelines ≡ timeline_rows desk.timelines → files ≡ map (file_row_at (clocks_of desk.timelines)) desk.files → buffers ≡ map (buffer_tops_at (reach_of desk.timelines) desk.buffers) (names_of desk.buffers)
-    → IsDone desk command.Report (answer.Report (named_tables desk.timelines (record { timelines = timelines; files = files; buffers = buffers }))) desk
-IsDone-report_tops desk timelines files buffers alike same equal =
+pub IsDone-report : (desk : DeskState) (timelines : List TimelineRow) (files : List FileRow) (buffers : List BufferRows)
+    → timelines ≡ timeline_rows desk.timelines → files ≡ map (file_row_at (clocks_of desk.timelines)) desk.files → buffers ≡ map (buffer_rows_at desk.timelines desk.buffers) (names_of desk.buffers)
+    → IsDone desk command.Report (answer.Report (report_with timelines files buffers)) desk
+IsDone-report desk timelines files buffers alike same equal =
     let ts = desk.timelines in
-    let bs = desk.buffers in
-    let rows : map (named_buffer ts) buffers ≡ map (buffer_rows_at ts bs) (names_of bs) = ap (map (named_buffer ts)) equal ∙ map-map (named_buffer ts) (buffer_tops_at (reach_of ts) bs) (names_of bs) in
-    IsDone-report desk _ (
-    ap (λ rs. report_with rs files (map (named_buffer ts) buffers)) alike
-    ∙ ap (λ rs. report_with (timeline_rows ts) rs (map (named_buffer ts) buffers)) same
-    ∙ ap (report_with (timeline_rows ts) (map (file_row_at (clocks_of ts)) desk.files)) rows
-    )
-
--- a row for each top, before it is named and after
-sum_by-named : (ts : List Timeline) (bs : List BufferTops) → sum_by tops_beside bs ≡ sum_by rows_beside (map (named_buffer ts) bs)
-sum_by-named ts bs =
-    let rows = λ (b : BufferTops). rows_beside (named_buffer ts b) in
-    let each : map tops_beside bs ≡ map rows bs = map-same tops_beside rows bs (λ i d within. ap (λ n. n + 1) (sym (length-map (get_or bs i d).tops (show_row ts)))) in
-    sym (sum-map tops_beside bs)
-    ∙ ap sum (each ∙ sym (map-map rows_beside (named_buffer ts) bs))
-    ∙ sum-map rows_beside (map (named_buffer ts) bs)
-
-pub tops_count-named : (ts : List Timeline) (report : ReportTops) → tops_count report ≡ row_count (named_tables ts report)
-tops_count-named ts report = ap (λ n. length report.timelines + length report.files + n) (sum_by-named ts report.buffers)
-
--- the tops of each buffer are of timelines that were made
-pub tops-made : (ts : List Timeline) (bs : List Buffer) (tops : List BufferTops) → ((name : List ℕ) → HasNoneBehind (length ts) (reach_of ts) (entries_of bs name)) → tops ≡ map (buffer_tops_at (reach_of ts) bs) (names_of bs) → All (λ (b : BufferTops). AreRowsMade (length ts) b.tops) tops
-tops-made ts bs tops behind is =
-    let P = λ (b : BufferTops). AreRowsMade (length ts) b.tops in
-    let at = buffer_tops_at (reach_of ts) bs in
-    subst (All P) (sym is) (All-map P at (names_of bs) (All-from_get_or (λ (name : List ℕ). P (at name)) (names_of bs) [] (λ i within. rows_of-made (length ts) (reach_of ts) (entries_of bs (get_or (names_of bs) i [])) (behind (get_or (names_of bs) i [])))))
-
--- the tops of a buffer of the desk are its table
-pub table-at : (desk : DeskState) (tops : List BufferTops) (i : ℕ) (b : BufferTops) → tops ≡ buffers_with_tops desk → i < length tops → b ≡ get_or tops i b → (name : List ℕ) × (b.tops ≡ rows_of (entries_of desk.buffers name) (reach_of desk.timelines))
-table-at desk tops i b is within at =
-    let of_name = buffer_tops_at (reach_of desk.timelines) desk.buffers in
-    let names = names_of desk.buffers in
-    let inside : i < length names = omega (arith, ap length is, length-map names of_name, within) in
-    let same : b ≡ of_name (get_or names i []) = at ∙ ap (λ xs. get_or xs i b) is ∙ get_or-map of_name names i [] b inside in
-    (get_or names i [], ap (λ (x : BufferTops). x.tops) same)
+    let is : report_with timelines files buffers ≡ report_at ts desk.files desk.buffers =
+    ap (λ rs. report_with rs files buffers) alike
+    ∙ ap (λ rs. report_with (timeline_rows ts) rs buffers) same
+    ∙ ap (report_with (timeline_rows ts) (map (file_row_at (clocks_of ts)) desk.files)) equal in
+    record {
+      accepted = refl;
+      reported = λ world k. ap answer.Report (is ∙ ap (λ ts. report_at ts desk.files desk.buffers) k.holds.timelines ∙ report-keeps k);
+      held = λ world k. k.holds;
+    }

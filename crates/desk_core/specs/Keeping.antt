@@ -1,5 +1,5 @@
 -- The contracts of the functions of single commands, for the proof of `step`.
-use Rattle.std.specs.Prelude.{◌≡◌, ℕ, ◌+◌, ◌≤◌, ◌<◌, Bool, false, nat_lt, if◌then◌else◌, List, [], ◌∷◌, ◌++◌, map, length, All, Option, None, Some, option_map, unwrap_or, Result, Ok, Err}
+use Rattle.std.specs.Prelude.{◌≡◌, ℕ, ◌≤◌, ◌<◌, Bool, false, nat_lt, if◌then◌else◌, List, [], ◌∷◌, map, length, All, Option, None, Some, option_map, unwrap_or, Result, Ok, Err}
 use Rattle.point_core.specs.declared.entry.Point.{Point}
 use Rattle.point_core.specs.declared.context.TheConstants.{CONTEXTS}
 use Rattle.point_core.specs.declared.refusal.Refusal.{Refusal}
@@ -10,9 +10,8 @@ use Rattle.point_core.specs.Latest.{raised_to}
 use Rattle.point_core.specs.Reach.{value_at, IsAtLeast}
 use Rattle.point_core.specs.declared.entry.Entry.{Entry}
 use Rattle.point_core.specs.declared.clocks.Clock.{Clock}
-use Rattle.point_core.specs.declared.status.Status.{Status}
 use Rattle.point_core.specs.Clocks.{common_status}
-use Rattle.std.specs.List.{list_any, sum_by}
+use Rattle.std.specs.List.{list_any}
 use Rattle.std.specs.Option.{option_map_or}
 use Rattle.timeline_core.specs.Timeline.{Timeline, has_timeline, clocks_of, reach_of, is_closed, cause_if_not_open, cause_to_refuse_inc, rows_of as timeline_rows}
 use Rattle.syncfile_core.specs.SyncFile.{File, file_at as sync_file_at}
@@ -22,7 +21,6 @@ use Rattle.dmabuf_core.specs.Flags.{is_sync_flags}
 use Rattle.dmabuf_core.specs.Buffers.{Buffer, entries_of, names_of, has_buffer, cause_to_refuse as cause_to_refuse_buffer, cause_without, cause_by_flags}
 use Rattle.fence_core.specs.Watches.{fires, cause_to_refuse_watch}
 use Rattle.command_core.specs.declared.answer.Info.{Info}
-use Rattle.command_core.specs.declared.answer.FenceRow.{FenceRow}
 use Rattle.command_core.specs.declared.answer.FileRow.{FileRow}
 use Rattle.command_core.specs.declared.answer.BufferRows.{BufferRows}
 use Rattle.command_core.specs.Tables.{Tables}
@@ -31,11 +29,8 @@ use Rattle.command_core.specs.declared.answer.Answer.{Answer}
 use Rattle.command_core.specs.declared.answer.Answer.TheVariants as answer
 use Rattle.command_core.specs.declared.command.Command.{Command}
 use Rattle.command_core.specs.declared.command.Command.TheVariants as command
-use Rattle.resv_core.specs.Resv.{rows_of}
-use Rattle.desk_core.specs.declared.report.BufferTops.{BufferTops}
-use Rattle.desk_core.specs.declared.report.ReportTops.{ReportTops}
 use Rattle.desk_core.specs.theorem.World.{World, after, reach_by}
-use Rattle.desk_core.specs.theorem.Answer.{reported, is_refused, fence_row, stub_row, or_stub, show_row, show_rows, fence_count}
+use Rattle.desk_core.specs.theorem.Answer.{reported, is_refused, fence_row, or_stub, show_rows, fence_count}
 use Rattle.desk_core.specs.theorem.Desk.{DeskState, Holds}
 use Rattle.desk_core.specs.Sound.{IsSound}
 
@@ -66,14 +61,6 @@ info_at ts name ps = record {
   status = common_status (clocks_of ts) ps;
   fences = or_stub (map (fence_row ts) ps);
 }
-
--- the rows of points, and after them the stub's if it is still to come
-abbrev pub fence_rows : List Timeline → List Point → Bool → List FenceRow
-fence_rows ts ps has_stub = map (fence_row ts) ps ++ (if has_stub then stub_row ∷ [] else [])
-
--- the answer of `info`
-abbrev pub info_answer : List ℕ → Status → List FenceRow → Answer
-info_answer name status fences = answer.Info (record { name = name; status = status; fences = fences })
 
 -- the desk holds what a sound world has
 pub record Keeps (desk : DeskState) (world : World) : Type 0 where
@@ -115,30 +102,6 @@ report_at ts fs bs = record {
   files = map (file_row_at (clocks_of ts)) fs;
   buffers = map (buffer_rows_at ts bs) (names_of bs);
 }
-
--- a buffer with its pending tops at a reach
-abbrev pub buffer_tops_at : List ℕ → List Buffer → List ℕ → BufferTops
-buffer_tops_at reach bs name = record { name = name; tops = rows_of (entries_of bs name) reach }
-
--- the buffers of a desk, each with its pending tops
-abbrev pub buffers_with_tops : DeskState → List BufferTops
-buffers_with_tops d = map (buffer_tops_at (reach_of d.timelines) d.buffers) (names_of d.buffers)
-
--- the buffer's row, and a row for each of its tops
-abbrev pub tops_beside : BufferTops → ℕ
-tops_beside b = length b.tops + 1
-
--- the rows of a report whose tops are not named yet, as `row_count` counts them
-abbrev pub tops_count : ReportTops → ℕ
-tops_count t = length t.timelines + length t.files + sum_by tops_beside t.buffers
-
--- a buffer's tops are named
-abbrev pub named_buffer : List Timeline → BufferTops → BufferRows
-named_buffer ts b = record { name = b.name; rows = map (show_row ts) b.tops }
-
--- all tops are named
-abbrev pub named_tables : List Timeline → ReportTops → Tables
-named_tables ts t = record { timelines = t.timelines; files = t.files; buffers = map (named_buffer ts) t.buffers }
 
 -- the first of two causes
 abbrev pub first_cause : Option Refusal → Option Refusal → Option Refusal

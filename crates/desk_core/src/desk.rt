@@ -3,8 +3,8 @@
 ghost use Rattle.std.specs.Prelude.{◌≡◌, ◌≢◌, ◌↔◌, false, ◌≤◌, List, ℕ, [], length, map, option_copied, option_map, IsTrue, IsSome, IfSome, IsOk, IfOk, IfErr, OnErr, OnOk};
 ghost use Rattle.command_core.specs.declared.command.Command.{Command};
 
-use crate::info::FenceRows;
-use crate::report::{self, ReportTops, ShowRows};
+use crate::info::fence_rows;
+use crate::report;
 use command_core::{Answer, Command, Info, Report, ShowRow};
 use dmabuf_core::Buffers;
 use fence_core::Watches;
@@ -39,8 +39,7 @@ impl Model for Desk {
 }
 
 impl Desk {
-    ghost use Rattle.desk_core.specs.theorem.Answer.{OnRefused, show_row, takes_memory};
-    ghost use Rattle.point_core.specs.declared.limits.TheConstants.{BUFFERS};
+    ghost use Rattle.desk_core.specs.theorem.Answer.{OnRefused, takes_memory};
     ghost use Rattle.point_core.specs.Clocks.{status_at};
     ghost use Rattle.timeline_core.specs.Timeline.{has_timeline, name_at, clocks_of, reach_of, value_of, rows_of as timeline_rows};
     ghost use Rattle.resv_core.specs.Resv.{rows_of as table_rows};
@@ -51,7 +50,7 @@ impl Desk {
     ghost use Rattle.fence_core.specs.Watches.{has_watch};
     ghost use Rattle.desk_core.specs.theorem.History.{history_after};
     ghost use Rattle.desk_core.specs.theorem.Desk.{HasHistory, Answers};
-    ghost use Rattle.desk_core.specs.Keeping.{buffers_with_tops, cause_of, fires_kept, info_answer, named_tables, IsDone};
+    ghost use Rattle.desk_core.specs.Keeping.{cause_of, fires_kept, IsDone};
 
     /// A desk without timelines, files, buffers and watches. It takes no memory yet, so it is never refused.
     pub fn new(alloc: Global) -> Result<Desk, Refusal>
@@ -179,22 +178,6 @@ impl Desk {
         Some(file.points.as_slice())
     }
 
-    /// The answer of `info` for the file of that name: its status, and its fences one after another, without a list.
-    ///
-    /// Fails with `NoEntry`. Does not allocate.
-    #[inline(always)]
-    pub fn file_info(&self, name: &Name) -> Result<(Status, FenceRows<'_>), Refusal>
-        ensures refused { IsRefusedFor (cause_of self.now (Command.Info name.now)) result }
-        ensures sure { IfErr result (λ e. e ≢ Refusal.Memory) }
-        ensures done { IfOk result (λ (status, fences).
-            IsDone self.now (Command.Info name.now) (info_answer name.now status fences) self.now) }
-    {
-        let file = self.files.get(name).ok_or(Refusal::NoEntry)?;
-        let points = file.points.as_slice();
-        let status = self.timelines.as_clocks().common_status(points);
-        Ok((status, FenceRows::of(points, &self.timelines)))
-    }
-
     /// Whether there is a buffer of that name.
     pub fn has_buffer(&self, buffer: &Name) -> bool
         ensures { result ≡ has_buffer self.now.buffers buffer.now }
@@ -235,37 +218,6 @@ impl Desk {
         ensures rows { IfOk result (λ r. r.items ≡ table_rows (entries_of self.now.buffers buffer.now) (reach_of self.now.timelines)) }
     {
         self.buffers.table(buffer, self.timelines.as_reach())
-    }
-
-    /// What `show` answers of a buffer with those tops, which `buffer_rows` gives. No list is made of the rows.
-    #[inline(always)]
-    pub fn show_rows<'a>(&'a self, tops: &'a [TopRow]) -> ShowRows<'a>
-        requires table { (buffer : List ℕ) × (tops.now ≡ table_rows (entries_of self.now.buffers buffer) (reach_of self.now.timelines)) }
-        ensures rows { result ≡ map (show_row self.now.timelines) tops.now }
-    {
-        ShowRows::of(tops, &self.timelines)
-    }
-
-    /// The answer of `report`, but for the names of the timelines in the buffers' rows: `show_rows` gives these rows.
-    ///
-    /// Fails with `Memory` only.
-    #[inline(never)]
-    pub fn report_tops(&self) -> Result<ReportTops, Refusal>
-        ensures refused { IsRefusedFor (cause_of self.now Command.Report) result }
-        ensures buffers { IfOk result (λ report. report.buffers ≡ buffers_with_tops self.now) }
-        ensures few { IfOk result (λ report. length report.buffers ≤ BUFFERS) }
-        ensures done { IfOk result (λ r. IsDone self.now Command.Report (Answer.Report (named_tables self.now.timelines r)) self.now) }
-    {
-        let reach = self.timelines.as_reach();
-        let clocks = self.timelines.as_clocks();
-        let timelines = Items::of(self.timelines.rows()?);
-        let files = Items::of(report::file_rows(self.alloc, &self.files, clocks)?);
-        let buffers = Items::of(report::buffer_tops(self.alloc, &self.buffers, reach)?);
-        Ok(ReportTops {
-            timelines,
-            files,
-            buffers,
-        })
     }
 
     /// Whether a watch of that cookie is pending.
@@ -392,13 +344,14 @@ impl Desk {
         ensures refused { IsRefusedFor (cause_of self.now (Command.Info name)) result }
         ensures done { IfOk result (λ given. IsDone self.now (Command.Info name) (Answer.Info given) self.now) }
     {
-        let (status, rows) = self.file_info(&name)?;
-        let mut fences = Vec::with_capacity(self.alloc, rows.len())?;
-        fences.extend(rows)?;
+        let file = self.files.get(&name).ok_or(Refusal::NoEntry)?;
+        let points = file.points.as_slice();
+        let status = self.timelines.as_clocks().common_status(points);
+        let fences = Items::of(fence_rows(self.alloc, points, &self.timelines)?);
         Ok(Info {
             name,
             status,
-            fences: Items::of(fences),
+            fences,
         })
     }
 
@@ -514,16 +467,14 @@ impl Desk {
         ensures refused { IsRefusedFor (cause_of self.now Command.Report) result }
         ensures done { IfOk result (λ given. IsDone self.now Command.Report (Answer.Report given) self.now) }
     {
-        let ReportTops {
-            timelines,
-            files,
-            buffers,
-        } = self.report_tops()?;
-        let rows = report::buffer_rows(self.alloc, buffers.as_slice(), &self.timelines)?;
+        let clocks = self.timelines.as_clocks();
+        let timelines = Items::of(self.timelines.rows()?);
+        let files = Items::of(report::file_rows(self.alloc, &self.files, clocks)?);
+        let buffers = report::buffer_rows(self.alloc, &self.buffers, &self.timelines)?;
         Ok(Report {
             timelines,
             files,
-            buffers: Items::of(rows),
+            buffers: Items::of(buffers),
         })
     }
 }

@@ -15,6 +15,4 @@ pub use command_core::{
     Answer, BufferRows, Command, FenceRow, FileRow, Info, Maker, Report, ShowRow,
 };
 pub use desk::Desk;
-pub use info::FenceRows;
-pub use report::{BufferTops, ReportTops, ShowRows};
 pub use runs::run;

@@ -1,101 +1,19 @@
-//! The tables of `show` and `report`. `Desk` calls `show_rows` and `buffer_rows`, and makes `ShowRows`, with entries of timelines
-//! that were made, so each row has a name.
-ghost use Rattle.std.specs.Prelude.{◌≡◌, ◌≤◌, All, length, map, IfOk, IfErr};
+//! The tables of `show` and `report`. `Desk` calls them with entries of timelines that were made, so each row has a name.
+ghost use Rattle.std.specs.Prelude.{◌≡◌, ◌≤◌, List, ℕ, length, map, IfOk, IfErr};
 ghost use Rattle.point_core.specs.declared.limits.TheConstants.{BUFFERS};
-ghost use Rattle.dmabuf_core.specs.Buffers.{names_of};
-ghost use Rattle.desk_core.specs.declared.report.BufferTops.{BufferTops as BufferTopsModel};
+ghost use Rattle.timeline_core.specs.Timeline.{reach_of};
+ghost use Rattle.dmabuf_core.specs.Buffers.{entries_of, names_of};
 ghost use Rattle.desk_core.specs.theorem.Answer.{show_row};
-ghost use Rattle.desk_core.specs.Keeping.{AreRowsMade, file_row_at, buffer_tops_at, named_buffer, tops_count};
+ghost use Rattle.desk_core.specs.Keeping.{AreRowsMade, HasNoneBehind, buffer_rows_at, file_row_at};
 
 use command_core::{BufferRows, FileRow, ShowRow};
 use dmabuf_core::Buffers;
-use point_core::{Clocks, Items, Name, Reach, Refusal, TimelineRow, TopRow};
+use point_core::{Clocks, Items, Refusal, TopRow};
 use std::alloc::Global;
-use std::marker::Model;
 use syncfile_core::{Files, SyncFile};
 use timeline_core::Timelines;
 
-/// What a report tells: its timelines and files, and each buffer's pending tops, which are named as they are written.
-#[derive(Drop)]
-pub struct ReportTops {
-    pub timelines: Items<TimelineRow>,
-    pub files: Items<FileRow>,
-    pub buffers: Items<BufferTops>,
-}
-
-impl ReportTops {
-    /// As `Report::row_count`.
-    pub fn row_count(&self) -> u128
-        requires few { length self.now.buffers ≤ BUFFERS }
-        ensures { result ≡ tops_count self.now }
-    {
-        let timelines = self.timelines.as_slice().len() as u128;
-        let files = self.files.as_slice().len() as u128;
-        let mut count = timelines + files;
-        for buffer in self.buffers.as_slice() {
-            // the buffer's row, and a row for each of its tops
-            count += buffer.tops.as_slice().len() as u128 + 1;
-        }
-        count
-    }
-}
-
-/// A buffer, and its pending tops.
-#[derive(Drop)]
-pub struct BufferTops {
-    pub name: Name,
-    pub tops: Items<TopRow>,
-}
-
-/// The rows of a table, each with the name of its timeline: each row is made as it is asked for.
-#[derive(Drop)]
-pub struct ShowRows<'a> {
-    tops: &'a [TopRow],
-    timelines: &'a Timelines,
-}
-
-impl<'a> Model for ShowRows<'a> {
-    ghost use Rattle.std.specs.Prelude.{List, length, map};
-    ghost use Rattle.command_core.specs.declared.answer.ShowRow.{ShowRow};
-    ghost use Rattle.desk_core.specs.theorem.Answer.{show_row};
-    ghost use Rattle.desk_core.specs.Keeping.{AreRowsMade};
-
-    ghost Value = { List ShowRow };
-
-    ghost view = { λ r. map (show_row r.timelines.now) r.tops.now };
-
-    ghost invariant = { λ r. AreRowsMade (length r.timelines.now) r.tops.now };
-}
-
-impl<'a> ShowRows<'a> {
-    pub(crate) fn of(tops: &'a [TopRow], timelines: &'a Timelines) -> ShowRows<'a>
-        requires made { AreRowsMade (length timelines.now) tops.now }
-        ensures rows { result ≡ map (show_row timelines.now) tops.now }
-    {
-        ShowRows { tops, timelines }
-    }
-}
-
-impl<'a> Iterator for ShowRows<'a> {
-    type Item = ShowRow;
-
-    ghost use Rattle.std.specs.Iterator.{YieldsFirst, item_count};
-
-    ghost next_gives = { YieldsFirst (λ rows. rows) };
-
-    ghost remaining = { item_count (λ rows. rows) };
-
-    #[inline(always)]
-    fn next(&mut self) -> Option<ShowRow> {
-        let Some((top, others)) = self.tops.split_first() else {
-            return None;
-        };
-        self.tops = others;
-        Some(show_row(*top, self.timelines))
-    }
-}
-
-/// The rows of a table, as a list.
+/// The rows of a table, each with the name of its timeline.
 pub fn show_rows(
     alloc: Global,
     tops: &[TopRow],
@@ -112,7 +30,6 @@ pub fn show_rows(
     Ok(rows)
 }
 
-#[inline(always)]
 fn show_row(top: TopRow, timelines: &Timelines) -> ShowRow
     requires made { top.ctx ≤ length timelines.now }
     ensures { result ≡ show_row timelines.now top }
@@ -151,48 +68,28 @@ fn file_row(file: &SyncFile, clocks: &Clocks) -> FileRow
     }
 }
 
-/// The buffers in order of making, each with its pending tops at the reach.
-pub fn buffer_tops(
+/// The buffers in order of making, each with the rows of its pending tops.
+pub fn buffer_rows(
     alloc: Global,
     buffers: &Buffers,
-    reach: &Reach,
-) -> Result<Vec<BufferTops>, Refusal>
-    ensures tops { IfOk result (λ tops.
-        tops.items ≡ map (buffer_tops_at reach.now buffers.now) (names_of buffers.now)) }
-    ensures within { IfOk result (λ tops. length tops.items ≤ BUFFERS) }
+    timelines: &Timelines,
+) -> Result<Vec<BufferRows>, Refusal>
+    requires made { (name : List ℕ) →
+        HasNoneBehind (length timelines.now) (reach_of timelines.now) (entries_of buffers.now name) }
+    ensures rows { IfOk result (λ rows.
+        rows.items ≡ map (buffer_rows_at timelines.now buffers.now) (names_of buffers.now)) }
+    ensures within { IfOk result (λ rows. length rows.items ≤ BUFFERS) }
     ensures memory { IfErr result (λ e. e ≡ Refusal.Memory) }
 {
     let names = buffers.names()?;
     let mut listed = Vec::with_capacity(alloc, names.len())?;
     for name in &names {
-        let tops = buffers.table(name, reach)?;
-        listed.push_reserved(BufferTops {
+        let tops = buffers.table(name, timelines.as_reach())?;
+        let rows = show_rows(alloc, &tops, timelines)?;
+        listed.push_reserved(BufferRows {
             name: *name,
-            tops: Items::of(tops),
+            rows: Items::of(rows),
         });
     }
     Ok(listed)
-}
-
-/// These buffers, each with a list of its named rows.
-pub fn buffer_rows(
-    alloc: Global,
-    buffers: &[BufferTops],
-    timelines: &Timelines,
-) -> Result<Vec<BufferRows>, Refusal>
-    requires made { All (λ (b : BufferTopsModel). AreRowsMade (length timelines.now) b.tops) buffers.now }
-    requires few { length buffers.now ≤ BUFFERS }
-    ensures rows { IfOk result (λ rows. rows.items ≡ map (named_buffer timelines.now) buffers.now) }
-    ensures within { IfOk result (λ rows. length rows.items ≤ BUFFERS) }
-    ensures memory { IfErr result (λ e. e ≡ Refusal.Memory) }
-{
-    let mut rows = Vec::with_capacity(alloc, buffers.len())?;
-    for buffer in buffers {
-        let shown = show_rows(alloc, buffer.tops.as_slice(), timelines)?;
-        rows.push_reserved(BufferRows {
-            name: buffer.name,
-            rows: Items::of(shown),
-        });
-    }
-    Ok(rows)
 }

@@ -1,33 +1,50 @@
-use Rattle.std.proofs.Common.{◌≡◌, length, map, take, ap, ◌∙◌, arith, subst, sym}
-use Rattle.std.proofs.lemmas.List.{length-map, length-take}
-use Rattle.std.proofs.lemmas.List.Elements.{All-get_or}
+use Rattle.std.proofs.Common.{◌≡◌, ◌<◌, length, map, get_or, subst, ap, ◌∙◌, arith}
+use Rattle.std.proofs.lemmas.Result.{err_from_is_err_and}
+use Rattle.timeline_core.specs.Timeline.{reach_of}
+use Rattle.resv_core.specs.Resv.{rows_of}
+use Rattle.dmabuf_core.specs.Buffers.{entries_of, names_of, has_buffer}
 use Rattle.command_core.specs.declared.answer.BufferRows.{BufferRows}
-use Rattle.desk_core.specs.declared.report.BufferTops.{BufferTops}
 use Rattle.desk_core.specs.theorem.Answer.{show_row}
-use Rattle.desk_core.specs.Keeping.{AreRowsMade, named_buffer}
-use Rattle.desk_core.proofs.Reporting.{rows-next}
+use Rattle.desk_core.specs.Keeping.{buffer_rows_at}
+use Rattle.desk_core.proofs.Reporting.{rows-next, rows_of-made, has_buffer-reported, Memory-reported, within-BUFFERS}
 use Rattle.desk_core.proofs.report.buffer_rows.Goals as goal
+
+pub returns-in_err-tops-clause-memory : goal.returns-in_err-tops-clause-memory
+returns-in_err-tops-clause-memory c =
+    let bs = c.args.buffers.now in
+    let name = c.name-item.result in
+    let reported : c.deref-name-items.result.now ≡ names_of bs = c.deref-name-items.ensures.value ∙ c.in_ok-names.ensures.names in
+    let within : c.loop-name.name-index < length (names_of bs) = subst (λ ns. c.loop-name.name-index < length ns) reported c.loop-name-test.true in
+    let at : name ≡ get_or (names_of bs) c.loop-name.name-index name = c.name-item.is ∙ ap (λ ns. get_or ns c.loop-name.name-index name) reported in
+    let known = has_buffer-reported bs c.loop-name.name-index name within at in
+    let memory = Memory-reported _ (has_buffer bs name) c.in_err-tops.field-0.0 known c.in_err-tops.ensures.refused in
+    let p = err_from_is_err_and c.from_residual-in_err-tops.result c.from_residual-in_err-tops.ensures.1 in
+    rw (p.1, p.2) memory
 
 pub show_rows-requires : goal.show_rows-requires
 show_rows-requires c =
-    let made = length c.args.timelines.now in
-    let P = λ (b : BufferTops). AreRowsMade made b.tops in
-    let b = c.buffer-item.result in
-    let all = All-get_or P c.args.buffers.now c.loop-buffer.buffer-index b c.loop-buffer-test.true c.requires.made in
-    record { made = subst (AreRowsMade made) (sym c.as_slice.ensures) (subst P (sym c.buffer-item.is) all) }
-
-pub loop-buffer-preserved : goal.loop-buffer-preserved
-loop-buffer-preserved c =
     let ts = c.args.timelines.now in
-    let b = c.buffer-item.result in
-    let shown = c.of.ensures ∙ c.in_ok-shown.ensures.rows ∙ ap (map (show_row ts)) c.as_slice.ensures in
-    let row : BufferRows = record { name = b.name; rows = c.of.result } in
-    let is : row ≡ named_buffer ts b = ap (λ rows. record { name = b.name; rows = rows }) shown in
-    let rows = rows-next (named_buffer ts) c.loop-buffer.rows.items c.push_reserved.new.self.items row c.args.buffers.now c.loop-buffer.buffer-index b c.loop-buffer-test.true c.buffer-item.is c.loop-buffer.invariant.0 is c.push_reserved.ensures.items in
-    (rows, omega (arith, c.push_reserved.ensures.len, c.loop-buffer.invariant.1), c.push_reserved.ensures.capacity ∙ c.loop-buffer.invariant.2)
+    let name = c.name-item.result in
+    let entries = entries_of c.args.buffers.now name in
+    let is : c.deref.result.now ≡ rows_of entries (reach_of ts) = c.deref.ensures.value ∙ c.in_ok-tops.ensures.rows ∙ ap (rows_of entries) c.as_reach.ensures.value in
+    record { made = rw is (rows_of-made (length ts) (reach_of ts) entries (c.requires.made name)) }
+
+pub loop-name-preserved : goal.loop-name-preserved
+loop-name-preserved c =
+    let bs = c.args.buffers.now in
+    let ts = c.args.timelines.now in
+    let name = c.name-item.result in
+    let entries = entries_of bs name in
+    let reported : c.deref-name-items.result.now ≡ names_of bs = c.deref-name-items.ensures.value ∙ c.in_ok-names.ensures.names in
+    let within : c.loop-name.name-index < length (names_of bs) = subst (λ ns. c.loop-name.name-index < length ns) reported c.loop-name-test.true in
+    let at : name ≡ get_or (names_of bs) c.loop-name.name-index name = c.name-item.is ∙ ap (λ ns. get_or ns c.loop-name.name-index name) reported in
+    let tops : c.deref.result.now ≡ rows_of entries (reach_of ts) = c.deref.ensures.value ∙ c.in_ok-tops.ensures.rows ∙ ap (rows_of entries) c.as_reach.ensures.value in
+    let row : BufferRows = record { name = name; rows = c.of.result } in
+    let is : row ≡ buffer_rows_at ts bs name = ap (λ rows. record { name = name; rows = rows }) (c.of.ensures ∙ c.in_ok-rows.ensures.rows ∙ ap (map (show_row ts)) tops) in
+    let rows = rows-next (buffer_rows_at ts bs) c.loop-name.listed.items c.push_reserved.new.self.items row (names_of bs) c.loop-name.name-index name within at c.loop-name.invariant.0 is c.push_reserved.ensures.items in
+    (rows, omega (arith, c.push_reserved.ensures.len, c.loop-name.invariant.1), c.push_reserved.ensures.capacity ∙ c.loop-name.invariant.2)
 
 pub returns-clause-within : goal.returns-clause-within
 returns-clause-within c =
     let bs = c.args.buffers.now in
-    let i = c.loop-buffer.buffer-index in
-    omega (arith, ap length c.loop-buffer.invariant.0, length-map (take i bs) (named_buffer c.args.timelines.now), length-take i bs, c.requires.few)
+    within-BUFFERS bs (buffer_rows_at c.args.timelines.now bs) c.loop-name.listed.items c.loop-name.name-index c.loop-name.invariant.0 c.in_ok-names.ensures.kept.within
