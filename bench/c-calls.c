@@ -19,10 +19,7 @@ static void check(int refusal, const char *call)
 #define CHECK(call) check(call, #call)
 
 static bim_desk desk = BIM_DESK_INIT;
-static bim_seat seat = BIM_SEAT_INIT;
-static bim_file file = BIM_FILE_INIT;
 static uint64_t value;
-static int32_t status;
 
 static void inc(void)
 {
@@ -32,16 +29,6 @@ static void inc(void)
 static void wait_once(void)
 {
     bim_wait(&desk, "pending");
-}
-
-static void seat_load(void)
-{
-    bim_seat_load(&seat, 1, &value);
-}
-
-static void poll_file(void)
-{
-    bim_file_poll(&file, &seat, &status);
 }
 
 static void system_call(void)
@@ -124,8 +111,6 @@ int main(void)
     } rows[] = {
         { "bim_inc", inc, 30 },
         { "bim_wait", wait_once, 30 },
-        { "bim_seat_load", seat_load, 5 },
-        { "bim_file_poll", poll_file, 20 },
         { "getppid", system_call, 0 },
     };
     double merges = 0, closes = 0;
@@ -136,16 +121,12 @@ int main(void)
     CHECK(bim_timeline(&desk, "display", &value));
     CHECK(bim_fence(&desk, "pending", "still", 5));
     CHECK(bim_fence(&desk, "other", "display", 5));
-    CHECK(bim_words_open(&seat, 4, 0, 0));
-    CHECK(bim_file_plain(&file, 1, 5));
     printf("%-22s %8s %6s\n", "call", "ns", "goal");
     for (size_t i = 0; i < sizeof rows / sizeof rows[0]; i++)
         write_row(rows[i].name, cost(rows[i].call), rows[i].goal);
     merge_costs(&merges, &closes);
     write_row("bim_merge", merges, 120);
     write_row("bim_close", closes, 0);
-    bim_file_close(&file);
-    bim_seat_close(&seat);
     bim_desk_close(&desk);
     return 0;
 }

@@ -1,13 +1,13 @@
 /* libbimphlai: GPU fences without a GPU, for C and C++ programs.
  *
  * Timelines, sync files and the fences of shared buffers, as in Linux's sw_sync, sync_file and dma_resv. There are
- * three interfaces:
+ * two interfaces:
  *
- * - a desk names its objects by strings, and serves one call at a time;
- * - a device names its objects by numbers, holds as many as fit into memory, has the kernel's lifetimes, points and
- *   errors, and serves one call at a time;
- * - words are numbered timelines, flags and buffers that threads share without a lock, each thread with a seat of its
- *   own.
+ * - a desk names its objects by strings;
+ * - a device names its objects by numbers, holds as many as fit into memory, and has the kernel's lifetimes, points and
+ *   errors.
+ *
+ * Both serve one call at a time: threads that share a desk or a device take a lock of their own around each call.
  *
  * Rules for every call:
  *
@@ -41,16 +41,16 @@ const char *bim_version(void);
 enum bim_refusal {
     BIM_OK = 0,         /* not refused */
     BIM_SYNTAX = 1,     /* a malformed name: names have 1 to 31 letters, digits, '_', '.' and '-'; an unknown command */
-    BIM_NO_ENTRY = 2,   /* no such timeline, file, buffer, context or flag; a closed handle */
-    BIM_EXISTS = 3,     /* the name, cookie or driver exists already; an open handle where the call opens one */
+    BIM_NO_ENTRY = 2,   /* no such timeline, file or buffer; a closed handle */
+    BIM_EXISTS = 3,     /* the name or cookie exists already; an open handle where the call opens one */
     BIM_OVERFLOW = 4,   /* the value would exceed UINT64_MAX: values don't wrap */
     BIM_FLAGS = 5,      /* a number that is no usage, or invalid flags */
     BIM_LIMIT = 6,      /* a limit is reached */
     BIM_SIGNALLED = 7,  /* the file has signalled already, so it can't be watched */
     BIM_TIMED_OUT = 8,  /* the file is still active */
-    BIM_FOREIGN = 9,    /* the file was not made by these words */
-    BIM_TORN = 10,      /* no call of this library returns it */
-    BIM_NOT_ALL = 11,   /* the seat can't be divided any further */
+    BIM_FOREIGN = 9,    /* no call of this library returns it */
+    BIM_TORN = 10,      /* nor this */
+    BIM_NOT_ALL = 11,   /* nor this */
     BIM_LONG_LINE = 12, /* a line longer than BIM_LINE_BYTES */
     BIM_CANCELLED = 15, /* the timeline is closed */
     BIM_MEMORY = 16     /* malloc has no memory */
@@ -86,19 +86,17 @@ enum bim_status {
 enum {
     BIM_NAME_ROOM = 32,    /* bytes of a name, with its terminating NUL */
     BIM_DRIVER_ROOM = 8,   /* bytes of a driver's name, likewise */
-    BIM_CONTEXTS = 256,    /* timelines of a desk or of words, and so fences of a file */
-    BIM_BUFFERS = 64,      /* buffers of a desk or of words */
+    BIM_CONTEXTS = 256,    /* timelines of a desk, and so fences of a file */
+    BIM_BUFFERS = 64,      /* buffers of a desk */
     BIM_FILES = 1024,      /* files of a desk at a time */
     BIM_WATCHES = 4096,    /* watches of a desk at a time */
     BIM_LINE_BYTES = 256,  /* bytes of a line of a script, without its line feed */
-    BIM_ANSWER_ROOM = 96,  /* the least room for the answer of a line */
-    BIM_WORD_FLAGS = 65536 /* flags of words */
+    BIM_ANSWER_ROOM = 96   /* the least room for the answer of a line */
 };
 
 /* ---- A desk: objects have names -------------------------------------------------------------------------------------
  *
- * A desk is used by one thread at a time. Threads that share a desk take a lock of their own around each call. Desks
- * are independent of each other.
+ * Desks are independent of each other.
  *
  * Timelines, files and buffers have separate name spaces. Names are NUL-terminated here; the calls below whose names
  * end with _n take each name as a pointer and a length.
@@ -290,7 +288,6 @@ int bim_report_n(bim_desk *desk, bim_timeline_row *timelines, size_t timelines_r
  * point stands for the 64-bit point with these low bits that is nearest to the timeline's value. Times are nanoseconds
  * of a clock of the caller's.
  *
- * A device is used by one thread at a time. Threads that share a device take a lock of their own around each call.
  * Devices are independent of each other.
  *
  * Every call except bim_device_open fails with EBADF on a closed handle (bim_device_take_woken returns 0). ENOENT says
@@ -418,93 +415,6 @@ int bim_device_merge_n(bim_device *device, uint64_t a, uint64_t b, const char *n
                        uint64_t *file);
 int bim_device_info_n(bim_device *device, uint64_t file, bim_device_file_info *info, bim_device_fence_info *rows,
                       size_t room);
-
-/* ---- Words: timelines, flags and buffers by number, shared by threads without a lock --------------------------------
- *
- * Words have timelines with contexts from 1, and flags and buffers with numbers from 0. A seat is a thread's access to
- * them: each thread has a seat of its own, and a seat is used by one thread at a time. The words are freed with their
- * last seat. No call waits for another thread.
- */
-typedef struct bim_seat {
-    void *at;
-} bim_seat;
-#define BIM_SEAT_INIT { 0 }
-
-/* Creates words with 1 to BIM_CONTEXTS timelines at value 0, up to BIM_WORD_FLAGS flags and up to BIM_BUFFERS buffers,
- * and opens their first seat. Refused with BIM_EXISTS, BIM_LIMIT and BIM_MEMORY. */
-int bim_words_open(bim_seat *seat, size_t contexts, size_t flags, size_t buffers);
-
-/* Opens another seat of the same words, for another thread, by dividing `seat`. The first seat can be divided about
- * 4,800 times, each of the early seats divided from it at least ten times, and the seats divided from these not at all.
- * Refused with BIM_NO_ENTRY, BIM_EXISTS, BIM_NOT_ALL (the seat can't be divided any further) and BIM_MEMORY. */
-int bim_seat_part(bim_seat *seat, bim_seat *other);
-
-/* Closes a seat. A timeline that it drives keeps its value for good. The handle is closed then. Does nothing if the
- * handle is closed. */
-void bim_seat_close(bim_seat *seat);
-
-/* Makes the seat the driver of a timeline, which never has another one. The seat can still be used for all other calls.
- * Refused with BIM_NO_ENTRY and BIM_EXISTS (the timeline has or had a driver, or the seat drives a timeline). Like
- * sw_sync_timeline_create. */
-int bim_seat_drive(bim_seat *seat, uint32_t context);
-
-/* Adds n to the value of the timeline that the seat drives, and stores the new value. Refused with BIM_NO_ENTRY (the
- * seat drives none) and BIM_OVERFLOW. Like sw_sync_timeline_inc. */
-int bim_seat_inc(bim_seat *seat, uint64_t n, uint64_t *value);
-
-/* Closes the timeline that the seat drives, and stores its value. Points past the value are cancelled, and the seat
- * then drives no timeline. Refused with BIM_NO_ENTRY (the seat drives none) and BIM_OVERFLOW (at UINT64_MAX there is no
- * pending point to cancel). Like closing the descriptor of sw_sync. */
-int bim_seat_shut(bim_seat *seat, uint64_t *value);
-
-/* Stores the value of a timeline, by one load. Refused with BIM_NO_ENTRY. */
-int bim_seat_load(bim_seat *seat, uint32_t context, uint64_t *value);
-
-/* Sets a flag, and stores 1 if no call had set it before, else 0. Refused with BIM_NO_ENTRY. Like test_and_set_bit of
- * DMA_FENCE_FLAG_SIGNALED_BIT in dma_fence_signal. */
-int bim_seat_set_once(bim_seat *seat, size_t flag, int *first);
-
-/* A sync file of words, immutable once it is made. A handle is used by one thread at a time; bim_file_copy opens a
- * handle for another thread. The file is freed with its last handle. */
-typedef struct bim_file {
-    void *at;
-} bim_file;
-#define BIM_FILE_INIT { 0 }
-
-/* Creates a file with a point on a timeline. Refused with BIM_EXISTS, BIM_NO_ENTRY (contexts are 1 to BIM_CONTEXTS) and
- * BIM_MEMORY. Like sw_sync_fence_create. */
-int bim_file_plain(bim_file *file, uint32_t context, uint64_t point);
-
-/* Opens another handle of a file. Refused with BIM_NO_ENTRY, BIM_EXISTS and BIM_MEMORY. Like dup(2). */
-int bim_file_copy(bim_file *file, bim_file *other);
-
-/* Creates a file that waits for all that two files wait for, while timelines may advance: for each timeline, the latest
- * point above the value that this call loads. The three handles must be different. Refused with BIM_EXISTS,
- * BIM_NO_ENTRY, BIM_FOREIGN (other words made a file: it has a context that these words don't have, or records a value
- * that they haven't reached) and BIM_MEMORY. Like sync_merge. */
-int bim_file_merge(bim_file *file, bim_file *a, bim_file *b, bim_seat *seat);
-
-/* Stores a file's status (a bim_status), from one load of each timeline. Refused with BIM_NO_ENTRY and BIM_FOREIGN.
- * Doesn't allocate. Like poll(2) on a sync file. */
-int bim_file_poll(bim_file *file, bim_seat *seat, int32_t *status);
-
-/* Polls a file until it is no longer active, at most `tries` times. Returns BIM_OK, or BIM_TIMED_OUT. Refused with
- * BIM_NO_ENTRY and BIM_FOREIGN. Like sync_wait. */
-int bim_file_wait(bim_file *file, bim_seat *seat, uint32_t tries);
-
-/* Adds a fence to a buffer of the words: a point on a timeline, and its usage (a bim_usage). For each timeline and
- * usage, the buffer keeps the latest point. Refused with BIM_NO_ENTRY and BIM_FLAGS. Doesn't allocate. Like
- * dma_resv_add_fence. */
-int bim_board_put(bim_seat *seat, size_t buffer, uint32_t context, uint64_t point, int usage);
-
-/* Creates a file with the pending fences of a buffer of the words at this usage (a bim_usage) or a stronger one: for
- * each timeline, the latest point above the value that this call loads. Each point that this seat has put there is in
- * the file, covered by a later one, or reached. Refused with BIM_NO_ENTRY, BIM_EXISTS, BIM_FLAGS and BIM_MEMORY. Like
- * DMA_BUF_IOCTL_EXPORT_SYNC_FILE. */
-int bim_board_export(bim_file *file, bim_seat *seat, size_t buffer, int usage);
-
-/* Closes a handle of a file. The last one frees the file. Does nothing if the handle is closed. Like close(2). */
-void bim_file_close(bim_file *file);
 
 #ifdef __cplusplus
 }

@@ -1,74 +1,77 @@
-/* Two threads that share words, each with a seat of its own: one draws frames and drives a timeline, and the other
- * polls until the last frame is drawn.
+/* Two threads share a device under a lock of their own: one draws frames and advances the timeline, and the other sleeps
+ * until the fence of the last frame has signalled.
  *
  * cc -pthread threads.c $(pkg-config --cflags --libs bimphlai) -o threads
  */
 #include <bimphlai.h>
 #include <inttypes.h>
 #include <pthread.h>
-#include <sched.h>
 #include <stdio.h>
 #include <stdlib.h>
+#include <string.h>
 
-enum { GPU = 1, TIMELINES = 1, FRAMES = 1000, POLLS = 100 };
+enum { FRAMES = 1000 };
+
+/* The lock is held around each call of the device. */
+static pthread_mutex_t lock = PTHREAD_MUTEX_INITIALIZER;
+static pthread_cond_t raised = PTHREAD_COND_INITIALIZER;
+static bim_device device = BIM_DEVICE_INIT;
+static uint64_t timeline, last;
 
 /* Ends the program if a call is refused. */
-static void check(int refusal, const char *call)
+static void check(int error, const char *call)
 {
-    if (refusal == BIM_OK)
+    if (error == 0)
         return;
-    fprintf(stderr, "%s: refused with %d %s\n", call, refusal, bim_refusal_name(refusal));
+    fprintf(stderr, "%s: %s\n", call, strerror(error));
     exit(1);
 }
 #define CHECK(call) check(call, #call)
 
-static void *render(void *given)
+static void *render(void *unused)
 {
-    bim_seat *seat = given;
-    uint64_t value = 0;
-
-    CHECK(bim_seat_drive(seat, GPU));
-    while (value < FRAMES)
-        CHECK(bim_seat_inc(seat, 1, &value));
-    return NULL;
+    for (int frame = 1; frame <= FRAMES; frame++) {
+        pthread_mutex_lock(&lock);
+        CHECK(bim_device_inc(&device, timeline, 1, (uint64_t)frame));
+        pthread_cond_broadcast(&raised);
+        pthread_mutex_unlock(&lock);
+    }
+    return unused;
 }
 
-static void *display(void *given)
+static void *display(void *unused)
 {
-    bim_seat *seat = given;
-    bim_file last = BIM_FILE_INIT;
-    int32_t status;
-    int refusal;
+    int32_t signalled;
 
-    CHECK(bim_file_plain(&last, GPU, FRAMES));
-    /* The library never sleeps: this thread yields between polls. */
-    while ((refusal = bim_file_wait(&last, seat, POLLS)) == BIM_TIMED_OUT)
-        sched_yield();
-    CHECK(refusal);
-    CHECK(bim_file_poll(&last, seat, &status));
-    printf("the last frame is drawn: its status is %" PRId32 "\n", status);
-    bim_file_close(&last);
-    return NULL;
+    pthread_mutex_lock(&lock);
+    for (;;) {
+        CHECK(bim_device_is_signalled(&device, last, &signalled));
+        if (signalled)
+            break;
+        pthread_cond_wait(&raised, &lock);
+    }
+    pthread_mutex_unlock(&lock);
+    puts("the last frame is drawn");
+    return unused;
 }
 
 int main(void)
 {
-    bim_seat first = BIM_SEAT_INIT, second = BIM_SEAT_INIT;
     pthread_t renderer, displayer;
     uint64_t value;
 
-    CHECK(bim_words_open(&first, TIMELINES, 0, 0));
-    CHECK(bim_seat_part(&first, &second));
-    if (pthread_create(&renderer, NULL, render, &first) || pthread_create(&displayer, NULL, display, &second)) {
+    CHECK(bim_device_open(&device));
+    CHECK(bim_device_timeline(&device, "gpu", &timeline));
+    CHECK(bim_device_fence(&device, timeline, FRAMES, 0, &last));
+    if (pthread_create(&renderer, NULL, render, NULL) || pthread_create(&displayer, NULL, display, NULL)) {
         fputs("no thread can be started\n", stderr);
         return 1;
     }
     pthread_join(renderer, NULL);
     pthread_join(displayer, NULL);
 
-    CHECK(bim_seat_load(&second, GPU, &value));
+    CHECK(bim_device_value(&device, timeline, &value));
     printf("the timeline is at %" PRIu64 "\n", value);
-    bim_seat_close(&first);
-    bim_seat_close(&second);
+    bim_device_close(&device);
     return 0;
 }

@@ -100,35 +100,6 @@ static void close_a_device(void)
     GIVES_BACK(bim_device_close(&device));
 }
 
-static void close_files_and_seats(void)
-{
-    bim_seat seat = BIM_SEAT_INIT, other = BIM_SEAT_INIT;
-    bim_file file = BIM_FILE_INIT, copy = BIM_FILE_INIT, second = BIM_FILE_INIT, both = BIM_FILE_INIT,
-             export = BIM_FILE_INIT;
-
-    EXPECT(bim_words_open(&seat, 2, 1, 1), BIM_OK);
-    EXPECT(bim_seat_part(&seat, &other), BIM_OK);
-    EXPECT(bim_seat_drive(&other, 1), BIM_OK);
-    EXPECT(bim_file_plain(&file, 1, 5), BIM_OK);
-    EXPECT(bim_file_copy(&file, &copy), BIM_OK);
-    EXPECT(bim_file_plain(&second, 2, 7), BIM_OK);
-    EXPECT(bim_file_merge(&both, &file, &second, &seat), BIM_OK);
-    EXPECT(bim_board_put(&seat, 0, 1, 5, BIM_READ), BIM_OK);
-    EXPECT(bim_board_export(&export, &seat, 0, BIM_READ), BIM_OK);
-    GIVES_BACK(bim_file_close(&file));
-    GIVES_BACK(bim_file_close(&copy));
-    GIVES_BACK(bim_file_close(&second));
-    GIVES_BACK(bim_file_close(&both));
-    GIVES_BACK(bim_file_close(&export));
-    GIVES_BACK(bim_seat_close(&other));
-    GIVES_BACK(bim_seat_close(&seat));
-    /* A closed handle has nothing left to free. */
-    long long taken = blocks;
-    bim_file_close(&file);
-    bim_seat_close(&seat);
-    EXPECT(blocks, taken);
-}
-
 int main(void)
 {
     for (int round = 0; round < 3; round++) {
@@ -136,8 +107,6 @@ int main(void)
         close_a_desk();
         EXPECT(blocks, taken);
         close_a_device();
-        EXPECT(blocks, taken);
-        close_files_and_seats();
         EXPECT(blocks, taken);
     }
     return report("frees");

@@ -89,8 +89,6 @@ static void write_buffer(struct text *text, bim_desk *desk, const char *buffer)
 static struct {
     bim_desk desk;
     bim_device device;
-    bim_seat seat, other;
-    bim_file file, copy, second, both, export;
     uint64_t number;
     int32_t status;
     size_t count;
@@ -132,9 +130,7 @@ static void write_service(struct text *text)
     uint64_t value;
 
     text->length = 0;
-    write_text(text, "%d %d %d %d %d %d %d %d %d\n", it.desk.at != NULL, it.device.at != NULL, it.seat.at != NULL, it.other.at != NULL,
-               it.file.at != NULL, it.copy.at != NULL, it.second.at != NULL, it.both.at != NULL,
-               it.export.at != NULL);
+    write_text(text, "%d %d\n", it.desk.at != NULL, it.device.at != NULL);
     for (size_t i = 0; i < sizeof timelines / sizeof timelines[0]; i++) {
         value = KEPT;
         int refusal = bim_value(&it.desk, timelines[i], &value);
@@ -146,11 +142,6 @@ static void write_service(struct text *text)
         write_buffer(text, &it.desk, buffers[i]);
     for (uint64_t object = 1; object <= OBJECTS; object++)
         write_object(text, &it.device, object);
-    for (uint32_t context = 1; context <= 2; context++) {
-        value = KEPT;
-        int refusal = bim_seat_load(&it.seat, context, &value);
-        write_text(text, "%" PRIu32 " %d %" PRIu64 "\n", context, refusal, value);
-    }
 }
 
 static struct text before, after;
@@ -296,27 +287,6 @@ static void run_device(void)
     no_memory = BIM_MEMORY;
 }
 
-static void run_words(void)
-{
-    CALL(bim_words_open(&it.seat, 2, 1, 1), BIM_OK);
-    CALL(bim_seat_part(&it.seat, &it.other), BIM_OK);
-    CALL(bim_seat_drive(&it.seat, 1), BIM_OK);
-    CALL(bim_seat_inc(&it.seat, 4, &it.number), BIM_OK);
-    CALL(bim_seat_set_once(&it.other, 0, &it.flag), BIM_OK);
-    CALL(bim_file_plain(&it.file, 1, 5), BIM_OK);
-    CALL(bim_file_copy(&it.file, &it.copy), BIM_OK);
-    CALL(bim_file_plain(&it.second, 2, 3), BIM_OK);
-    CALL(bim_file_merge(&it.both, &it.file, &it.second, &it.other), BIM_OK);
-    CALL(bim_file_poll(&it.both, &it.seat, &it.status), BIM_OK);
-    EXPECT(it.status, BIM_IS_ACTIVE);
-    CALL(bim_file_wait(&it.both, &it.seat, 2), BIM_TIMED_OUT);
-    CALL(bim_board_put(&it.seat, 0, 2, 4, BIM_READ), BIM_OK);
-    CALL(bim_board_export(&it.export, &it.seat, 0, BIM_BOOKKEEP), BIM_OK);
-    CALL(bim_board_export(&it.export, &it.seat, 0, BIM_BOOKKEEP), BIM_EXISTS);
-    CALL(bim_file_wait(&it.export, &it.other, 1), BIM_TIMED_OUT);
-    CALL(bim_seat_shut(&it.seat, &it.number), BIM_OK);
-}
-
 /* Makes the calls that don't allocate, and closes everything. */
 static void finish(struct text *text)
 {
@@ -333,13 +303,6 @@ static void finish(struct text *text)
             write_text(text, "woken %" PRIu64 "\n", cookies[i]);
     bim_desk_close(&it.desk);
     bim_device_close(&it.device);
-    bim_file_close(&it.file);
-    bim_file_close(&it.copy);
-    bim_file_close(&it.second);
-    bim_file_close(&it.both);
-    bim_file_close(&it.export);
-    bim_seat_close(&it.seat);
-    bim_seat_close(&it.other);
     counting = false;
 }
 
@@ -351,7 +314,6 @@ static void run(struct text *text, size_t which)
     run_desk();
     run_lines();
     run_device();
-    run_words();
     finish(text);
 }
 

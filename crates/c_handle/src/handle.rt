@@ -1,5 +1,5 @@
-//! `Handle`: a pointer that C programs own. It owns a boxed value exactly while it isn't null; the handles of `c_desk`,
-//! `c_device` and `c_words` are cast to it.
+//! `Handle`: a pointer that C programs own. It owns a boxed value exactly while it isn't null; the handles of `c_desk` and
+//! `c_device` are cast to it.
 ghost use Rattle.std.specs.Prelude.{◌≡◌, true, false};
 ghost use Rattle.c_handle.specs.Owning.{handle_owns};
 

@@ -1,3 +1,0 @@
-mod FileMoved
-mod Moved
-mod Signed
