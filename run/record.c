@@ -84,12 +84,26 @@ static struct fence *new_fence(struct timeline *timeline, uint32_t seqno, uint64
     return fence;
 }
 
-/* Returns the last fence on a timeline at or below `value`, or NULL. */
+/* Returns whether a point is nearer to a timeline's first fence than to its last. */
+static bool is_early(const struct timeline *timeline, uint64_t value)
+{
+    return value < timeline->last->value && value - timeline->first->value < timeline->last->value - value;
+}
+
+/* Returns the last fence on a timeline at or below `value`, or NULL. Searches from the nearer end: points mostly rise,
+ * or fall, and the first are merged and signalled first. */
 static struct fence *last_up_to(const struct timeline *timeline, uint64_t value)
 {
     struct fence *fence = timeline->last;
 
-    while (fence && fence->value > value)
+    if (!fence || value < timeline->first->value)
+        return NULL;
+    if (is_early(timeline, value)) {
+        for (fence = timeline->first; fence->next->value <= value;)
+            fence = fence->next;
+        return fence;
+    }
+    while (fence->value > value)
         fence = fence->before;
     return fence;
 }
