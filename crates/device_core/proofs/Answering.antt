@@ -1,18 +1,17 @@
 -- The files that are woken, and the device after a timeline's closing.
-use Rattle.std.proofs.Common.{◌≡◌, ℕ, ◌+◌, ◌^◌, ◌<◌, nat_eq, ◌↔◌, inl, inr, Bool, true, false, not, cond, ◌&&◌, ◌||◌, refl, sym, ap, ◌∙◌, List, [], ◌∷◌, Option, None, Some, is_some, option_map, Contains, IsSome, IfSome, IfOk, OnOk, Result, Vec, Global, Ok, Err}
+use Rattle.std.proofs.Common.{◌≡◌, ℕ, ◌+◌, nat_eq, ◌↔◌, inl, inr, Bool, true, false, not, cond, ◌&&◌, ◌||◌, refl, sym, ap, subst, ◌∙◌, List, [], ◌∷◌, Option, None, Some, is_some, option_map, Contains, IsSome, IfSome, IfOk, OnOk, Result, Vec, Global, Ok, Err}
 use Rattle.std.specs.List.{list_all}
 use Rattle.std.specs.List.Sorted.{IsStrictlyIncreasing}
-use Rattle.std.proofs.lemmas.Bool.{cases_Bool, and_parts, and_from, or_right, lt-leb, false≢true}
+use Rattle.std.proofs.lemmas.Bool.{cases_Bool, and_parts, and_from, or_right, false≢true}
 use Rattle.point_core.specs.Reach.{GREATEST}
 use Rattle.device_core.specs.declared.fence.Signal.{Signal}
 use Rattle.device_core.specs.declared.fence.Fence.{Fence}
 use Rattle.device_core.specs.declared.fence.Timeline.{Timeline}
 use Rattle.device_core.specs.declared.errno.Errno.{Errno}
-use Rattle.device_core.specs.declared.errno.Errno.TheVariants.{Overflow}
 use Rattle.device_core.specs.theorem.Fences.{is_pending, is_due, signal_at, are_signalled, signalled_by, all_signalled_by}
 use Rattle.device_core.specs.theorem.State.{FileState, DeviceState, at, timeline_at, file_at, objects_of, raised, file_signalled, AreSignalled}
 use Rattle.device_core.specs.Woken.{is_settled_by, file_wakes}
-use Rattle.device_core.specs.theorem.Request.{value_in, with_signals, closed_timeline, dropped, closed, risen, overflow, is_waiting, has_signalled, AreWoken}
+use Rattle.device_core.specs.theorem.Request.{value_in, with_signals, closed_timeline, dropped, closed, risen, is_waiting, has_signalled, AreWoken}
 
 -- the objects of a device after a timeline is closed
 objects-with_signals : (d e : DeviceState) (t : ℕ) (new : Option Timeline) (v : ℕ) (s : Signal) → e.next ≡ d.next → e.buffers ≡ d.buffers → ((q : ℕ) → timeline_at e q ≡ cond (nat_eq t q) new (timeline_at d q)) → AreSignalled t v s d.files e.files → objects_of e ≡ with_signals (objects_of d) t new v s
@@ -59,13 +58,6 @@ woken-signalled d e t v s found signalled told rising = record {
   rising = rising;
 }
 
-pub woken-risen : (d e : DeviceState) (t n now : ℕ) (found : List ℕ) (o : Option Timeline) → IsSome o
-    → IfSome o (λ k. AreSignalled t (k.value + n) (signal_at now false) d.files e.files)
-    → IfSome o (λ k. (f : ℕ) → Contains found f ↔ (file_wakes t (k.value + n) (file_at d f) ≡ true))
-    → IsStrictlyIncreasing found → AreWoken (objects_of d) (objects_of e) found
-woken-risen d e t n now found None there signalled told rising = absurd (false≢true there)
-woken-risen d e t n now found (Some k) there signalled told rising = woken-signalled d e t (k.value + n) (signal_at now false) found signalled told rising
-
 -- a timeline that is closed
 pub closing-woken : (d e : DeviceState) (t now : ℕ) (r : Result (Vec ℕ Global) Errno) → OnOk r (AreSignalled t GREATEST (signal_at now true) d.files e.files) → IfOk r (λ found. (f : ℕ) → Contains found.items f ↔ (file_wakes t GREATEST (file_at d f) ≡ true)) → IfOk r (λ found. IsStrictlyIncreasing found.items) → IfOk r (λ found. AreWoken (objects_of d) (objects_of e) found.items)
 closing-woken d e t now (Ok found) signalled told rising = woken-signalled d e t GREATEST (signal_at now true) found.items signalled told rising
@@ -85,6 +77,15 @@ objects-risen d e t n now (Some k) is there next buffers timelines signalled =
     objects-with_signals d e t (Some (raised k n)) (k.value + n) (signal_at now false) next buffers timelines signalled
     ∙ ap (λ p. with_signals (objects_of d) t (option_map (λ j. raised j n) p) (value_in p + n) (signal_at now false)) (sym is)
 
-pub no_cause-timeline : (o : Option Timeline) (why : Errno) (f : ℕ → ℕ) → IsSome o → IfSome o (λ k. f k.value < 2 ^ 64) → cond (is_some o) (overflow (f (value_in o))) (Some why) ≡ None
-no_cause-timeline None why f there fits = absurd (false≢true there)
-no_cause-timeline (Some k) why f there fits = ap (λ b. cond b (Some Overflow) None) (lt-leb (2 ^ 64) (f k.value) fits)
+-- an open timeline rises to a value, which wakes these files
+pub raised-to : (d e : DeviceState) (t n now v : ℕ) (found : List ℕ) (k : Timeline) → timeline_at d t ≡ Some k → v ≡ k.value + n → e.next ≡ d.next → e.buffers ≡ d.buffers
+    → IfSome (timeline_at d t) (λ (j : Timeline). (q : ℕ) → timeline_at e q ≡ cond (nat_eq t q) (Some (record j { value = v })) (timeline_at d q))
+    → AreSignalled t v (signal_at now false) d.files e.files → ((f : ℕ) → Contains found f ↔ (file_wakes t v (file_at d f) ≡ true)) → IsStrictlyIncreasing found
+    → (objects_of e ≡ risen (objects_of d) t n now) × AreWoken (objects_of d) (objects_of e) found
+raised-to d e t n now v found k is sum next buffers timelines signalled told rising =
+    let there = subst (λ (o : Option Timeline). IfSome o (λ (j : Timeline). (q : ℕ) → timeline_at e q ≡ cond (nat_eq t q) (Some (record j { value = v })) (timeline_at d q))) is timelines in (
+      objects-risen d e t n now (Some k) is refl next buffers
+          (subst (λ w. (q : ℕ) → timeline_at e q ≡ cond (nat_eq t q) (Some (record k { value = w })) (timeline_at d q)) sum there)
+          (subst (λ w. AreSignalled t w (signal_at now false) d.files e.files) sum signalled),
+      woken-signalled d e t v (signal_at now false) found signalled told rising,
+    )

@@ -1,6 +1,6 @@
 //! `Device`: timelines, sync files and buffers by number, with the kernel's requests as calls. Each call finds its
 //! causes of refusal first, and changes nothing if one holds.
-ghost use Rattle.std.specs.Prelude.{[], ◌≡◌, ◌⊎◌, ℕ, ◌+◌, ◌^◌, ◌≤◌, nat_eq, if◌then◌else◌, Some, None, is_some, ◌||◌, IsSome, IfSome, IfNone, OnOk, OnErr, IfOk, IfErr, MatchOption, Ok, Err, true, false, ◌<◌, ◌↔◌, Contains, length, ok_or, slice_get};
+ghost use Rattle.std.specs.Prelude.{[], ◌≡◌, ℕ, ◌+◌, ◌≤◌, nat_eq, if◌then◌else◌, Some, None, is_some, ◌||◌, IsSome, IfSome, IfNone, OnOk, OnErr, IfOk, IfErr, MatchOption, Ok, Err, true, false, ◌<◌, ◌↔◌, Contains, length, ok_or, slice_get};
 ghost use Rattle.std.specs.List.Sorted.{IsStrictlyIncreasing};
 ghost use Rattle.device_core.specs.declared.errno.Errno.TheVariants.{Invalid, NoEntry, NoMemory, NoNumber, Overflow};
 ghost use Rattle.device_core.specs.declared.text.Text.{Text as Name};
@@ -10,10 +10,10 @@ ghost use Rattle.device_core.specs.theorem.Fences.{are_signalled, signal_at, sta
 ghost use Rattle.device_core.specs.theorem.Info.{IsInfo};
 ghost use Rattle.device_core.specs.theorem.Memory.{KeepsWhatIsAlive, table_sizes_of};
 ghost use Rattle.device_core.specs.Woken.{file_wakes};
-ghost use Rattle.device_core.specs.theorem.State.{nothing, at, timeline_at, file_at, file_of, new_timeline, raised, merged_files, one_fence_file, missing_timeline, missing_file, buffer_at, objects_of, AreSignalled};
+ghost use Rattle.device_core.specs.theorem.State.{nothing, at, timeline_at, file_at, file_of, new_timeline, merged_files, one_fence_file, missing_timeline, missing_file, buffer_at, objects_of, AreSignalled};
 ghost use Rattle.device_core.specs.declared.request.Request.TheVariants as request;
 ghost use Rattle.device_core.specs.theorem.History.{HasHistory};
-ghost use Rattle.device_core.specs.theorem.Request.{AreWoken, IsCause, cause_of, closed, takes_memory};
+ghost use Rattle.device_core.specs.theorem.Request.{AreWoken, IsCause, cause_of, closed, risen, takes_memory};
 
 mod buffers;
 
@@ -141,23 +141,11 @@ impl Device {
     /// Fails with `NoEntry`, or with `WrongKind` at a file or a buffer, then with `Overflow`, then, if it wakes a file,
     /// with `NoMemory`; nothing has changed then.
     pub fn inc(&mut self, timeline: u64, n: u32, now: u64) -> Result<Vec<u64>, Errno>
-        ensures woken { IfOk result (λ found. IfSome (timeline_at self.old timeline) (λ t. (f : ℕ) →
-            (Contains found.items f ↔ (file_wakes timeline (t.value + n) (file_at self.old f) ≡ true)))) }
-        ensures rising { IfOk result (λ found. IsStrictlyIncreasing found.items) }
-        ensures raised { OnOk result (IfSome (timeline_at self.old timeline) (λ t. (q : ℕ) →
-            timeline_at self.new q ≡ (if nat_eq timeline q then Some (raised t n) else timeline_at self.old q))) }
-        ensures signalled { OnOk result (IfSome (timeline_at self.old timeline) (λ t.
-            AreSignalled timeline (t.value + n) (signal_at now false) self.old.files self.new.files)) }
-        ensures buffers { self.new.buffers ≡ self.old.buffers }
-        ensures next { self.new.next ≡ self.old.next }
-        ensures known { OnOk result (IsSome (timeline_at self.old timeline)) }
-        ensures refused { IfNone (timeline_at self.old timeline)
-            (result ≡ Err (missing_timeline (objects_of self.old) timeline)) }
-        ensures last { IfSome (timeline_at self.old timeline) (λ t. IfErr result (λ e.
-            ((e ≡ NoMemory) × (t.value + n < 2 ^ 64)
-            × (takes_memory (objects_of self.old) (request.Inc timeline n now) ≡ true))
-            ⊎ ((e ≡ Overflow) × (2 ^ 64 ≤ t.value + n)))) }
-        ensures fits { OnOk result (IfSome (timeline_at self.old timeline) (λ t. t.value + n < 2 ^ 64)) }
+        ensures woken { IfOk result (λ found. AreWoken (objects_of self.old) (objects_of self.new) found.items) }
+        ensures risen { OnOk result (objects_of self.new ≡ risen (objects_of self.old) timeline n now) }
+        ensures known { OnOk result (cause_of (objects_of self.old) (request.Inc timeline n now) ≡ None) }
+        ensures refused { IfErr result (λ e. IsCause (cause_of (objects_of self.old) (request.Inc timeline n now))
+            (takes_memory (objects_of self.old) (request.Inc timeline n now)) e) }
         ensures unchanged { OnErr result (self.new ≡ self.old) }
     {
         if self.timelines.rise_quietly(timeline, n) {
