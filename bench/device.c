@@ -42,7 +42,9 @@ static void check(int refusal, const char *call)
 
 static void inc(void)
 {
-    CHECK(bim_device_inc(&device, timelines[0], 1, 2));
+    bim_device_raised raised;
+
+    CHECK(bim_device_inc(&device, timelines[0], 1, 2, &raised));
 }
 
 static void fence_and_release(void)

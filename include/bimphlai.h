@@ -325,9 +325,15 @@ int bim_device_timeline(bim_device *device, const char *task, uint64_t *timeline
  * SW_SYNC_IOC_CREATE_FENCE. */
 int bim_device_fence(bim_device *device, uint64_t timeline, uint32_t point, uint64_t now, uint64_t *file);
 
-/* Adds n to a timeline's value. bim_device_take_woken gives the files that this signals. Fails with ENOENT, ENOTTY,
- * EOVERFLOW and, if it signals a file, ENOMEM. Like SW_SYNC_IOC_INC. */
-int bim_device_inc(bim_device *device, uint64_t timeline, uint32_t n, uint64_t now);
+/* What an increment did. */
+typedef struct bim_device_raised {
+    uint64_t pending; /* the timeline's first point that is still pending, or 0 */
+    uint64_t woken;   /* the number of files that this signalled, which bim_device_take_woken gives */
+} bim_device_raised;
+
+/* Adds n to a timeline's value: points at or below it are signalled at time `now`. Stores what this did. Fails with
+ * ENOENT, ENOTTY, EOVERFLOW and, if it signals a file, ENOMEM. Like SW_SYNC_IOC_INC. */
+int bim_device_inc(bim_device *device, uint64_t timeline, uint32_t n, uint64_t now, bim_device_raised *raised);
 
 /* Creates a file that waits for all that two files wait for: for each timeline, the latest pending point. Stores its
  * number. Its name is cut at 31 bytes; without a name it is named after its fences. Fails with ENOSPC, ENOENT, ENOTTY

@@ -174,10 +174,13 @@ static void signal_first(struct timeline *timeline, struct trace *trace)
     unlink_fence(timeline->first);
 }
 
-void record_signal(struct timeline *timeline, uint64_t pending, struct trace *trace)
+bool record_signal(struct timeline *timeline, uint64_t pending, struct trace *trace)
 {
-    while (timeline->first && (pending == 0 || timeline->first->value < pending))
+    bool any = false;
+
+    for (; timeline->first && (pending == 0 || timeline->first->value < pending); any = true)
         signal_first(timeline, trace);
+    return any;
 }
 
 /* As in the kernel, cancelled fences stay on the timeline. */

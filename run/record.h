@@ -54,8 +54,9 @@ struct fences {
 
 /* Appends a timeline. Returns NULL if there is no memory. */
 struct timeline *record_timeline(struct timelines *all, uint64_t number, const char *name, size_t length);
-/* Signals all fences of a timeline below `pending`, its first point that is still pending; all of them for 0. */
-void record_signal(struct timeline *timeline, uint64_t pending, struct trace *trace);
+/* Signals all fences of a timeline below `pending`, its first point that is still pending; all of them for 0. Returns
+ * whether there were any. */
+bool record_signal(struct timeline *timeline, uint64_t pending, struct trace *trace);
 /* Cancels all pending fences of a timeline that is closed at `value`. */
 void record_close(struct timeline *timeline, uint64_t value, uint64_t now, struct trace *trace);
 /* Notes that no process has the timeline any more. It is freed with its last fence. */

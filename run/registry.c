@@ -208,6 +208,16 @@ static void wake_one(struct registry *registry, struct object *object)
     }
 }
 
+static void wake_each(struct registry *registry, const uint64_t *numbers, size_t count)
+{
+    for (size_t i = 0; i < count; i++) {
+        struct object *object = map_find(&registry->by_number, numbers[i]);
+
+        if (object)
+            wake_one(registry, object);
+    }
+}
+
 /* Wakes the polls of all files and buffers that the device has signalled. */
 void registry_wake(struct registry *registry)
 {
@@ -217,14 +227,10 @@ void registry_wake(struct registry *registry)
     if (count == 0)
         return;
     registry->host->begin_writes();
-    while (count > 0) {
-        for (size_t i = 0; i < count; i++) {
-            struct object *object = map_find(&registry->by_number, woken[i]);
-
-            if (object)
-                wake_one(registry, object);
-        }
+    wake_each(registry, woken, count);
+    while (count == WOKEN_ROOM) {
         count = bim_device_take_woken(&registry->device, woken, WOKEN_ROOM);
+        wake_each(registry, woken, count);
     }
     registry->host->end_writes();
 }

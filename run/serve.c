@@ -69,28 +69,17 @@ static int serve_fence(struct registry *registry, const struct bim_request *requ
     return finish_file(registry, file, error, gives);
 }
 
-/* Records the fences that an increment has signalled: all below the first point that is still pending. */
-static void record_signalled(struct registry *registry, struct object *object)
-{
-    uint64_t pending;
-
-    if (bim_device_first_due(&registry->device, object->number, UINT64_MAX, &pending) == 0)
-        record_signal(object->timeline, pending, registry->trace);
-}
-
 static int serve_inc(struct registry *registry, const struct bim_request *request, struct object *object)
 {
-    bool signals = registry_would_signal(registry, object->number, request->value);
-    int error;
+    bim_device_raised raised;
+    int error = bim_device_inc(&registry->device, object->number, request->value, registry->now, &raised);
 
-    if (signals)
-        registry->signalled_at = registry->now = registry_now();
-    error = bim_device_inc(&registry->device, object->number, request->value, registry->now);
     if (error)
         return error;
-    if (signals)
-        record_signalled(registry, object);
-    registry_wake(registry);
+    if (record_signal(object->timeline, raised.pending, registry->trace))
+        registry->signalled_at = registry->now;
+    if (raised.woken > 0)
+        registry_wake(registry);
     return 0;
 }
 
@@ -192,9 +181,7 @@ void registry_serve(struct registry *registry, const struct bim_request *request
     *gives = -1;
     memset(answer, 0, offsetof(struct bim_answer, row));
     registry->requests++;
-    /* An increment that signals nothing needs no time, so the clock isn't read. */
-    if (request->op != BIM_OP_INC || registry->trace)
-        registry->now = registry_now();
+    registry->now = registry_now();
     set_who(registry, request);
     switch (request->op) {
     case BIM_OP_HELLO: answer->error = serve_page(registry, gives); break;

@@ -41,6 +41,7 @@ static void show(bim_device *device, uint64_t now)
 int main(void)
 {
     bim_device device = BIM_DEVICE_INIT;
+    bim_device_raised raised;
     uint64_t timeline, file;
 
     CHECK(bim_device_open(&device));
@@ -49,7 +50,7 @@ int main(void)
         CHECK(bim_device_fence(&device, timeline, frame, 10, &file));
 
     /* The renderer finishes the jobs of two frames. */
-    CHECK(bim_device_inc(&device, timeline, 2, 20));
+    CHECK(bim_device_inc(&device, timeline, 2, 20, &raised));
     show(&device, 21);
 
     /* The client is killed before the third is finished. */

@@ -14,7 +14,7 @@ enum { FRAMES = 1000 };
 
 /* The lock is held around each call of the device. */
 static pthread_mutex_t lock = PTHREAD_MUTEX_INITIALIZER;
-static pthread_cond_t raised = PTHREAD_COND_INITIALIZER;
+static pthread_cond_t some_signalled = PTHREAD_COND_INITIALIZER;
 static bim_device device = BIM_DEVICE_INIT;
 static uint64_t timeline, last;
 
@@ -30,10 +30,13 @@ static void check(int error, const char *call)
 
 static void *render(void *unused)
 {
+    bim_device_raised raised;
+
     for (int frame = 1; frame <= FRAMES; frame++) {
         pthread_mutex_lock(&lock);
-        CHECK(bim_device_inc(&device, timeline, 1, (uint64_t)frame));
-        pthread_cond_broadcast(&raised);
+        CHECK(bim_device_inc(&device, timeline, 1, (uint64_t)frame, &raised));
+        if (raised.woken > 0)
+            pthread_cond_broadcast(&some_signalled);
         pthread_mutex_unlock(&lock);
     }
     return unused;
@@ -48,7 +51,7 @@ static void *display(void *unused)
         CHECK(bim_device_is_signalled(&device, last, &signalled));
         if (signalled)
             break;
-        pthread_cond_wait(&raised, &lock);
+        pthread_cond_wait(&some_signalled, &lock);
     }
     pthread_mutex_unlock(&lock);
     puts("the last frame is drawn");

@@ -349,11 +349,12 @@ static enum outcome timeline(const struct command *c)
 static enum outcome inc(const struct command *c)
 {
     uint64_t number = number_of(TIMELINE, c->words[1]);
+    bim_device_raised raised;
     uint32_t n;
 
     if (!read_u32(c->words[2], &n))
         return REST;
-    if (is_accepted(c, bim_device_inc(&device, number, n, requests))) {
+    if (is_accepted(c, bim_device_inc(&device, number, n, requests, &raised))) {
         compare_fired(c);
         compare_value(c, number);
     }
@@ -364,8 +365,9 @@ static enum outcome inc(const struct command *c)
 static enum outcome value(const struct command *c)
 {
     uint64_t number = number_of(TIMELINE, c->words[1]);
+    bim_device_raised raised;
 
-    if (is_accepted(c, bim_device_inc(&device, number, 0, requests)))
+    if (is_accepted(c, bim_device_inc(&device, number, 0, requests, &raised)))
         compare_value(c, number);
     return WHOLE;
 }

@@ -32,11 +32,12 @@ static void refused(bim_device *device, uint64_t no_timeline, uint64_t no_file, 
     bim_device_file_info info;
     bim_device_fence_info row;
     bim_device_point point = { KEPT, KEPT, KEPT };
+    bim_device_raised raised = { KEPT, KEPT };
 
     memset(&info, KEPT, sizeof info);
     memset(&row, KEPT, sizeof row);
     EXPECT(bim_device_fence(device, no_timeline, 1, 0, &number), wanted);
-    EXPECT(bim_device_inc(device, no_timeline, 1, 0), wanted);
+    EXPECT(bim_device_inc(device, no_timeline, 1, 0, &raised), wanted);
     EXPECT(bim_device_value(device, no_timeline, &number), wanted);
     EXPECT(bim_device_first_due(device, no_timeline, 1, &number), wanted);
     EXPECT(bim_device_fence_of(device, no_file, 0, &point), wanted);
@@ -54,6 +55,7 @@ static void refused(bim_device *device, uint64_t no_timeline, uint64_t no_file, 
     EXPECT(number, KEPT);
     EXPECT(status, KEPT);
     HOLDS(point.timeline == KEPT && point.value == KEPT && point.is_pending == KEPT);
+    HOLDS(raised.pending == KEPT && raised.woken == KEPT);
     HOLDS(info.name[0] == KEPT && info.status == row.status && row.timeline[0] == KEPT);
 }
 
@@ -132,6 +134,16 @@ static void takes(bim_device *device, size_t room, const uint64_t *wanted, size_
         EXPECT(files[i], i < count ? wanted[i] : KEPT);
 }
 
+/* Increments, and expects the first point that is pending then, and how many files it woke. */
+static void raises(bim_device *device, uint64_t timeline, uint32_t n, uint64_t now, uint64_t pending, uint64_t woken)
+{
+    bim_device_raised raised = { KEPT, KEPT };
+
+    EXPECT(bim_device_inc(device, timeline, n, now, &raised), 0);
+    EXPECT(raised.pending, pending);
+    EXPECT(raised.woken, woken);
+}
+
 /* Expects the least point that an increment by n signals. */
 static void is_due(bim_device *device, uint64_t timeline, uint64_t n, uint64_t wanted)
 {
@@ -167,18 +179,18 @@ static void woken(bim_device *device)
     takes(device, 8, NULL, 0);
 
     /* In order of the calls, and by rising number within one call: points 1, then 2 and 3. */
-    EXPECT(bim_device_inc(device, timeline, 1, 10), 0);
+    raises(device, timeline, 1, 10, 2, 1);
     EXPECT(bim_device_is_signalled(device, files[5], &signalled), 0);
     EXPECT(signalled, 1);
-    EXPECT(bim_device_inc(device, timeline, 0, 10), 0);
-    EXPECT(bim_device_inc(device, timeline, 2, 11), 0);
+    raises(device, timeline, 0, 10, 2, 0);
+    raises(device, timeline, 2, 11, 4, 2);
     takes(device, 0, NULL, 0);
     takes(device, 2, (uint64_t[]){ files[5], files[3] }, 2);
     takes(device, 8, (uint64_t[]){ files[4] }, 1);
     takes(device, 8, NULL, 0);
 
     /* A file that is released before it is taken is left out. */
-    EXPECT(bim_device_inc(device, timeline, 3, 12), 0);
+    raises(device, timeline, 3, 12, 0, 3);
     EXPECT(bim_device_release(device, files[1], 13), 0);
     takes(device, 1, (uint64_t[]){ files[0] }, 1);
     takes(device, 8, (uint64_t[]){ files[2] }, 1);
@@ -202,7 +214,7 @@ static void infos(bim_device *device)
     int32_t status = KEPT;
 
     EXPECT(bim_device_timeline_n(device, "gpu?", 3, &timeline), 0);
-    EXPECT(bim_device_inc(device, timeline, 4, 50), 0);
+    raises(device, timeline, 4, 50, 0, 0);
     EXPECT(bim_device_fence(device, timeline, 9, 60, &pending), 0);
     EXPECT(bim_device_fence(device, timeline, 4, 61, &reached), 0);
     memset(rows, KEPT, sizeof rows);
@@ -266,7 +278,7 @@ static void rows_and_rooms(bim_device *device)
     snprintf(name, sizeof name, "dma_fence_array-unbound%llu-1", (unsigned long long)all);
     name[BIM_NAME_ROOM - 1] = '\0';
     HOLDS(strcmp(info.name, name) == 0);
-    EXPECT(bim_device_inc(device, timeline, 1, 3), 0);
+    raises(device, timeline, 1, 3, 0, 1);
     EXPECT(bim_device_info(device, all, &info, rows, MANY), 0);
     HOLDS(rows[MANY - 1].status == BIM_IS_SIGNALLED && rows[MANY - 1].at == 3 && info.status == BIM_IS_ACTIVE);
     EXPECT(bim_device_take_woken(device, &file, 1), 1);
@@ -305,15 +317,15 @@ static void points(bim_device *device)
     int32_t signalled;
 
     EXPECT(bim_device_timeline(device, "w", &timeline), 0);
-    EXPECT(bim_device_inc(device, timeline, UINT32_MAX, 0), 0);
+    raises(device, timeline, UINT32_MAX, 0, 0, 0);
     EXPECT(bim_device_fence(device, timeline, 1, 0, &file), 0);
     EXPECT(bim_device_fence(device, timeline, UINT32_MAX - 1, 0, &before), 0);
     EXPECT(bim_device_is_signalled(device, before, &signalled), 0);
     EXPECT(signalled, 1);
-    EXPECT(bim_device_inc(device, timeline, 1, 0), 0);
+    raises(device, timeline, 1, 0, UINT32_MAX + 2ull, 0);
     EXPECT(bim_device_is_signalled(device, file, &signalled), 0);
     EXPECT(signalled, 0);
-    EXPECT(bim_device_inc(device, timeline, 1, 0), 0);
+    raises(device, timeline, 1, 0, 0, 1);
     EXPECT(bim_device_is_signalled(device, file, &signalled), 0);
     EXPECT(signalled, 1);
     EXPECT(bim_device_fence(device, timeline, 1 + (1u << 31), 0, &before), 0);
@@ -352,7 +364,7 @@ static void buffers(bim_device *device)
     EXPECT(signalled, 1);
     EXPECT(bim_device_test(device, buffer, BIM_WRITE, &signalled), 0);
     EXPECT(signalled, 0);
-    EXPECT(bim_device_inc(device, timeline, 1, 40), 0);
+    raises(device, timeline, 1, 40, 2, 2);
     takes(device, 8, (uint64_t[]){ write, reads }, 2);
     EXPECT(bim_device_test(device, buffer, BIM_WRITE, &signalled), 0);
     EXPECT(signalled, 1);
@@ -375,7 +387,7 @@ static void looks(bim_device *device)
     EXPECT(bim_device_timeline(device, "a", &timeline), 0);
     EXPECT(bim_device_timeline(device, "b", &other), 0);
     is_due(device, timeline, UINT64_MAX, 0);
-    EXPECT(bim_device_inc(device, timeline, 4, 0), 0);
+    raises(device, timeline, 4, 0, 0, 0);
     EXPECT(bim_device_fence(device, timeline, 9, 1, &files[0]), 0);
     EXPECT(bim_device_fence(device, timeline, 7, 1, &files[1]), 0);
     EXPECT(bim_device_fence(device, other, 3, 1, &files[2]), 0);
@@ -392,7 +404,7 @@ static void looks(bim_device *device)
     has_fence(device, both, 1, other, 3, 1);
     EXPECT(bim_device_fence_of(device, both, 2, &fence), BIM_EINVAL);
     EXPECT(bim_device_fence_of(device, both, SIZE_MAX, &fence), BIM_EINVAL);
-    EXPECT(bim_device_inc(device, timeline, 3, 2), 0);
+    raises(device, timeline, 3, 2, 9, 1);
     EXPECT(bim_device_value(device, timeline, &value), 0);
     EXPECT(value, 7);
     has_fence(device, both, 0, timeline, 7, 0);
@@ -420,6 +432,7 @@ static void many(bim_device *device)
     static uint64_t files[MANY], taken[MANY];
     uint64_t timeline, first, buffer, last = 0;
     size_t count = 0, more;
+    bim_device_raised raised;
 
     EXPECT(bim_device_timeline(device, "a", &first), 0);
     for (uint32_t i = 0; i < MANY; i++) {
@@ -428,9 +441,10 @@ static void many(bim_device *device)
         EXPECT(bim_device_fence(device, first, i + 1, 0, &files[i]), 0);
         HOLDS(files[i] > last);
         last = files[i];
-        EXPECT(bim_device_inc(device, first, i % 3 == 0, 0), 0);
+        EXPECT(bim_device_inc(device, first, i % 3 == 0, 0, &raised), 0);
+        EXPECT(raised.woken, i % 3 == 0);
     }
-    EXPECT(bim_device_inc(device, first, MANY, 0), 0);
+    raises(device, first, MANY, 0, 0, MANY - (MANY + 2) / 3);
     for (size_t i = 0; i < MANY; i += 2)
         EXPECT(bim_device_release(device, files[i], 0), 0);
     while ((more = bim_device_take_woken(device, taken + count, 100)) > 0)

@@ -82,10 +82,11 @@ static void signalled_merge(void)
 {
     static uint32_t point;
     uint64_t fence, merged;
+    bim_device_raised raised;
 
     EXPECT(bim_device_fence(&device, timeline, ++point, 1, &fence), 0);
     EXPECT(bim_device_merge(&device, fence, file, "merge", &merged), 0);
-    EXPECT(bim_device_inc(&device, timeline, 1, 2), 0);
+    EXPECT(bim_device_inc(&device, timeline, 1, 2, &raised), 0);
     EXPECT(bim_device_release(&device, fence, 3), 0);
     EXPECT(bim_device_release(&device, merged, 3), 0);
 }
@@ -183,6 +184,7 @@ static void keeps_no_room_for_what_was_woken(void)
 {
     static uint64_t files[WOKEN], woken[WOKEN];
     bim_device fresh = BIM_DEVICE_INIT;
+    bim_device_raised raised;
     uint64_t task;
     long long before = bytes;
 
@@ -190,7 +192,7 @@ static void keeps_no_room_for_what_was_woken(void)
     EXPECT(bim_device_timeline(&fresh, "task", &task), 0);
     for (int i = 0; i < WOKEN; i++)
         EXPECT(bim_device_fence(&fresh, task, 1, 1, &files[i]), 0);
-    EXPECT(bim_device_inc(&fresh, task, 1, 2), 0);
+    EXPECT(bim_device_inc(&fresh, task, 1, 2, &raised), 0);
     EXPECT(bim_device_take_woken(&fresh, woken, WOKEN), WOKEN);
     for (int i = 0; i < WOKEN; i++)
         EXPECT(bim_device_release(&fresh, files[i], 3), 0);

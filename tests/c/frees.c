@@ -83,6 +83,7 @@ static void close_a_device(void)
 {
     bim_device device = BIM_DEVICE_INIT;
     uint64_t a, b, of_a, of_b, both, buffer, waits;
+    bim_device_raised raised;
 
     EXPECT(bim_device_open(&device), 0);
     EXPECT(bim_device_timeline(&device, "a", &a), 0);
@@ -93,7 +94,7 @@ static void close_a_device(void)
     EXPECT(bim_device_buffer(&device, 1, &buffer), 0);
     EXPECT(bim_device_import(&device, buffer, both, BIM_SYNC_WRITE), 0);
     EXPECT(bim_device_export(&device, buffer, BIM_SYNC_READ, &waits), 0);
-    EXPECT(bim_device_inc(&device, a, 5, 2), 0);
+    EXPECT(bim_device_inc(&device, a, 5, 2, &raised), 0);
     GIVES_BACK(EXPECT(bim_device_release(&device, both, 3), 0));
     GIVES_BACK(EXPECT(bim_device_release(&device, buffer, 3), 0));
     EXPECT(bim_device_release(&device, b, 3), 0);

@@ -102,6 +102,7 @@ static struct {
     bim_device_file_info reported;
     bim_device_fence_info fence;
     bim_device_point point;
+    bim_device_raised raised;
     char answer[2 * BIM_ANSWER_ROOM];
     size_t length;
 } it;
@@ -160,6 +161,7 @@ static void begin_call(void)
     write_service(&before);
     it.number = it.info.point = it.row.point = it.reported.fences = it.fence.at = KEPT;
     it.timeline.value = it.made.fences = it.buffer.rows = it.counts.files = KEPT;
+    it.raised.pending = it.raised.woken = KEPT;
     it.status = it.flag = KEPT;
     it.count = it.length = KEPT;
     allocations_before = allocations;
@@ -187,6 +189,7 @@ static bool is_to_call_again(int came, int wanted, const char *call, int line)
     HOLDS(it.info.point == KEPT && it.row.point == KEPT && it.counts.files == KEPT);
     HOLDS(it.timeline.value == KEPT && it.made.fences == KEPT && it.buffer.rows == KEPT);
     HOLDS(it.reported.fences == KEPT && it.fence.at == KEPT);
+    HOLDS(it.raised.pending == KEPT && it.raised.woken == KEPT);
     HOLDS(it.length == KEPT || strcmp(it.answer, "err 16 Memory\n") == 0);
     return true;
 }
@@ -276,14 +279,14 @@ static void run_device(void)
     CALL(bim_device_test(&it.device, 6, BIM_WRITE, &it.status), 0);
     for (uint64_t file = 8; file < OBJECTS; file++)
         MAKES(bim_device_fence(&it.device, 1, (uint32_t)file, 2, &it.number), file);
-    CALL(bim_device_inc(&it.device, 1, 3, 3), 0);
+    CALL(bim_device_inc(&it.device, 1, 3, 3, &it.raised), 0);
     CALL(bim_device_release(&it.device, 6, 4), 0);
     CALL(bim_device_release(&it.device, 8, 4), 0);
-    CALL(bim_device_inc(&it.device, 1, 7, 5), 0);
+    CALL(bim_device_inc(&it.device, 1, 7, 5, &it.raised), 0);
     CALL(bim_device_release(&it.device, 2, 6), 0);
     CALL(bim_device_release(&it.device, 3, 7), 0);
     CALL(bim_device_release(&it.device, 3, 7), BIM_ENOENT);
-    CALL(bim_device_inc(&it.device, 2, 1, 8), BIM_ENOENT);
+    CALL(bim_device_inc(&it.device, 2, 1, 8, &it.raised), BIM_ENOENT);
     no_memory = BIM_MEMORY;
 }
 
@@ -354,6 +357,7 @@ static void device_without_memory(void)
     bim_device device = BIM_DEVICE_INIT;
     uint64_t timeline, idle, now, later, buffer, number = KEPT;
     bim_device_file_info info = { .fences = KEPT };
+    bim_device_raised raised;
     int32_t status;
 
     refused = EVERY;
@@ -364,13 +368,13 @@ static void device_without_memory(void)
     EXPECT(bim_device_fence(&device, timeline, 2, 0, &later), 0);
     EXPECT(bim_device_buffer(&device, 0, &buffer), 0);
     counting = true;
-    EXPECT(bim_device_inc(&device, timeline, 0, 1), 0);
-    EXPECT(bim_device_inc(&device, idle, 1, 1), 0);
+    EXPECT(bim_device_inc(&device, timeline, 0, 1, &raised), 0);
+    EXPECT(bim_device_inc(&device, idle, 1, 1, &raised), 0);
     EXPECT(bim_device_release(&device, idle, 1), 0);
-    EXPECT(bim_device_inc(&device, later + 9, 1, 1), BIM_ENOENT);
-    EXPECT(bim_device_inc(&device, later, 1, 1), BIM_ENOTTY);
-    EXPECT(bim_device_inc(&device, buffer, 1, 1), BIM_ENOTTY);
-    EXPECT(bim_device_inc(&device, timeline, 1, 1), BIM_ENOMEM);
+    EXPECT(bim_device_inc(&device, later + 9, 1, 1, &raised), BIM_ENOENT);
+    EXPECT(bim_device_inc(&device, later, 1, 1, &raised), BIM_ENOTTY);
+    EXPECT(bim_device_inc(&device, buffer, 1, 1, &raised), BIM_ENOTTY);
+    EXPECT(bim_device_inc(&device, timeline, 1, 1, &raised), BIM_ENOMEM);
     EXPECT(bim_device_release(&device, timeline, 1), BIM_ENOMEM);
     EXPECT(bim_device_release(&device, later + 9, 1), BIM_ENOENT);
     EXPECT(bim_device_release(&device, buffer, 1), 0);
@@ -379,7 +383,7 @@ static void device_without_memory(void)
     EXPECT(bim_device_status(&device, now, &status), 0);
     EXPECT(status, BIM_IS_ACTIVE);
     counting = false;
-    EXPECT(bim_device_inc(&device, timeline, 1, 2), 0);
+    EXPECT(bim_device_inc(&device, timeline, 1, 2, &raised), 0);
     counting = true;
     EXPECT(bim_device_status(&device, now, &status), 0);
     EXPECT(status, BIM_IS_SIGNALLED);

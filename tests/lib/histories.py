@@ -178,7 +178,9 @@ class Model:
         it.value += n
         it.values.append(it.value)
         it.times.append(now)
+        before = len(self.woken)
         self.wake()
+        return self.first_due(timeline, 2**64 - 1), len(self.woken) - before
 
     def merge(self, a, b, name):
         files = self.find(a, File), self.find(b, File, ENOENT)
@@ -270,6 +272,10 @@ class Point(ctypes.Structure):
     _fields_ = [("timeline", ctypes.c_uint64), ("value", ctypes.c_uint64), ("is_pending", ctypes.c_int32)]
 
 
+class Raised(ctypes.Structure):
+    _fields_ = [("pending", ctypes.c_uint64), ("woken", ctypes.c_uint64)]
+
+
 POINTER, NUMBER, BITS, INT, TEXT, SIZE = (
     ctypes.c_void_p,
     ctypes.c_uint64,
@@ -283,7 +289,7 @@ CALLS = {
     "close": [],
     "timeline_n": [TEXT, SIZE, POINTER],
     "fence": [NUMBER, BITS, NUMBER, POINTER],
-    "inc": [NUMBER, BITS, NUMBER],
+    "inc": [NUMBER, BITS, NUMBER, POINTER],
     "merge_n": [NUMBER, NUMBER, TEXT, SIZE, POINTER],
     "status": [NUMBER, POINTER],
     "is_signalled": [NUMBER, POINTER],
@@ -311,7 +317,7 @@ class Device:
         self.functions["close"].restype = None
         self.functions["take_woken"].restype = SIZE
         self.handle = Handle()
-        self.number, self.word, self.point = ctypes.c_uint64(), ctypes.c_int32(), Point()
+        self.number, self.word, self.point, self.raised = ctypes.c_uint64(), ctypes.c_int32(), Point(), Raised()
         self.file, self.rows, self.taken = FileInfo(), (FenceInfo * (ROOM + 1))(), (ctypes.c_uint64 * ROOM)()
         self.call("open")
 
@@ -331,7 +337,7 @@ class Device:
         except Refused:
             self.expect_kept(out)
             raise
-        return out.value
+        return getattr(out, "value", None)
 
     def expect_kept(self, out):
         if bytes(out) != bytes([KEPT]) * ctypes.sizeof(out):
@@ -344,7 +350,8 @@ class Device:
         return self.stored(self.number, "fence", timeline, point, now)
 
     def inc(self, timeline, n, now):
-        self.call("inc", timeline, n, now)
+        self.stored(self.raised, "inc", timeline, n, now)
+        return self.raised.pending, self.raised.woken
 
     def merge(self, a, b, name):
         return self.stored(self.number, "merge_n", a, b, name, len(name))

@@ -3,6 +3,7 @@ pub mod Handle
 pub mod Held
 pub mod Lending
 pub mod Queries
+pub mod Raising
 pub mod Reported
 pub mod Requests
 pub mod Service

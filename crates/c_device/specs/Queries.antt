@@ -48,13 +48,14 @@ AnswersFence file index d given = MatchOption (file_at d file)
     (given ≡ Err (missing_file (objects_of d) file))
     (λ f. given ≡ ok_or (slice_get f.fences index) Invalid)
 
--- the value, or the old one
-abbrev pub value_or : Option (Result ℕ Errno) → ℕ → ℕ
-value_or None old = old
-value_or (Some (Ok value)) old = value
-value_or (Some (Err refusal)) old = old
+-- what was found, or the old value
+abbrev pub found_or : {A : Type 0} → Option (Result A Errno) → A → A
+found_or None old = old
+found_or (Some (Ok found)) old = found
+found_or (Some (Err refusal)) old = old
 
-abbrev point_or_none : Option ℕ → ℕ
+-- the point, or 0 if there is none
+abbrev pub point_or_none : Option ℕ → ℕ
 point_or_none None = 0
 point_or_none (Some point) = point
 

@@ -2,7 +2,7 @@
 //! no value keep their old ones.
 ghost use Rattle.std.specs.Prelude.{◌≡◌};
 ghost use Rattle.c_device.specs.Call.{errno_of, number_of};
-ghost use Rattle.c_device.specs.Queries.{c_point_or, due_or, value_or};
+ghost use Rattle.c_device.specs.Queries.{c_point_or, due_or, found_or};
 ghost use Rattle.c_device.specs.Reported.{StoresInfo, number_or, status_or, yes_or};
 
 use crate::handle::{CallReply, CallResult};
@@ -65,13 +65,13 @@ pub fn store_if(given: &CallReply, yes: &mut i32)
     }
 }
 
-/// Stores the value, and nothing if the query failed.
+/// Stores what was found, and nothing if the call was refused.
 #[inline(always)]
-pub fn store_value(found: &CallResult<u64>, value: &mut u64)
-    ensures { value.new ≡ value_or found.now value.old }
+pub fn store_found<T: Copy>(found: &CallResult<T>, stored: &mut T)
+    ensures { stored.new ≡ found_or found.now stored.old }
 {
     if let Some(Ok(known)) = found {
-        *value = *known;
+        *stored = *known;
     }
 }
 

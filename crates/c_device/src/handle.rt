@@ -4,6 +4,7 @@ ghost use Rattle.c_handle.specs.Owning.{handle_owns};
 ghost use Rattle.c_device.specs.Held.{service_coded, service_row};
 ghost use Rattle.c_device.specs.Service.{ServiceState};
 
+use crate::rows::CRaised;
 use crate::service::Service;
 use c_handle::Handle;
 use device_core::{Errno, Fence, Reply, Request};
@@ -37,6 +38,7 @@ impl DeviceHandle {
     ghost use Rattle.c_device.specs.Lending.{as_handle, LendsHandle, LendsService};
     ghost use Rattle.c_device.specs.Call.{IsAsked};
     ghost use Rattle.c_device.specs.Queries.{AnswersDue, AnswersFence, AnswersValue, IsQuery};
+    ghost use Rattle.c_device.specs.Raising.{IsRaiseAt};
 
     /// Whether the handle is open.
     pub fn is_open(&mut self) -> bool
@@ -81,6 +83,18 @@ impl DeviceHandle {
         match asked {
             Ok(request) => Some(self.get_mut().step(request)),
             Err(refusal) => Some(Err(refusal)),
+        }
+    }
+
+    /// An increment: how many files it wakes, and the timeline's first point that is pending after it.
+    #[inline(always)]
+    pub fn inc(&mut self, timeline: u64, n: u32, now: u64) -> CallResult<CRaised>
+        ensures { IsRaiseAt self.old self.new timeline n now result }
+    {
+        if self.is_open() {
+            Some(self.get_mut().inc(timeline, n, now))
+        } else {
+            None
         }
     }
 

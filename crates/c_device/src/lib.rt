@@ -12,7 +12,8 @@ ghost use Rattle.device_core.specs.theorem.Names.{as_text};
 ghost use Rattle.c_device.specs.Requests.{test_request, usage_of};
 ghost use Rattle.c_device.specs.Call.{IsCall, IsNew, IsOpening, IsTaking};
 ghost use Rattle.c_device.specs.Handle.{is_open};
-ghost use Rattle.c_device.specs.Queries.{AnswersDue, AnswersFence, AnswersValue, IsQueryCall, c_point_or, due_or, value_or};
+ghost use Rattle.c_device.specs.Queries.{AnswersDue, AnswersFence, AnswersValue, IsQueryCall, c_point_or, due_or, found_or};
+ghost use Rattle.c_device.specs.Raising.{IsRaiseCall};
 ghost use Rattle.c_device.specs.Reported.{StoresInfo, number_or, status_or, yes_or};
 
 mod answers;
@@ -21,11 +22,11 @@ mod rows;
 mod service;
 
 use crate::answers::{
-    EEXIST, errno, number, store, store_due, store_if, store_info, store_point, store_status,
-    store_value,
+    EEXIST, errno, number, store, store_due, store_found, store_if, store_info, store_point,
+    store_status,
 };
 use crate::handle::DeviceHandle;
-use crate::rows::{CFenceInfo, CFileInfo, CPoint};
+use crate::rows::{CFenceInfo, CFileInfo, CPoint, CRaised};
 use crate::service::Service;
 use c_handle::usage_of;
 use device_core::{Errno, Request, Text};
@@ -104,12 +105,21 @@ pub extern "C" fn bim_device_fence(
     number(&given)
 }
 
-/// `SW_SYNC_IOC_INC`. The files that it signals are queued.
+/// `SW_SYNC_IOC_INC`. The files that it signals are queued. Stores their number, and the timeline's first point that is
+/// pending after it, or 0.
 #[unsafe(no_mangle)]
-pub extern "C" fn bim_device_inc(device: &mut DeviceHandle, timeline: u64, n: u32, now: u64) -> i32
-    ensures { IsCall device.old device.new (Ok (request.Inc timeline n now)) result (λ _. ⊤) }
+pub extern "C" fn bim_device_inc(
+    device: &mut DeviceHandle,
+    timeline: u64,
+    n: u32,
+    now: u64,
+    raised: &mut CRaised,
+) -> i32
+    ensures { IsRaiseCall device.old device.new timeline n now result raised.old raised.new }
 {
-    number(&device.ask(Ok(Request::Inc(timeline, n, now))))
+    let given = device.inc(timeline, n, now);
+    store_found(&given, raised);
+    number(&given)
 }
 
 /// `SYNC_IOC_MERGE`: makes a file of the pending fences of two files, and stores its number. The name is cut as the
@@ -258,10 +268,10 @@ fn usage(number: i32) -> Result<Usage, Errno>
 #[unsafe(no_mangle)]
 pub extern "C" fn bim_device_value(device: &mut DeviceHandle, timeline: u64, value: &mut u64) -> i32
     ensures { IsQueryCall device.old device.new (AnswersValue timeline) result (λ found.
-        value.new ≡ value_or found value.old) }
+        value.new ≡ found_or found value.old) }
 {
     let found = device.value(timeline);
-    store_value(&found, value);
+    store_found(&found, value);
     number(&found)
 }
 

@@ -37,6 +37,14 @@ pub struct CPoint {
     pub is_pending: i32,
 }
 
+/// What an increment did: `struct bim_device_raised`.
+#[repr(C)]
+#[derive(Clone, Copy, Drop)]
+pub struct CRaised {
+    pub pending: u64,
+    pub woken: u64,
+}
+
 /// Stores rows, as many as there is room for. Rows past the last fence keep what they had.
 pub fn put(fences: &[FenceInfo], rows: &mut [CFenceInfo])
     ensures { rows.new ≡ over (map c_fence_info fences.now) rows.old }

@@ -1,14 +1,19 @@
 //! `Service`: a device with a queue of the files that it woke. The queue has room for every open file before a request
 //! that may wake one, and shrinks with their number.
-ghost use Rattle.std.specs.Prelude.{◌≡◌, ◌≤◌, ◌-◌, ℕ, [], ◌++◌, true, length, drop, min, option_to_list, IfErr, IfNone, OnOk, Err};
+ghost use Rattle.std.specs.Prelude.{◌≡◌, ◌≤◌, ◌-◌, ℕ, [], ◌++◌, true, length, drop, min, option_to_list, IfErr, IfNone, OnOk, Option, Result, Err};
 ghost use Rattle.std.specs.VecDeque.{deque_len, deque_capacity};
 ghost use Rattle.device_core.specs.declared.request.Request.TheVariants as request;
 ghost use Rattle.device_core.specs.theorem.Request.{IsAnswer, takes_memory};
 ghost use Rattle.device_core.specs.theorem.State.{nothing, objects_of};
 ghost use Rattle.c_handle.specs.Rows.{over};
 ghost use Rattle.c_device.specs.Queries.{AnswersDue, AnswersFence, AnswersValue};
+ghost use Rattle.point_core.specs.Reach.{GREATEST};
+ghost use Rattle.device_core.specs.declared.errno.Errno.{Errno as Refusal};
+ghost use Rattle.device_core.specs.theorem.Times.{woken_in};
+ghost use Rattle.c_device.specs.Raising.{IsRaise, due_point};
 ghost use Rattle.c_device.specs.Service.{IsStep, AreGiven, may_wake, open_among, woken_of};
 
+use crate::rows::CRaised;
 use device_core::{Device, Errno, Fence, Reply, Request};
 use std::alloc::Global;
 use std::collections::VecDeque;
@@ -60,6 +65,18 @@ impl Service {
         given
     }
 
+    /// An increment, as `step`: how many files it wakes, and the timeline's first point that is pending after it.
+    #[inline(always)]
+    pub fn inc(&mut self, timeline: u64, n: u32, now: u64) -> Result<CRaised, Errno>
+        ensures { IsRaise self.old self.new timeline n now result }
+    {
+        let reply = self.step(Request::Inc(timeline, n, now))?;
+        Ok(CRaised {
+            pending: first_pending(&self.device, timeline),
+            woken: count_woken(&reply) as u64,
+        })
+    }
+
     /// The value of a timeline, as `Device::value`.
     #[inline(always)]
     pub fn value(&self, timeline: u64) -> Result<u64, Errno>
@@ -93,6 +110,26 @@ impl Service {
         ensures device { self.new.device ≡ self.old.device }
     {
         take(&mut self.woken, &self.device, files)
+    }
+}
+
+/// The first point of a timeline that is pending, or 0.
+fn first_pending(device: &Device, timeline: u64) -> u64
+    ensures { (due : Result (Option ℕ) Refusal) × AnswersDue timeline GREATEST device.now due × (result ≡ due_point due) }
+{
+    match device.first_due(timeline, u64::MAX) {
+        Ok(first) => first.unwrap_or(0),
+        Err(_) => 0,
+    }
+}
+
+/// The number of files that the reply wakes.
+fn count_woken(reply: &Reply) -> usize
+    ensures { result ≡ length (woken_in reply.now) }
+{
+    match reply {
+        Reply::Woken(files) => files.len(),
+        _ => 0,
     }
 }
 
