@@ -15,6 +15,9 @@ _bimphlai_run() {
         mapfile -t COMPREPLY < <(compgen -f -- "$word")
     elif [ "${COMP_WORDS[COMP_CWORD - 1]}" = --shuffle ]; then
         COMPREPLY=()
+    elif [ "$at" -lt "$COMP_CWORD" ] && declare -F _command_offset >/dev/null; then
+        # bash-completion knows the program's own words.
+        _command_offset "$at"
     elif [ "$at" -lt "$COMP_CWORD" ]; then
         mapfile -t COMPREPLY < <(compgen -f -- "$word")
     elif [[ $word == -* ]]; then
