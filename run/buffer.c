@@ -96,13 +96,15 @@ int buffer_make(struct registry *registry, const struct bim_request *request, in
 
     if (error)
         return error;
-    object->buffer = (struct buffer){ .flags = request->flags, .is_lent = passed >= 0 };
-    object->buffer.is_ready[READING] = object->buffer.is_ready[WRITING] = true;
+    object->buffer = (struct buffer){ .registry = registry, .flags = request->flags, .is_lent = passed >= 0 };
+    object->buffer.is_ready[WRITING] = true;
     error = add_part(registry, request, &object->buffer, passed);
     if (!error)
         error = bim_device_buffer(&registry->device, registry->now, &object->number);
     memory = object->buffer.memory;
-    endpoint_set_readable(object->endpoint);
+    if (!error)
+        error = endpoint_set_readable(object->endpoint);
+    object->buffer.is_ready[READING] = true;
     error = registry_finish(registry, object, error, gives);
     if (error)
         parts_close(&memory);
@@ -150,18 +152,18 @@ int buffer_name(struct object *buffer, const char *name)
     return 0;
 }
 
-/* Makes the program's poll report the buffer for this access again. */
+/* Makes the program's poll report the buffer for this access again, or has that retried. */
 void buffer_is_ready(struct object *object, enum access access)
 {
     struct buffer *buffer = &object->buffer;
 
     if (buffer->is_ready[access])
         return;
-    buffer->is_ready[access] = true;
-    if (access == READING)
-        endpoint_set_readable(object->endpoint);
-    else
+    if (access == WRITING)
         endpoint_set_writable(object->endpoint);
+    buffer->is_ready[access] = access == WRITING || endpoint_set_readable(object->endpoint) == 0;
+    if (!buffer->is_ready[access])
+        buffer->registry->has_unawaited = true;
 }
 
 /* Releases the file that an access waits for. `with_process` says that its process may be ending. */
@@ -233,28 +235,48 @@ static bool is_idle(struct registry *registry, const struct object *object, enum
     return bim_device_test(&registry->device, object->number, USAGES[access], &signalled) == 0 && signalled;
 }
 
-/* Clears the readiness for an access if the device says that a fence is pending. */
-static void refresh(struct registry *registry, struct object *object, enum access access, int theirs)
+/* Returns ENOMEM if poll still reports the readiness. */
+static int clear(struct object *object, enum access access, int theirs)
+{
+    if (!object->buffer.is_ready[access])
+        return 0;
+    object->buffer.is_ready[access] = false;
+    return access == READING ? endpoint_take_readable(theirs) : endpoint_take_writable(theirs);
+}
+
+/* Clears the readiness for which a file is pending, before the device has the file: if that fails, the file isn't
+ * imported, and poll never reports a signal that was not given. */
+static int clear_for(struct registry *registry, struct object *object, const struct object *file, uint32_t flags,
+                     int theirs)
+{
+    int32_t signalled = 0;
+    int error = 0;
+
+    if (!file || bim_device_is_signalled(&registry->device, file->number, &signalled) || signalled)
+        return 0;
+    if (flags & BIM_SYNC_WRITE)
+        error = clear(object, READING, theirs);
+    if (!error && flags & BIM_SYNC_RW)
+        error = clear(object, WRITING, theirs);
+    return error;
+}
+
+/* Sets the readiness for an access again, or awaits it, as the device says. */
+static void refresh(struct registry *registry, struct object *object, enum access access)
 {
     if (is_idle(registry, object, access))
-        return;
-    if (object->buffer.is_ready[access] && access == READING)
-        endpoint_take_readable(theirs);
-    if (object->buffer.is_ready[access] && access == WRITING)
-        endpoint_take_writable(theirs);
-    object->buffer.is_ready[access] = false;
-    await_or_retry(registry, object, access);
+        buffer_is_ready(object, access);
+    else
+        await_or_retry(registry, object, access);
 }
 
 static void retry(struct registry *registry, struct object *object)
 {
     for (enum access access = 0; access < ACCESSES; access++) {
-        if (object->buffer.is_ready[access] || object->buffer.awaited[access])
+        if (object->buffer.is_ready[access])
             continue;
-        if (is_idle(registry, object, access))
-            buffer_is_ready(object, access);
-        else
-            await_or_retry(registry, object, access);
+        if (is_idle(registry, object, access) || !object->buffer.awaited[access])
+            refresh(registry, object, access);
     }
 }
 
@@ -287,12 +309,14 @@ int buffer_import(struct registry *registry, const struct bim_request *request, 
 
     if (object->kind != BUFFER || !is_end_of(object, passed))
         return object->kind == BUFFER ? EBADF : ENOTTY;
-    error = bim_device_import(&registry->device, object->number, file ? file->number : 0, request->flags);
+    error = clear_for(registry, object, file, request->flags, passed);
+    if (!error)
+        error = bim_device_import(&registry->device, object->number, file ? file->number : 0, request->flags);
     if (error)
-        return error;
-    refresh(registry, object, READING, passed);
-    refresh(registry, object, WRITING, passed);
-    return 0;
+        retry(registry, object);
+    for (enum access access = 0; access < ACCESSES && !error; access++)
+        refresh(registry, object, access);
+    return error;
 }
 
 void buffer_drop(struct registry *registry, struct object *object)

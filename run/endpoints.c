@@ -47,7 +47,7 @@ static int draw(uint64_t *number)
 }
 
 /* Stores the number of an object as the access time of its inode, which each copy of a descriptor shows. Polls and
- * writes don't change it, and programs never read our pipes. */
+ * writes don't change it. */
 static int mark_endpoints(struct endpoints *endpoints, enum bim_mark mark)
 {
     struct timespec times[2] = { { .tv_nsec = 0 }, { .tv_nsec = UTIME_OMIT } };
@@ -66,9 +66,12 @@ int endpoints_pipe(struct endpoints *endpoints, enum bim_mark mark)
 {
     int pair[2];
 
-    if (pipe2(pair, O_CLOEXEC))
+    if (pipe2(pair, O_CLOEXEC | O_NONBLOCK))
         return errno;
     *endpoints = (struct endpoints){ pair[0], pair[1], 0 };
+    /* Reads block. Before Linux 6.15 they would set the access time, which is the object's number. */
+    if (syscall(SYS_fcntl, endpoints->theirs, F_SETFL, O_NOATIME))
+        return give_up(endpoints, errno);
     /* One page is the smallest pipe. Pages count towards the user's limit on pipes, beyond which all new pipes of the
      * user are small. */
     syscall(SYS_fcntl, endpoints->ours, F_SETPIPE_SZ, 1);
@@ -159,14 +162,15 @@ bool endpoint_is_ours(int file)
     }
 }
 
+/* A pipe that takes no more bytes is readable already. */
 void endpoint_signal(int ours)
 {
     while (call_write(ours, "", 1) < 0 && errno == EINTR) {}
 }
 
-void endpoint_set_readable(int ours)
+int endpoint_set_readable(int ours)
 {
-    call_send(ours, "", 1);
+    return call_send(ours, "", 1) == 1 || errno == EAGAIN ? 0 : errno;
 }
 
 void endpoint_set_writable(int ours)
@@ -176,16 +180,25 @@ void endpoint_set_writable(int ours)
     while (call_recv(ours, bytes, sizeof bytes) > 0) {}
 }
 
-void endpoint_take_readable(int theirs)
+static bool polls(int theirs, short event)
+{
+    struct pollfd end = { theirs, event, 0 };
+
+    return call_poll(&end, 1, 0) != 0;
+}
+
+int endpoint_take_readable(int theirs)
 {
     char bytes[QUEUE_BYTES];
 
     while (call_recv(theirs, bytes, sizeof bytes) > 0) {}
+    return polls(theirs, POLLIN) ? ENOMEM : 0;
 }
 
-void endpoint_take_writable(int theirs)
+int endpoint_take_writable(int theirs)
 {
     static const char bytes[QUEUE_BYTES];
 
     while (call_send(theirs, bytes, sizeof bytes) > 0) {}
+    return polls(theirs, POLLOUT) ? ENOMEM : 0;
 }

@@ -32,12 +32,13 @@ enum bim_mark endpoint_mark(int file, uint64_t *inode);
 /* Returns whether a descriptor is an end that the service holds. */
 bool endpoint_is_ours(int file);
 
-/* Makes a file readable. Raises SIGPIPE if its last reader is gone, unless SIGPIPE is blocked. */
+/* Makes a file readable, at once and for good. Raises SIGPIPE if its last reader is gone, unless SIGPIPE is blocked. */
 void endpoint_signal(int ours);
-/* Set what poll reports for a buffer. Clearing readiness needs the program's end. */
-void endpoint_set_readable(int ours);
+/* Set what poll reports for a buffer. Clearing readiness needs the program's end. Return 0, or an errno if the kernel
+ * has no memory for that: then poll reports what it reported before. */
+int endpoint_set_readable(int ours);
 void endpoint_set_writable(int ours);
-void endpoint_take_readable(int theirs);
-void endpoint_take_writable(int theirs);
+int endpoint_take_readable(int theirs);
+int endpoint_take_writable(int theirs);
 
 #endif

@@ -21,6 +21,7 @@ enum kind { TIMELINE, SYNC_FILE, BUFFER, READINESS };
 enum access { READING, WRITING, ACCESSES };
 
 struct buffer {
+    struct registry *registry;
     struct parts memory;
     bool is_lent;
     uint32_t flags;
