@@ -1,3 +1,4 @@
+#define _GNU_SOURCE
 #include "process.h"
 
 #include "calls.h"
@@ -7,7 +8,7 @@
 #include <string.h>
 #include <sys/resource.h>
 
-enum { STATUS_BYTES = 512 };
+enum { STATUS_BYTES = 512, PIECE_BYTES = 8192 };
 
 struct process process_open(pid_t number)
 {
@@ -25,21 +26,48 @@ void process_close(struct process *process)
     *process = (struct process){ 0, -1 };
 }
 
-ssize_t process_read(pid_t number, const char *name, char *text, size_t room)
+static int open_file(pid_t number, const char *name)
 {
     char path[64];
-    size_t all = 0;
-    ssize_t length = -1;
-    int file;
 
     snprintf(path, sizeof path, "/proc/%d/%s", (int)number, name);
-    file = open(path, O_RDONLY | O_CLOEXEC);
+    return open(path, O_RDONLY | O_CLOEXEC);
+}
+
+ssize_t process_read(pid_t number, const char *name, char *text, size_t room)
+{
+    size_t all = 0;
+    ssize_t length = -1;
+    int file = open_file(number, name);
+
     if (file < 0)
         return -1;
     while (all < room && (length = call_read(file, text + all, room - all)) > 0)
         all += length;
     call_close(file);
     return length < 0 ? -1 : (ssize_t)all;
+}
+
+/* The end of each piece is kept, since the bytes may begin there. */
+bool process_has(pid_t number, const char *name, const char *bytes, size_t length)
+{
+    char piece[PIECE_BYTES];
+    size_t all = 0, kept;
+    ssize_t more;
+    bool has = false;
+    int file = open_file(number, name);
+
+    if (file < 0)
+        return false;
+    while (!has && (more = call_read(file, piece + all, sizeof piece - all)) > 0) {
+        all += more;
+        has = memmem(piece, all, bytes, length);
+        kept = all < length - 1 ? all : length - 1;
+        memmove(piece, piece + all - kept, kept);
+        all = kept;
+    }
+    call_close(file);
+    return has;
 }
 
 /* Without /proc, a process that wasn't reaped counts as running. */

@@ -26,5 +26,7 @@ struct pollfd process_end(const struct process *process);
 void process_raise_limit(void);
 /* Reads a file of a process in /proc. Returns its length, or -1 if it can't be read. */
 ssize_t process_read(pid_t number, const char *name, char *text, size_t room);
+/* Returns whether a file of a process in /proc, of any length, has these bytes. There are fewer than 4,096. */
+bool process_has(pid_t number, const char *name, const char *bytes, size_t length);
 
 #endif

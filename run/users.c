@@ -11,8 +11,8 @@
 #include <stdlib.h>
 #include <string.h>
 
-/* How much is read of /proc at once, of a process's state, and of its environment. Longer environments are cut. */
-enum { LIST_BYTES = 8192, STATE_BYTES = 512, ENVIRONMENT_BYTES = 1 << 17 };
+/* How much is read of /proc at once, and of a process's state. */
+enum { LIST_BYTES = 8192, STATE_BYTES = 512 };
 
 /* The number of a process that only its pidfd names. */
 enum { HAS_HANDLE = 1 };
@@ -20,12 +20,10 @@ enum { HAS_HANDLE = 1 };
 /* Returns whether a process's environment names this service. */
 static bool is_served(const struct service *service, pid_t number)
 {
-    static char text[ENVIRONMENT_BYTES];
     char variable[sizeof service->socket + sizeof BIM_SERVICE + 1];
     int length = snprintf(variable, sizeof variable, BIM_SERVICE "=%s", service->socket);
-    ssize_t found = process_read(number, "environ", text, sizeof text);
 
-    return found > 0 && memmem(text, found, variable, length + 1);
+    return process_has(number, "environ", variable, length + 1);
 }
 
 /* Guards of runs nested in this one end by themselves, with the processes that they guard. */

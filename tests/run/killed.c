@@ -9,7 +9,8 @@
  *   blind    no process can read /proc any more
  *   deaf     standard error is a pipe that is never read; closed: a pipe without a reader
  *   nested   the tool runs another tool, whose processes wait
- *   early    the order begins with the start of the tool, whose program ends at once */
+ *   early    the order begins with the start of the tool, whose program ends at once
+ *   large    the environment is large, and the tool's variables are its last */
 #include "service.h"
 #include <sched.h>
 #include <sys/epoll.h>
@@ -22,7 +23,7 @@ enum { LONGEST = 30, IN_TIME = 15, LONGEST_UNSEEN = 3 };
 enum { FEW = 64 };
 
 static unsigned longest = LONGEST;
-static int is_full, is_blind, is_deaf, is_closed, is_nested, is_early;
+static int is_full, is_blind, is_deaf, is_closed, is_nested, is_early, is_large;
 
 /* The pipe for what the waiting processes report. It ends with the last of them. */
 static int tells;
@@ -256,6 +257,18 @@ static int useless_errors(void)
     return pair[1];
 }
 
+/* Adds variables of some 300 KB. */
+static void enlarge_environment(void)
+{
+    static char value[100000], name[16];
+
+    memset(value, 'x', sizeof value - 1);
+    for (int i = 0; i < 3; i++) {
+        snprintf(name, sizeof name, "LARGE_%d", i);
+        setenv(name, value, 1);
+    }
+}
+
 static void become_tool(char **argv, int input, int errors)
 {
     char told[16], *all[MOST] = { argv[1], argv[1], argv[0], "--in", told }, **words = is_nested ? all : all + 1;
@@ -263,6 +276,8 @@ static void become_tool(char **argv, int input, int errors)
 
     snprintf(told, sizeof told, "%d", tells);
     set_mark(getppid());
+    if (is_large)
+        enlarge_environment();
     for (int i = 2; argv[i] && i < MOST - 4; i++)
         all[i + 3] = argv[i];
     if (is_full)
@@ -329,6 +344,7 @@ static void take_words(char **argv)
     is_closed = has_word(argv, "closed");
     is_nested = has_word(argv, "nested");
     is_early = has_word(argv, "early");
+    is_large = has_word(argv, "large");
     /* A process that can't be found blocks forever. */
     longest = is_blind ? LONGEST_UNSEEN : LONGEST;
 }
