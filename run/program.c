@@ -105,6 +105,14 @@ static const char *name_of(const char *path)
     return strrchr(path, '/') ? strrchr(path, '/') + 1 : path;
 }
 
+static bool is_same_file(const char *path, const char *other)
+{
+    struct stat found, wanted;
+
+    return stat(path, &found) == 0 && stat(other, &wanted) == 0 && found.st_dev == wanted.st_dev &&
+           found.st_ino == wanted.st_ino;
+}
+
 static int refuse(const char *program, const char *reason, const char *way_out)
 {
     fprintf(stderr, "bimphlai-run: %s %s; %s\n", program, reason, way_out);
@@ -114,16 +122,18 @@ static int refuse(const char *program, const char *reason, const char *way_out)
 static int check_elf(const char *path, const struct image *image)
 {
     struct image own;
+    bool has_own = read_image("/proc/self/exe", &own);
 
     if (gains_rights(path))
         return refuse(path, "gets rights of another user or group, and the loader preloads nothing for such a program",
                       "run a copy without these rights");
-    if (!image->loader[0] && strncmp(name_of(path), "ld", 2) == 0)
+    /* The loader itself, which runs a program named by its arguments. */
+    if (!image->loader[0] && has_own && is_same_file(path, own.loader))
         return 0;
     if (!image->loader[0])
         return refuse(path, "is a static program, into which no library can be preloaded",
                       "link it dynamically, or build the calls of libbimphlai into it (bimphlai-run(1))");
-    if (read_image("/proc/self/exe", &own) && strcmp(name_of(own.loader), name_of(image->loader)) != 0)
+    if (has_own && strcmp(name_of(own.loader), name_of(image->loader)) != 0)
         return refuse(
             path, "has another loader than bimphlai-run, and the loader preloads nothing for it that is built for ours",
             "build both for the same machine and C library");
