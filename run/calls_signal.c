@@ -8,28 +8,33 @@
 
 static void note(sighandler_t handler)
 {
-    if (handler != SIG_DFL && handler != SIG_IGN && handler != SIG_ERR)
+    if (handler != SIG_DFL && handler != SIG_IGN && handler != SIG_ERR && handler != SIG_HOLD)
         shim_note_handler();
 }
 
-EXPORT int sigaction(int number, const struct sigaction *action, struct sigaction *before)
-{
-    NEXT(sigaction);
-    struct sigaction copy;
-    int result;
-
-    if (number == SIGSYS && direct_is_on())
-        return 0;
-    if (action && direct_is_on()) {
-        copy = *action;
-        direct_may_block(&action->sa_mask, &copy.sa_mask);
-        action = &copy;
+#define SIGACTION(name)                                                                            \
+    int name(int number, const struct sigaction *action, struct sigaction *before);                \
+    EXPORT int name(int number, const struct sigaction *action, struct sigaction *before)          \
+    {                                                                                              \
+        NEXT(name);                                                                                \
+        struct sigaction copy;                                                                     \
+        int result;                                                                                \
+                                                                                                   \
+        if (number == SIGSYS && direct_is_on())                                                    \
+            return 0;                                                                              \
+        if (action && direct_is_on()) {                                                            \
+            copy = *action;                                                                        \
+            direct_may_block(&action->sa_mask, &copy.sa_mask);                                     \
+            action = &copy;                                                                        \
+        }                                                                                          \
+        result = next(number, action, before);                                                     \
+        if (result == 0 && action)                                                                 \
+            note(action->sa_handler);                                                              \
+        return result;                                                                             \
     }
-    result = next(number, action, before);
-    if (result == 0 && action)
-        note(action->sa_handler);
-    return result;
-}
+
+SIGACTION(sigaction)
+SIGACTION(__sigaction)
 
 #define SIGNAL(name)                                           \
     sighandler_t name(int number, sighandler_t handler);       \
@@ -48,6 +53,10 @@ SIGNAL(bsd_signal)
 SIGNAL(sysv_signal)
 SIGNAL(__sysv_signal)
 SIGNAL(ssignal)
+#pragma GCC diagnostic push
+#pragma GCC diagnostic ignored "-Wdeprecated-declarations"
+SIGNAL(sigset)
+#pragma GCC diagnostic pop
 
 #define BLOCK(name)                                                            \
     EXPORT int name(int how, const sigset_t *signals, sigset_t *before)        \

@@ -1,8 +1,8 @@
-/* usage: handlers [forking|unseen|without-jumps]
+/* usage: handlers [forking|unseen|sigset|alias|without-jumps]
  *
  * Threads that make, merge, increment and close, each interrupted at any point by a signal handler that does so too, or
  * that jumps away, which leaves descriptors open; with "forking", by one that forks. With "unseen" the handlers are
- * installed without the preloaded library's knowledge. */
+ * installed without the preloaded library's knowledge; with "sigset" and "alias", by other names of sigaction. */
 #include "kernel.h"
 #include <dlfcn.h>
 #include <pthread.h>
@@ -204,6 +204,15 @@ static void look_past_preloaded(void)
         memcpy(&install, &found, sizeof install);
 }
 
+#pragma GCC diagnostic ignored "-Wdeprecated-declarations"
+static int install_by_sigset(int number, const struct sigaction *action, struct sigaction *before)
+{
+    (void)before;
+    return sigset(number, action->sa_handler) == SIG_ERR ? -1 : 0;
+}
+
+int __sigaction(int number, const struct sigaction *action, struct sigaction *before);
+
 int main(int argc, char **argv)
 {
     int is_unseen = argc > 1 && !strcmp(argv[1], "unseen");
@@ -211,6 +220,10 @@ int main(int argc, char **argv)
     give_up_after(60);
     if (is_unseen)
         look_past_preloaded();
+    if (argc > 1 && !strcmp(argv[1], "sigset"))
+        install = install_by_sigset;
+    if (argc > 1 && !strcmp(argv[1], "alias"))
+        install = __sigaction;
     calling();
     if (argc == 1)
         jumping();
