@@ -26,6 +26,7 @@ static bool is_own(const char *path)
 static void remove_entries(int in, const char *name, int folder)
 {
     unlinkat(folder, FOLDER_SOCKET, 0);
+    unlinkat(folder, FOLDER_TRACE, 0);
     unlinkat(in, name, AT_REMOVEDIR);
 }
 
@@ -102,13 +103,19 @@ int folder_make(char *path, size_t room, int *lock)
     return error;
 }
 
+static void remove_in(const char *folder, const char *name)
+{
+    char path[256];
+
+    snprintf(path, sizeof path, "%s/%s", folder, name);
+    unlink(path);
+}
+
 void folder_remove(const char *path)
 {
-    char socket[256];
-
     if (!path[0])
         return;
-    snprintf(socket, sizeof socket, "%s/" FOLDER_SOCKET, path);
-    unlink(socket);
+    remove_in(path, FOLDER_SOCKET);
+    remove_in(path, FOLDER_TRACE);
     rmdir(path);
 }

@@ -1,4 +1,4 @@
-/* The folder of a run, which contains the socket of its service. The folder is locked while the run lasts, so that a
+/* A folder of a run, which contains the socket of its service, or a temporary trace. The folder is locked while the run lasts, so that a
  * later run can recognise and remove the folder of a run that was killed. */
 #ifndef BIM_RUN_FOLDER_H
 #define BIM_RUN_FOLDER_H
@@ -6,11 +6,12 @@
 #include <stddef.h>
 
 #define FOLDER_SOCKET "socket"
+#define FOLDER_TRACE  "trace"
 
 /* Makes a folder that only this user may enter. Stores its path, and a descriptor that holds the lock. Removes all
  * unlocked folders beside it. Returns 0 or an errno. */
 int folder_make(char *path, size_t room, int *lock);
-/* Removes the folder and the socket in it, unless `path` is empty. */
+/* Removes the folder and the files in it, unless `path` is empty. */
 void folder_remove(const char *path);
 
 #endif

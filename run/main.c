@@ -81,7 +81,6 @@ int main(int count, char **words)
     if (status)
         return status;
     status = run(&options, path[0] ? path : NULL);
-    if (path[0] && !options.trace)
-        unlink(path);
+    report_remove_temporary();
     return status;
 }

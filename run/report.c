@@ -1,6 +1,7 @@
 #define _GNU_SOURCE
 #include "report.h"
 
+#include "folder.h"
 #include "launch.h"
 #include "say.h"
 #include "trace.h"
@@ -17,16 +18,22 @@
 
 enum { HANGS = 1 };
 
+static char folder[64];
+
+/* If this process is killed, the next run removes the folder. */
 int report_temporary(char *path)
 {
-    int file;
+    int lock, error = folder_make(folder, sizeof folder, &lock);
 
-    strcpy(path, "/tmp/bimphlai-run-trace.XXXXXX");
-    file = mkostemp(path, O_CLOEXEC);
-    if (file < 0)
-        return errno;
-    close(file);
+    if (error)
+        return error;
+    snprintf(path, PATH_MAX, "%s/" FOLDER_TRACE, folder);
     return trace_begin(path);
+}
+
+void report_remove_temporary(void)
+{
+    folder_remove(folder);
 }
 
 /* Becomes fencectl (exec), whose report goes to standard error or is discarded. Resets the signals that bimphlai-run
