@@ -10,6 +10,7 @@
 #include "wire.h"
 
 #include <errno.h>
+#include <stdint.h>
 #include <sys/prctl.h>
 #include <sys/signalfd.h>
 #include <sys/wait.h>
@@ -96,6 +97,16 @@ static void reap(struct run *run)
     }
 }
 
+static void forward(const struct signalfd_siginfo *signal, pid_t program)
+{
+    const union sigval value = { .sival_ptr = (void *)(uintptr_t)signal->ssi_ptr };
+
+    if (signal->ssi_code == SI_QUEUE)
+        sigqueue(program, signal->ssi_signo, value);
+    else
+        kill(program, signal->ssi_signo);
+}
+
 /* Forwards signals from other processes to the program. The program gets the terminal's signals itself; and the kernel
  * sends SIGPIPE in our own name when a write finds no reader. */
 static void take_signals(struct run *run)
@@ -105,7 +116,7 @@ static void take_signals(struct run *run)
     while (call_read(run->signals, &signal, sizeof signal) == sizeof signal)
         if (signal.ssi_signo != SIGCHLD && signal.ssi_code <= 0 && (pid_t)signal.ssi_pid != getpid() &&
             run->program > 0 && !run->program_has_ended)
-            kill(run->program, signal.ssi_signo);
+            forward(&signal, run->program);
     reap(run);
 }
 
@@ -257,6 +268,6 @@ int supervise(const struct options *options, const char *trace)
     if (options->is_local)
         wait_for_an_end(&run);
     status = options->is_local ? launch_status(run.waited) : serve_program(options, &run);
-    call_close(run.signals);
+    /* The number of run.signals stays taken: all ends of objects have higher numbers than the lock of the folder. */
     return run.users_are_killed ? status : report(options, trace, status);
 }

@@ -121,12 +121,21 @@ static int makes_for_a_while(void)
 static const int SENT[] = { SIGALRM, SIGVTALRM, SIGPIPE, SIGIO, SIGUSR1, SIGTERM };
 enum { MOST_SENT = sizeof SENT / sizeof *SENT };
 
-static volatile sig_atomic_t taken;
+enum { VALUE = 77 };
+
+static volatile sig_atomic_t taken, value;
 
 static void take(int number)
 {
     (void)number;
     taken++;
+}
+
+static void take_value(int number, siginfo_t *info, void *context)
+{
+    (void)context;
+    value = info->si_value.sival_int;
+    take(number);
 }
 
 static void try_signals(void)
@@ -146,18 +155,23 @@ static void try_signals(void)
         kill(child, SENT[i]);
         pause_for(20);
     }
+    sigqueue(child, SIGUSR2, (union sigval){ .sival_int = VALUE });
     EXPECT(end_of(child), 0);
     close(pair[0]);
 }
 
 static int signals(int begun)
 {
+    struct sigaction with_value = { .sa_sigaction = take_value, .sa_flags = SA_SIGINFO };
+
+    EXPECT(sigaction(SIGUSR2, &with_value, NULL), 0);
     for (int i = 0; i < MOST_SENT; i++)
         signal(SENT[i], take);
     HOLDS(write(begun, "!", 1) == 1);
-    for (int left = SOON; taken < MOST_SENT && left > 0; left--)
+    for (int left = SOON; taken <= MOST_SENT && left > 0; left--)
         pause_for(1);
-    EXPECT(taken, MOST_SENT);
+    EXPECT(taken, MOST_SENT + 1);
+    EXPECT(value, VALUE);
     HOLDS(timeline() >= 0);
     return failures;
 }
