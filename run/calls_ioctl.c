@@ -2,6 +2,7 @@
 #define _GNU_SOURCE
 #include "calls.h"
 #include "ioctls.h"
+#include "loss.h"
 #include "shim.h"
 #include "user.h"
 
@@ -164,7 +165,7 @@ static int wait_for_byte(int file)
     ssize_t length = call_read(file, &byte, 1);
 
     if (length == 0)
-        shim_lose_service();
+        loss_of_service();
     return length < 0 ? errno : 0;
 }
 
@@ -175,7 +176,7 @@ static int poll_buffer(int buffer, short event, int milliseconds)
     int count = call_poll(&file, 1, milliseconds);
 
     if (count > 0)
-        shim_look_for_loss(&file, 1);
+        loss_look(&file, 1);
     return count < 0 ? errno : file.revents & event ? 0 : EAGAIN;
 }
 
@@ -304,7 +305,7 @@ static int on_heap(unsigned long call, void *arg)
 
 /* Returns whether a call is one of those above, or one that only pipes and sockets take. All others go to the kernel at
  * once. */
-static bool is_ours(unsigned long call)
+static bool may_be_served(unsigned long call)
 {
     if (call == FIONREAD || call == TIOCOUTQ)
         return true;
@@ -352,7 +353,7 @@ EXPORT int ioctl(int file, unsigned long call, ...)
     arg = va_arg(words, void *);
     va_end(words);
     call = (uint32_t)call;
-    if (!is_ours(call))
+    if (!may_be_served(call))
         return after_kernel(file, next(file, call, arg));
     mark = shim_mark(file, &inode);
     if (!mark)

@@ -1,9 +1,9 @@
-/* open(2) and stat(2) of the paths by which programs reach fences. */
+/* open(2) of the paths by which programs reach fences. */
 #define _GNU_SOURCE
 #include "calls.h"
 #include "direct.h"
+#include "paths.h"
 #include "shim.h"
-#include "user.h"
 
 #include <errno.h>
 #include <stdarg.h>
@@ -11,39 +11,6 @@
 #include <string.h>
 #include <sys/mman.h>
 #include <sys/prctl.h>
-#include <sys/sysmacros.h>
-
-enum { PATH_ROOM = 64 };
-enum path { NOT_OURS, SW_SYNC, SYNC_INFO, DMA_HEAP, UDMABUF };
-
-/* The path is readable, since the kernel has read it, or it is a copy. A call that names a file by its descriptor may
- * have no path. */
-static enum path path_of(const char *path)
-{
-    if (!shim_is_on() || !path || path[0] != '/')
-        return NOT_OURS;
-    if (strcmp(path, "/sys/kernel/debug/sync/sw_sync") == 0 || strcmp(path, "/dev/sw_sync") == 0)
-        return SW_SYNC;
-    if (strcmp(path, "/sys/kernel/debug/sync/info") == 0)
-        return SYNC_INFO;
-    if (strcmp(path, "/dev/udmabuf") == 0)
-        return UDMABUF;
-    return strcmp(path, "/dev/dma_heap/system") == 0 ? DMA_HEAP : NOT_OURS;
-}
-
-/* Classifies the path of a call that the kernel has already answered. */
-static enum path path_after(const char *path, bool has_failed)
-{
-    return has_failed && errno == EFAULT ? NOT_OURS : path_of(path);
-}
-
-/* Classifies the path of a call that would create a file, and must not create one of ours. */
-static enum path path_before(const char *path)
-{
-    char copy[PATH_ROOM];
-
-    return shim_is_on() && user_get_text(copy, path, sizeof copy) == 0 ? path_of(copy) : NOT_OURS;
-}
 
 /* Opens a device: a descriptor that only has its mark. The service makes the objects. */
 static int open_device(enum bim_mark mark)
@@ -52,9 +19,11 @@ static int open_device(enum bim_mark mark)
 
     if (file < 0)
         return -1;
-    syscall(SYS_fcntl, file, F_ADD_SEALS, F_SEAL_WRITE | F_SEAL_GROW | F_SEAL_SHRINK | F_SEAL_SEAL);
-    syscall(SYS_fchmod, file, mark & ~S_IFMT);
-    return file;
+    if (syscall(SYS_fcntl, file, F_ADD_SEALS, F_SEAL_WRITE | F_SEAL_GROW | F_SEAL_SHRINK | F_SEAL_SEAL) == 0 &&
+        syscall(SYS_fchmod, file, mark & ~S_IFMT) == 0)
+        return file;
+    call_close(file);
+    return shim_result(ENODEV);
 }
 
 static int open_by_service(enum path path)
@@ -104,7 +73,7 @@ static int replace_file(enum path path, int flags, int opened)
 
 /* Returns whether a path may name one of our descriptors. If its mode denies the owner access, the kernel's open has
  * failed with EACCES, except for root. */
-static bool is_of_descriptor(const char *path, int opened)
+static bool may_be_descriptor(const char *path, int opened)
 {
     if (opened < 0 && errno != EACCES)
         return false;
@@ -137,7 +106,7 @@ static int reopen(const char *path, int flags, int opened)
 {
     uint64_t inode;
 
-    if (!shim_is_on() || flags & O_PATH || !is_of_descriptor(path, opened))
+    if (!shim_is_on() || flags & O_PATH || !may_be_descriptor(path, opened))
         return opened;
     switch (opened < 0 ? mark_of_path(path) : shim_mark(opened, &inode)) {
     case BIM_TIMELINE_MARK: return replace_file(SW_SYNC, flags, opened);
@@ -269,118 +238,3 @@ static FILE *open_stream(enum path path, const char *mode)
 
 FOPEN(fopen)
 FOPEN(fopen64)
-
-/* The mode of a file of debugfs, or of a device. */
-static mode_t mode_of(enum path path)
-{
-    return path == DMA_HEAP || path == UDMABUF ? S_IFCHR | 0600 : path == SYNC_INFO ? S_IFREG | 0444 : S_IFREG | 0644;
-}
-
-static int fill_stat(struct stat *found, enum path path)
-{
-    struct stat filled = { .st_mode = mode_of(path), .st_nlink = 1, .st_blksize = sysconf(_SC_PAGESIZE) };
-
-    return shim_result(user_put(found, &filled, sizeof filled));
-}
-
-static int fill_statx(struct statx *found, enum path path)
-{
-    struct statx filled = {
-        .stx_mask = STATX_BASIC_STATS, .stx_mode = mode_of(path), .stx_nlink = 1, .stx_blksize = sysconf(_SC_PAGESIZE)
-    };
-
-    return shim_result(user_put(found, &filled, sizeof filled));
-}
-
-/* On 64-bit machines, both structs have the same layout. */
-#define STAT(name, type)                                                \
-    EXPORT int name(const char *path, struct type *found)               \
-    {                                                                   \
-        NEXT(name);                                                     \
-        int result = next(path, found);                                 \
-        enum path which = path_after(path, result < 0);                 \
-                                                                        \
-        return which ? fill_stat((struct stat *)found, which) : result; \
-    }
-
-STAT(stat, stat)
-STAT(stat64, stat64)
-STAT(lstat, stat)
-STAT(lstat64, stat64)
-
-#define FSTATAT(name, type)                                                      \
-    EXPORT int name(int folder, const char *path, struct type *found, int flags) \
-    {                                                                            \
-        NEXT(name);                                                              \
-        int result = next(folder, path, found, flags);                           \
-        enum path which = path_after(path, result < 0);                          \
-                                                                                 \
-        return which ? fill_stat((struct stat *)found, which) : result;          \
-    }
-
-FSTATAT(fstatat, stat)
-FSTATAT(fstatat64, stat64)
-
-/* Entry points of programs built with an older C library. */
-#define XSTAT(name, type)                                               \
-    int name(int version, const char *path, struct type *found);        \
-    EXPORT int name(int version, const char *path, struct type *found)  \
-    {                                                                   \
-        NEXT(name);                                                     \
-        int result = next(version, path, found);                        \
-        enum path which = path_after(path, result < 0);                 \
-                                                                        \
-        return which ? fill_stat((struct stat *)found, which) : result; \
-    }
-
-XSTAT(__xstat, stat)
-XSTAT(__xstat64, stat64)
-XSTAT(__lxstat, stat)
-XSTAT(__lxstat64, stat64)
-
-#define FXSTATAT(name, type)                                                                  \
-    int name(int version, int folder, const char *path, struct type *found, int flags);       \
-    EXPORT int name(int version, int folder, const char *path, struct type *found, int flags) \
-    {                                                                                         \
-        NEXT(name);                                                                           \
-        int result = next(version, folder, path, found, flags);                               \
-        enum path which = path_after(path, result < 0);                                       \
-                                                                                              \
-        return which ? fill_stat((struct stat *)found, which) : result;                       \
-    }
-
-FXSTATAT(__fxstatat, stat)
-FXSTATAT(__fxstatat64, stat64)
-
-EXPORT int statx(int folder, const char *path, int flags, unsigned mask, struct statx *found)
-{
-    NEXT(statx);
-    int result = next(folder, path, flags, mask, found);
-    enum path which = path_after(path, result < 0);
-
-    return which ? fill_statx(found, which) : result;
-}
-
-/* All users may read and write; none may execute. */
-static int check_access(enum path path, int how)
-{
-    return shim_result(how & X_OK || (path == SYNC_INFO && how & W_OK) ? EACCES : 0);
-}
-
-EXPORT int access(const char *path, int how)
-{
-    NEXT(access);
-    int result = next(path, how);
-    enum path which = path_after(path, result < 0);
-
-    return which ? check_access(which, how) : result;
-}
-
-EXPORT int faccessat(int folder, const char *path, int how, int flags)
-{
-    NEXT(faccessat);
-    int result = next(folder, path, how, flags);
-    enum path which = path_after(path, result < 0);
-
-    return which ? check_access(which, how) : result;
-}

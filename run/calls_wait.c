@@ -2,13 +2,14 @@
  * is gone, these calls report what looks like a signal; it must not reach the program. */
 #define _GNU_SOURCE
 #include "calls.h"
+#include "loss.h"
+#include "numbers.h"
 #include "shim.h"
 #include "shuffle.h"
 #include "user.h"
 
 #include <errno.h>
 #include <poll.h>
-#include <stdio.h>
 #include <sys/epoll.h>
 #include <sys/select.h>
 
@@ -55,7 +56,7 @@ static int after_poll(const struct pollfd *files, nfds_t count, uint64_t noted, 
 {
     end_waits(files, noted);
     if (result > 0)
-        shim_look_for_loss(files, count);
+        loss_look(files, count);
     return result;
 }
 
@@ -112,15 +113,26 @@ static nfds_t files_before(const fd_set *set, int count, struct pollfd *files)
     return files_of(&copy, &from, count, files);
 }
 
+/* The kernel cuts the count of a select at the size of the process's table, which own descriptors may have made larger. */
+static int selected(int count)
+{
+    int before = errno;
+
+    if (count > FD_SETSIZE && shim_is_on())
+        count = numbers_selected(count, shim_is_own, shim_above_own());
+    errno = before;
+    return count;
+}
+
 /* select reports a hang-up as readable, so the descriptors are polled. */
-static void look_at_set(const fd_set *set, int count)
+static void look_at_bits(const fd_set *set, int count)
 {
     struct pollfd files[NOTED];
     nfds_t found;
 
     for (int from = 0; (found = files_of(set, &from, count, files)) > 0;)
         if (call_poll(files, found, 0) > 0)
-            shim_look_for_loss(files, found);
+            loss_look(files, found);
 }
 
 static int after_select(int count, const fd_set *readable, const fd_set *writable, const struct pollfd *files,
@@ -130,8 +142,8 @@ static int after_select(int count, const fd_set *readable, const fd_set *writabl
 
     end_waits(files, noted);
     if (result > 0 && shim_is_on()) {
-        look_at_set(readable, count);
-        look_at_set(writable, count);
+        look_at_bits(readable, count);
+        look_at_bits(writable, count);
     }
     errno = before;
     return result;
@@ -152,6 +164,7 @@ EXPORT int select(int count, fd_set *readable, fd_set *writable, fd_set *others,
     struct pollfd files[NOTED];
     uint64_t noted = waits_until(limit) ? begin_waits(files, files_before(readable, count, files)) : 0;
 
+    count = selected(count);
     return after_select(count, readable, writable, files, noted, next(count, readable, writable, others, limit));
 }
 
@@ -162,42 +175,19 @@ EXPORT int pselect(int count, fd_set *readable, fd_set *writable, fd_set *others
     struct pollfd files[NOTED];
     uint64_t noted = waits(limit) ? begin_waits(files, files_before(readable, count, files)) : 0;
 
+    count = selected(count);
     return after_select(count, readable, writable, files, noted, next(count, readable, writable, others, limit, mask));
 }
-
-static _Atomic bool is_watched; /* an epoll set watches one of our descriptors */
 
 /* Linux's epoll refuses files without a poll operation, such as timelines. */
 EXPORT int epoll_ctl(int set, int how, int file, struct epoll_event *event)
 {
     NEXT(epoll_ctl);
-    enum bim_mark mark;
     uint64_t inode;
 
-    if (how != EPOLL_CTL_ADD)
-        return next(set, how, file, event);
-    mark = shim_mark(file, &inode);
-    if (mark == BIM_TIMELINE_MARK)
+    if (how == EPOLL_CTL_ADD && shim_mark(file, &inode) == BIM_TIMELINE_MARK)
         return shim_result(EPERM);
-    if (mark)
-        is_watched = true;
     return next(set, how, file, event);
-}
-
-/* An event doesn't say which descriptor it is for, but /proc lists the descriptors in the set. */
-static void look_at_watched(int set)
-{
-    char path[64], line[256];
-    struct pollfd watched = { -1, 0, 0 };
-    FILE *text;
-
-    snprintf(path, sizeof path, "/proc/self/fdinfo/%d", set);
-    text = fopen(path, "re");
-    while (text && fgets(line, sizeof line, text))
-        if (sscanf(line, "tfd: %d", &watched.fd) == 1 && call_poll(&watched, 1, 0) > 0)
-            shim_look_for_loss(&watched, 1);
-    if (text)
-        fclose(text);
 }
 
 static int after_epoll(int set, const struct epoll_event *events, int result)
@@ -205,10 +195,10 @@ static int after_epoll(int set, const struct epoll_event *events, int result)
     int before = errno;
     bool has_hung_up = false;
 
-    for (int i = 0; is_watched && i < result; i++)
+    for (int i = 0; i < result; i++)
         has_hung_up |= (events[i].events & EPOLLHUP) != 0;
-    if (has_hung_up)
-        look_at_watched(set);
+    if (has_hung_up && shim_is_on())
+        loss_look_at_set(set);
     shuffle_pause();
     errno = before;
     return result;

@@ -3,6 +3,7 @@
 #include "clients.h"
 
 #include "calls.h"
+#include "pass.h"
 
 #include <errno.h>
 #include <stdlib.h>
@@ -66,11 +67,24 @@ static bool add_client(struct server *server, int socket)
     return true;
 }
 
-/* Accepts and closes one waiting connection, so that the process sees that it can't connect. */
+/* Says to a process that it can't be a client, in place of the answer to its first request. */
+static void refuse(int socket)
+{
+    const struct bim_answer answer = { .error = ENFILE };
+
+    pass_send(socket, &answer, bim_answer_size(&answer), -1, MSG_DONTWAIT);
+    call_close(socket);
+}
+
+/* Turns one waiting process away, by the last descriptor. */
 static void turn_away(struct server *server)
 {
+    int socket;
+
     call_close(server->spare);
-    call_close(accept4(server->setup->listener, NULL, NULL, SOCK_CLOEXEC | SOCK_NONBLOCK));
+    socket = accept4(server->setup->listener, NULL, NULL, SOCK_CLOEXEC | SOCK_NONBLOCK);
+    if (socket >= 0)
+        refuse(socket);
     server->spare = open("/dev/null", O_RDONLY | O_CLOEXEC);
 }
 
@@ -81,7 +95,7 @@ void client_take(struct server *server)
     if (socket < 0 && (errno == EMFILE || errno == ENFILE))
         turn_away(server);
     if (socket >= 0 && !add_client(server, socket))
-        call_close(socket);
+        refuse(socket);
 }
 
 static void part_with(struct server *server, struct client *client)
@@ -104,9 +118,9 @@ static void part_with(struct server *server, struct client *client)
     server->is_parted = true;
 }
 
-static int give_channel(struct client *client, int *gives)
+static int give_channel(struct server *server, struct client *client, int *gives)
 {
-    if (client->channel)
+    if (client->channel || !server_has_room(server))
         return EBUSY;
     client->channel = channel_new(gives);
     return client->channel ? 0 : errno;
@@ -142,22 +156,7 @@ static bool follows_closings(const struct bim_request *request)
 /* Returns whether the client took the answer. */
 static bool send_answer(const struct client *client, struct bim_answer *answer, int gives)
 {
-    union {
-        struct cmsghdr head;
-        char room[CMSG_SPACE(sizeof(int))];
-    } control = { .room = { 0 } };
-    struct iovec bytes = { answer, bim_answer_size(answer) };
-    struct msghdr message = { .msg_iov = &bytes, .msg_iovlen = 1 };
-
-    if (gives >= 0) {
-        message.msg_control = control.room;
-        message.msg_controllen = sizeof control.room;
-        control.head.cmsg_level = SOL_SOCKET;
-        control.head.cmsg_type = SCM_RIGHTS;
-        control.head.cmsg_len = CMSG_LEN(sizeof gives);
-        memcpy(CMSG_DATA(&control.head), &gives, sizeof gives);
-    }
-    return sendmsg(client->socket, &message, MSG_NOSIGNAL | MSG_DONTWAIT) >= 0;
+    return pass_send(client->socket, answer, bim_answer_size(answer), gives, MSG_DONTWAIT) >= 0;
 }
 
 /* Sends an answer. If the kernel lacks memory, or the user has too many descriptors in flight, sends ENOMEM instead.
@@ -172,27 +171,40 @@ static bool send_or_refuse(const struct client *client, struct bim_answer *answe
     return send_answer(client, answer, -1);
 }
 
-/* Returns the first descriptor that came with a message, or -1. Closes all others: alignment leaves room for two. */
-static int passed_by(struct msghdr *message)
-{
-    struct cmsghdr *head = CMSG_FIRSTHDR(message);
-    int passed = -1, each;
-
-    if (!head || head->cmsg_level != SOL_SOCKET || head->cmsg_type != SCM_RIGHTS)
-        return -1;
-    for (size_t at = 0; CMSG_LEN(at) < head->cmsg_len; at += sizeof each) {
-        memcpy(&each, CMSG_DATA(head) + at, sizeof each);
-        if (passed < 0)
-            passed = each;
-        else
-            call_close(each);
-    }
-    return passed;
-}
-
 static bool is_request(const struct bim_request *request)
 {
     return request->op > 0 && request->op < BIM_OPS;
+}
+
+static bool makes_object(const struct bim_request *request)
+{
+    switch (request->op) {
+    case BIM_OP_TIMELINE:
+    case BIM_OP_FENCE:
+    case BIM_OP_MERGE:
+    case BIM_OP_BUFFER:
+    case BIM_OP_EXTEND:
+    case BIM_OP_EXPORT: return true;
+    default: return false;
+    }
+}
+
+/* Returns the kernel's error where a process has numbers left, and the machine has none: of an open, or of an ioctl. */
+static int error_of_full(const struct bim_request *request)
+{
+    return request->op == BIM_OP_TIMELINE || request->op == BIM_OP_TEXT ? ENFILE : ENOMEM;
+}
+
+/* Serves a request. New objects are refused before the service is full. */
+static void serve(struct server *server, const struct bim_request *request, int passed, struct bim_answer *answer,
+                  int *gives)
+{
+    if (makes_object(request) && !server_has_room(server))
+        *answer = (struct bim_answer){ .error = EMFILE };
+    else
+        registry_serve(&server->registry, request, passed, answer, gives);
+    if (answer->error == EMFILE)
+        answer->error = error_of_full(request);
 }
 
 static void answer_client(struct server *server, struct client *client, const struct bim_request *request, int passed,
@@ -204,11 +216,12 @@ static void answer_client(struct server *server, struct client *client, const st
             server_settle(server);
     }
     if (request->op != BIM_OP_CHANNEL && request->op != BIM_OP_DOORBELL) {
-        registry_serve(&server->registry, request, passed, answer, gives);
+        serve(server, request, passed, answer, gives);
         return;
     }
     *answer = (struct bim_answer){ .gives = 1 };
-    answer->error = request->op == BIM_OP_CHANNEL ? give_channel(client, gives) : give_doorbell(server, client, gives);
+    answer->error =
+        request->op == BIM_OP_CHANNEL ? give_channel(server, client, gives) : give_doorbell(server, client, gives);
 }
 
 /* Answers one request. Returns whether the client took the answer. */
@@ -229,23 +242,13 @@ static bool serve_request(struct server *server, struct client *client, const st
  * answer. */
 static void serve_socket(struct server *server, struct client *client)
 {
-    union {
-        struct cmsghdr head;
-        char room[CMSG_SPACE(sizeof(int))];
-    } control;
     struct bim_request request;
-    struct iovec bytes = { &request, sizeof request };
-    struct msghdr message = {
-        .msg_iov = &bytes, .msg_iovlen = 1, .msg_control = control.room, .msg_controllen = sizeof control.room
-    };
-    ssize_t length = recvmsg(client->socket, &message, MSG_CMSG_CLOEXEC | MSG_DONTWAIT);
     int passed;
+    ssize_t length = pass_receive(client->socket, &request, sizeof request, &passed, MSG_DONTWAIT);
 
     if (length < 0 && (errno == EAGAIN || errno == EINTR))
         return;
-    passed = length >= 0 ? passed_by(&message) : -1;
-    if (length != sizeof request || message.msg_flags & MSG_TRUNC || !is_request(&request) ||
-        !serve_request(server, client, &request, passed))
+    if (length != sizeof request || !is_request(&request) || !serve_request(server, client, &request, passed))
         part_with(server, client);
     if (passed >= 0)
         call_close(passed);

@@ -19,6 +19,7 @@ struct server {
     int events;
     struct channel *incremented; /* the channel of the last increment, or NULL */
     int spare;                   /* a descriptor to close when no other is free */
+    long files_for_objects;      /* new objects get descriptors below this number */
     struct map clients;          /* keyed by their sockets and doorbells, plus 1 */
     size_t client_count;
     bool program_has_ended, tool_has_ended, lacks_guard;
@@ -32,6 +33,8 @@ struct server {
 int server_watch(struct server *server, int file, uint32_t how);
 /* Has the guard check descriptors up to this number too. Returns `file`. */
 int server_note(int file);
+/* Returns whether more than the descriptors that are kept for connections and answers are free. */
+bool server_has_room(const struct server *server);
 /* Notes all closings so far, and releases the closed objects. */
 void server_see_closings(struct server *server);
 void server_settle(struct server *server);

@@ -3,12 +3,14 @@
 
 #include "calls.h"
 #include "ioctls.h"
+#include "loss.h"
 #include "shim.h"
 
 #include <errno.h>
 #include <linux/audit.h>
 #include <linux/filter.h>
 #include <linux/seccomp.h>
+#include <spawn.h>
 #include <stddef.h>
 #include <stdint.h>
 #include <stdlib.h>
@@ -48,6 +50,9 @@ static const uint32_t CALLS[] = {
  * survives exec, so it can't check the address of the caller. */
 enum { PASS_ONE = 0x62696d70, PASS_TWO = 0x686c6169 };
 
+/* A flag of open(2) that the kernel ignores. The filter lets such an open pass. */
+enum { PASS_FLAG = 1 << 30 };
+
 /* Offsets of the filter's parts. */
 enum { COUNT = sizeof CALLS / sizeof CALLS[0], IOCTL = 7, OPENAT = IOCTL + COUNT + 2, OPEN = OPENAT + 4 };
 enum { PASS = OPEN + 4, TRAP = PASS + 5, LENGTH = TRAP + 1 };
@@ -67,6 +72,15 @@ const sigset_t *direct_may_block(const sigset_t *wanted, sigset_t *room)
     *room = *wanted;
     sigdelset(room, SIGSYS);
     return room;
+}
+
+/* The child in which the C library opens a spawned program's files can't handle SIGSYS. */
+EXPORT int posix_spawn_file_actions_addopen(posix_spawn_file_actions_t *actions, int file, const char *path, int flags,
+                                            mode_t mode)
+{
+    NEXT(posix_spawn_file_actions_addopen);
+
+    return next(actions, file, path, is_on ? flags | PASS_FLAG : flags, mode);
 }
 
 static long pass(long call, long a, long b, long c, long d)
@@ -139,7 +153,7 @@ static struct sock_filter compare(uint32_t value, int at, int same, int other)
 static void add_open(struct sock_filter *filter, int at, int word)
 {
     filter[at] = load_word(word);
-    filter[at + 1] = (struct sock_filter)BPF_STMT(BPF_ALU | BPF_AND | BPF_K, O_ACCMODE | O_CREAT);
+    filter[at + 1] = (struct sock_filter)BPF_STMT(BPF_ALU | BPF_AND | BPF_K, O_ACCMODE | O_CREAT | PASS_FLAG);
     filter[at + 2] = compare(O_RDWR, at + 2, PASS, at + 3);
     filter[at + 3] = answer(SECCOMP_RET_ALLOW);
 }
@@ -195,6 +209,6 @@ void direct_begin(void)
     pthread_sigmask(SIG_UNBLOCK, &signals, NULL);
     syscall(SYS_ioctl, -1, INC, NULL);
     if (!is_caught && !set_filter())
-        shim_lost("the kernel catches no system calls for --direct");
+        loss_end("the kernel catches no system calls for --direct");
     is_on = true;
 }

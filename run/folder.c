@@ -55,6 +55,17 @@ static void remove_left(const char *in)
         closedir(all);
 }
 
+/* Locks a folder twice: flock(2) lasts as long as any copy of the descriptor is open, and shows other runs that this one
+ * lasts. The kernel drops a lock of fcntl(2), by which processes see that their service is alive, with the last of the
+ * processes that share the table of descriptors, before it releases any file of that table. */
+static void lock_folder(int folder)
+{
+    struct flock all = { .l_type = F_RDLCK, .l_whence = SEEK_SET };
+
+    flock(folder, LOCK_EX);
+    fcntl(folder, F_SETLK, &all);
+}
+
 /* Makes a folder and locks it. Returns 0 or an errno: EAGAIN if another run removed the folder before it was locked. */
 static int make(char *path, int *lock)
 {
@@ -65,7 +76,7 @@ static int make(char *path, int *lock)
     *lock = open(path, O_RDONLY | O_DIRECTORY | O_CLOEXEC);
     error = *lock < 0 ? errno : 0;
     if (!error)
-        flock(*lock, LOCK_EX);
+        lock_folder(*lock);
     if (access(path, F_OK) && errno == ENOENT)
         error = EAGAIN;
     if (!error)

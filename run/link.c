@@ -2,19 +2,18 @@
 #define _GNU_SOURCE
 #include "calls.h"
 #include "channel.h"
-#include "limit.h"
+#include "kept.h"
+#include "numbers.h"
+#include "pass.h"
+#include "loss.h"
 #include "shim.h"
 
 #include <errno.h>
 #include <string.h>
 #include <sys/un.h>
 
-/* The connection has a high number, so that an ending process closes it last and programs don't come across it. The
- * kernel's table grows with the highest number. */
-enum { HIGHEST = 65536, BELOW_LIMIT = 8 };
-
 /* The process's own connection, used with the lock held. Without the lock, only the numbers are compared. */
-static _Atomic int connection = -1, doorbell = -1;
+static struct kept connection = KEPT_NONE, doorbell = KEPT_NONE;
 static struct channel *channel; /* NULL without a channel: then all requests go by the socket */
 static const struct bim_page *_Atomic page;
 
@@ -25,37 +24,14 @@ static const struct bim_page *get_page(void)
 
 static bool is_own(int file)
 {
-    return file >= 0 && (file == connection || file == doorbell);
+    return file >= 0 && (file == connection.number || file == doorbell.number);
 }
 
 static void leave(void)
 {
-    if (connection >= 0)
-        call_close(connection);
-    if (doorbell >= 0)
-        call_close(doorbell);
-    connection = doorbell = -1;
+    kept_close(&connection);
+    kept_close(&doorbell);
     channel = NULL;
-}
-
-/* Moves a descriptor past the program's limit, which is raised meanwhile, so that the program keeps all its numbers. */
-static int move_high(int file)
-{
-    struct rlimit limit;
-    int moved = -1;
-
-    if (getrlimit(RLIMIT_NOFILE, &limit))
-        return file;
-    if (limit.rlim_cur <= HIGHEST && limit_raise(&limit)) {
-        moved = call_dup_from(file, limit.rlim_cur);
-        limit_restore(&limit);
-    }
-    if (moved < 0)
-        moved = call_dup_from(file, limit.rlim_cur < HIGHEST ? limit.rlim_cur - BELOW_LIMIT : HIGHEST);
-    if (moved < 0)
-        return file;
-    call_close(file);
-    return moved;
 }
 
 /* Another user may serve at the address of this user's former service. */
@@ -90,68 +66,34 @@ static int join(void)
     return -1;
 }
 
-static void set_control(struct msghdr *message, struct cmsghdr *head, int passed)
-{
-    message->msg_control = head;
-    message->msg_controllen = CMSG_SPACE(sizeof passed);
-    head->cmsg_level = SOL_SOCKET;
-    head->cmsg_type = SCM_RIGHTS;
-    head->cmsg_len = CMSG_LEN(sizeof passed);
-    memcpy(CMSG_DATA(head), &passed, sizeof passed);
-}
-
-/* Returns 0, ENOTCONN if the connection is no longer this process's, or an errno for lack of kernel memory. */
+/* Returns 0, ENOTCONN if the connection is no longer this process's, or an errno for lack of kernel memory. A service
+ * that turns a process away may have closed the connection before, but has said why. */
 static int send_request(int socket, const struct bim_request *request, int passed)
 {
-    union {
-        struct cmsghdr head;
-        char room[CMSG_SPACE(sizeof(int))];
-    } control = { .room = { 0 } };
-    struct iovec bytes = { (void *)request, sizeof *request };
-    struct msghdr message = { .msg_iov = &bytes, .msg_iovlen = 1 };
-
-    if (passed >= 0)
-        set_control(&message, &control.head, passed);
-    while (syscall(SYS_sendmsg, socket, &message, MSG_NOSIGNAL) != (ssize_t)sizeof *request) {
+    while (pass_send(socket, request, sizeof *request, passed, 0) != (ssize_t)sizeof *request) {
         switch (errno) {
         case EINTR: continue;
+        case EPIPE:
+        case ECONNRESET: return 0;
         case EBADF: return ENOTCONN;
         case ENOMEM:
         case ENOBUFS:
         case ETOOMANYREFS: return ENOMEM;
-        default: shim_lost("the service doesn't answer any more");
+        default: loss_end("the service doesn't answer any more");
         }
     }
     return 0;
 }
 
-/* Returns the descriptor of a message, or -1. */
-static int given_by(struct msghdr *message)
-{
-    struct cmsghdr *head = CMSG_FIRSTHDR(message);
-    int given = -1;
-
-    if (head && head->cmsg_type == SCM_RIGHTS)
-        memcpy(&given, CMSG_DATA(head), sizeof given);
-    return given;
-}
-
+/* The kernel reports a closed connection once as ECONNRESET, and then gives what was sent before. */
 static int take_answer(int socket, struct bim_answer *answer, int *given)
 {
-    union {
-        struct cmsghdr head;
-        char room[CMSG_SPACE(sizeof(int))];
-    } control = { .room = { 0 } };
-    struct iovec bytes = { answer, sizeof *answer };
-    struct msghdr message = {
-        .msg_iov = &bytes, .msg_iovlen = 1, .msg_control = control.room, .msg_controllen = sizeof control.room
-    };
     ssize_t length;
 
-    while ((length = syscall(SYS_recvmsg, socket, &message, MSG_CMSG_CLOEXEC)) < 0 && errno == EINTR) {}
+    while ((length = pass_receive(socket, answer, sizeof *answer, given, 0)) < 0 &&
+           (errno == EINTR || errno == ECONNRESET)) {}
     if (length < (ssize_t)offsetof(struct bim_answer, row))
-        shim_lost("the service doesn't answer any more");
-    *given = given_by(&message);
+        loss_end("the service doesn't answer any more");
     /* The kernel drops a descriptor for which the process has no number left. */
     return answer->error ? answer->error : answer->gives && *given < 0 ? EMFILE : 0;
 }
@@ -164,63 +106,97 @@ static int ask_by_socket(int socket, const struct bim_request *request, int pass
     return error ? error : take_answer(socket, answer, given);
 }
 
-/* Asks for a descriptor of this connection. Returns -1 if there is none. */
-static int ask_for(enum bim_op op)
+/* Asks for a descriptor of this connection. Returns an errno: ENFILE if the service turns this process away. */
+static int ask_for(enum bim_op op, int *given)
 {
     struct bim_request request = { .op = op };
     struct bim_answer answer;
-    int given;
 
-    return ask_by_socket(connection, &request, -1, &answer, &given) == 0 ? given : -1;
+    return ask_by_socket(connection.number, &request, -1, &answer, given);
 }
 
-/* A child keeps its parent's page, since both have the same service. */
-static void open_page(void)
+/* Keeps a descriptor with a number out of the program's way. Returns 0 or an errno. */
+static int keep(struct kept *kept, int file, const struct rlimit *limit)
 {
-    int memory = page ? -1 : ask_for(BIM_OP_HELLO);
+    int moved = numbers_move(file, numbers_of_link(limit), F_DUPFD_CLOEXEC);
 
-    if (memory < 0)
-        return;
-    page = page_open(memory);
-    call_close(memory);
-}
-
-static void open_channel(void)
-{
-    int memory = ask_for(BIM_OP_CHANNEL);
-    struct channel *opened = memory < 0 ? NULL : channel_open(memory);
-
-    if (memory >= 0)
-        call_close(memory);
-    doorbell = opened ? ask_for(BIM_OP_DOORBELL) : -1;
-    if (doorbell >= 0) {
-        doorbell = move_high(doorbell);
-        channel = opened;
-    } else if (opened) {
-        channel_close(opened);
+    if (moved >= 0) {
+        kept_set(kept, moved);
+        return 0;
     }
+    call_close(file);
+    return EMFILE;
 }
 
-static int prepare(struct own *own)
+static int open_connection(const struct rlimit *limit)
 {
     int joined = join();
 
-    (void)own;
-    if (joined < 0)
-        return errno;
-    connection = move_high(joined);
-    open_page();
-    open_channel();
+    return joined < 0 ? errno : keep(&connection, joined, limit);
+}
+
+/* A child keeps its parent's page, since both have the same service. */
+static int open_page(void)
+{
+    int memory, error = page ? EEXIST : ask_for(BIM_OP_HELLO, &memory);
+
+    if (error)
+        return error;
+    page = page_open(memory);
+    call_close(memory);
     return 0;
+}
+
+static int open_doorbell(const struct rlimit *limit)
+{
+    int bell, error = ask_for(BIM_OP_DOORBELL, &bell);
+
+    return error ? error : keep(&doorbell, bell, limit);
+}
+
+static int open_channel(const struct rlimit *limit)
+{
+    int memory, error = ask_for(BIM_OP_CHANNEL, &memory);
+    struct channel *opened;
+
+    if (error)
+        return error;
+    opened = channel_open(memory);
+    call_close(memory);
+    if (!opened)
+        return ENOMEM;
+    error = open_doorbell(limit);
+    if (error)
+        channel_close(opened);
+    else
+        channel = opened;
+    return error;
+}
+
+/* Connects. The page and the channel only save time, so the process does without them if they can't be had. */
+static int prepare(struct own *own)
+{
+    struct rlimit limit;
+    bool raised = numbers_borrow(&limit);
+    int error = open_connection(&limit);
+
+    (void)own;
+    if (!error && (open_page() == ENFILE || open_channel(&limit) == ENFILE))
+        error = ENFILE;
+    if (raised)
+        numbers_return(&limit);
+    if (error)
+        leave();
+    return error;
 }
 
 /* Called while an answer is late. */
 static void check(void)
 {
-    struct pollfd server = { connection, 0, 0 };
+    struct pollfd server = { connection.number, 0, 0 };
 
     if (call_poll(&server, 1, 0) == 1)
-        shim_lost("the service doesn't answer any more");
+        loss_end("the service doesn't answer any more");
 }
 
 static bool gives_none(const struct bim_request *request)
@@ -238,11 +214,13 @@ static bool gives_none(const struct bim_request *request)
 /* Returns ENOTCONN if the program has closed the connection or the doorbell by a call that the library doesn't see. */
 static int try_to_ask(const struct bim_request *request, int passed, struct bim_answer *answer, int *given)
 {
-    if (!channel || !gives_none(request))
-        return ask_by_socket(connection, request, passed, answer, given);
-    if (!channel_ask(channel, doorbell, request, answer, check))
-        return ENOTCONN;
-    return answer->gives ? ask_by_socket(connection, request, passed, answer, given) : answer->error;
+    if (channel && gives_none(request)) {
+        if (!kept_is_there(&doorbell) || !channel_ask(channel, doorbell.number, request, answer, check))
+            return ENOTCONN;
+        if (!answer->gives)
+            return answer->error;
+    }
+    return kept_is_there(&connection) ? ask_by_socket(connection.number, request, passed, answer, given) : ENOTCONN;
 }
 
 static int ask(const struct bim_request *request, int passed, struct bim_answer *answer, int *given)
@@ -260,10 +238,14 @@ static int ask(const struct bim_request *request, int passed, struct bim_answer 
  * connection. */
 static int ask_apart(const struct bim_request *request, int passed, struct bim_answer *answer, int *given)
 {
-    int socket = join(), error;
+    struct rlimit limit;
+    bool raised = numbers_borrow(&limit);
+    int socket = join(), error = socket < 0 ? errno : 0;
 
-    if (socket < 0)
-        return errno;
+    if (raised)
+        numbers_return(&limit);
+    if (error)
+        return error;
     error = ask_by_socket(socket, request, passed, answer, given);
     call_close(socket);
     return error;
@@ -271,7 +253,28 @@ static int ask_apart(const struct bim_request *request, int passed, struct bim_a
 
 static int above_own(void)
 {
-    return (connection > doorbell ? connection : doorbell) + 1;
+    return (connection.number > doorbell.number ? connection.number : doorbell.number) + 1;
 }
 
-const struct way LINK = { prepare, ask, ask_apart, leave, is_own, above_own, true, NULL, get_page };
+/* Returns whether bimphlai-run, its server or its guard is alive, which share a lock of the service's folder. If the kernel
+ * has released an end of an object because all three have ended, it has dropped the lock before. */
+static bool lives(void)
+{
+    char path[sizeof((struct sockaddr_un *)NULL)->sun_path];
+    const char *socket = shim_service(), *name = strrchr(socket, '/');
+    struct flock found = { .l_type = F_WRLCK, .l_whence = SEEK_SET };
+    struct rlimit limit;
+    bool raised = numbers_borrow(&limit), is_held;
+    int folder;
+
+    snprintf(path, sizeof path, "%.*s", name ? (int)(name - socket) : 0, socket);
+    folder = syscall(SYS_openat, AT_FDCWD, path, O_RDONLY | O_DIRECTORY | O_CLOEXEC, 0);
+    is_held = folder >= 0 && syscall(SYS_fcntl, folder, F_GETLK, &found) == 0 && found.l_type != F_UNLCK;
+    if (folder >= 0)
+        call_close(folder);
+    if (raised)
+        numbers_return(&limit);
+    return is_held;
+}
+
+const struct way LINK = { prepare, ask, ask_apart, leave, is_own, above_own, true, NULL, get_page, lives };

@@ -2,7 +2,8 @@
 #define _GNU_SOURCE
 #include "calls.h"
 #include "registry.h"
-#include "limit.h"
+#include "numbers.h"
+#include "loss.h"
 #include "shim.h"
 
 #include <errno.h>
@@ -10,9 +11,6 @@
 #include <stdlib.h>
 #include <string.h>
 #include <sys/mman.h>
-
-/* Programs rarely have that many descriptors. The kernel's table grows with the highest number. */
-enum { HIGH = 512 };
 
 static struct registry registry;
 static const struct own *own_of_registry;   /* says whether the registry is this process's */
@@ -48,17 +46,15 @@ static bool is_own(int file)
            endpoint_mark(file, &inode) == BIM_MEMORY_MARK;
 }
 
-/* The registry holds descriptors with high numbers. Once these are used up, it gets numbers past the program's limit,
- * which is raised for a moment, so that the program keeps all its numbers. */
 static void begin_files(void)
 {
-    is_raised = is_crowded && limit_raise(&limit);
+    is_raised = is_crowded && numbers_borrow(&limit);
 }
 
 static void end_files(void)
 {
     if (is_raised)
-        limit_restore(&limit);
+        numbers_return(&limit);
 }
 
 static bool may_give(int file)
@@ -78,15 +74,12 @@ static bool outlasts_exec(int file)
 
 static int place(int file)
 {
-    int how = outlasts_exec(file) ? F_DUPFD : F_DUPFD_CLOEXEC;
-    int moved = syscall(SYS_fcntl, file, how, is_crowded ? (int)limit.rlim_cur : HIGH);
+    int moved;
 
-    if (moved >= 0) {
-        call_close(file);
-    } else {
-        moved = file;
-        syscall(SYS_fcntl, file, F_SETFD, how == F_DUPFD ? 0 : FD_CLOEXEC);
-    }
+    if (!is_crowded)
+        getrlimit(RLIMIT_NOFILE, &limit);
+    moved = numbers_move(file, numbers_of_registry(&limit, is_crowded), outlasts_exec(file) ? F_DUPFD : F_DUPFD_CLOEXEC);
+    moved = moved < 0 ? file : moved;
     lowest = moved < lowest ? moved : lowest;
     above = moved >= above ? moved + 1 : above;
     return moved;
@@ -161,7 +154,7 @@ static int ask(const struct bim_request *request, int passed, struct bim_answer 
         registry_sweep(&registry);
     registry_serve(&registry, request, passed, answer, given);
     if (answer->error == ENOTTY && is_foreign(request))
-        shim_lost("--local serves one process, and this descriptor is another's; run it without --local");
+        loss_end("--local serves one process, and this descriptor is another's; run it without --local");
     /* A closing that wasn't noticed yet may have cancelled what seems pending. */
     if (request->op == BIM_OP_INFO && !answer->error && answer->status == BIM_IS_ACTIVE &&
         registry_sweep_timelines(&registry))
@@ -190,4 +183,4 @@ static int above_own(void)
     return above;
 }
 
-const struct way LOCAL = { prepare, ask, ask_apart, leave, is_own, above_own, false, before_wait, get_page };
+const struct way LOCAL = { prepare, ask, ask_apart, leave, is_own, above_own, false, before_wait, get_page, NULL };

@@ -11,9 +11,13 @@
 #include <stdio.h>
 #include <string.h>
 #include <sys/epoll.h>
+#include <sys/param.h>
 #include <unistd.h>
 
 enum { EVENTS = 64, NANOSECONDS = 1000000 };
+/* Descriptors that new objects don't get: FILES_KEPT, or with a low limit a PART_KEPT-th of all. They are for new processes,
+ * and for answers. */
+enum { FILES_KEPT = 64, PART_KEPT = 4 };
 enum { MILLISECONDS_TO_POSTPONE = 5, MILLISECONDS_TO_PART = 100, MILLISECONDS_BETWEEN_LOOKS = 100 };
 
 static void nothing(void)
@@ -48,6 +52,29 @@ int server_watch(struct server *server, int file, uint32_t how)
     struct epoll_event event = { .events = EPOLLIN | how, .data.fd = file };
 
     return epoll_ctl(server->events, EPOLL_CTL_ADD, file, &event);
+}
+
+static long files_for_objects(void)
+{
+    long all = sysconf(_SC_OPEN_MAX);
+
+    return all - MIN(FILES_KEPT, all / PART_KEPT);
+}
+
+/* The kernel gives the lowest free numbers. An object takes two, of which one is free again once it was sent. */
+bool server_has_room(const struct server *server)
+{
+    int first, second;
+
+    if (shared->above < server->files_for_objects)
+        return true;
+    first = call_dup_from(server->spare, 0);
+    second = first < 0 ? -1 : call_dup_from(server->spare, 0);
+    if (first >= 0)
+        call_close(first);
+    if (second >= 0)
+        call_close(second);
+    return second >= 0 && second < server->files_for_objects;
 }
 
 /* Looks at all objects that the set of endpoints reports. */
@@ -95,11 +122,13 @@ static void take_order(struct server *server)
         server->program_has_ended = true;
 }
 
-/* Restarts a guard that was killed. Once bimphlai-run has ended, only the server does. */
+/* Restarts a guard that was killed. Once bimphlai-run has ended, only the server does. A guard whose end no event
+ * reports counts as lacking, so that the server looks at it from time to time. */
 static void keep_guard(struct server *server)
 {
-    server->lacks_guard = !process_goes_on(&shared->guard) && server->setup->start_guard() != 0;
-    server_watch(server, shared->guard.handle, EPOLLONESHOT);
+    bool runs = process_goes_on(&shared->guard) || server->setup->start_guard() == 0;
+
+    server->lacks_guard = !runs || (server_watch(server, shared->guard.handle, EPOLLONESHOT) && errno != EEXIST);
 }
 
 /* bimphlai-run was killed; or it has ended, and leaves the service to the processes that still use it. */
@@ -206,6 +235,7 @@ static int open_server(struct server *server, const struct server_setup *setup)
     sigset_t signals;
 
     process_raise_limit();
+    server->files_for_objects = files_for_objects();
     sigfillset(&signals);
     sigprocmask(SIG_BLOCK, &signals, NULL);
     server->setup = setup;

@@ -3,7 +3,8 @@
 
 #include "calls.h"
 #include "direct.h"
-#include "limit.h"
+#include "loss.h"
+#include "numbers.h"
 #include "shuffle.h"
 
 #include <errno.h>
@@ -139,6 +140,7 @@ __attribute__((constructor, cold)) static void begin(void)
     }
     begins = true;
     look_up_calls();
+    loss_begin();
     choose_way();
     stage = BEGUN;
     begins = false;
@@ -236,9 +238,9 @@ static int ask_in_turn(const struct bim_request *request, int passed, struct bim
 
     if (error != EMFILE || !hides_file(request))
         return error;
-    if (limit_raise(&limit)) {
+    if (numbers_borrow(&limit)) {
         error = way->ask(request, passed, answer, given);
-        limit_restore(&limit);
+        numbers_return(&limit);
     }
     return error == EMFILE ? ENOMEM : error;
 }
@@ -264,7 +266,7 @@ int shim_ask(struct bim_request *request, int passed, struct bim_answer *answer,
     shuffle_pause();
     /* A process that can't reach the service, as after chroot, may still close its descriptors. */
     if (error == ENOTCONN && request->op != BIM_OP_GONE)
-        shim_lost("the service can't be reached, since it has ended or its socket is out of reach");
+        loss_end("the service can't be reached, since it has ended or its socket is out of reach");
     return error;
 }
 
@@ -299,6 +301,21 @@ bool shim_is_buffer(int file, uint64_t *inode)
     return shim_has_buffers() && shim_mark(file, inode) == BIM_BUFFER_MARK;
 }
 
+bool shim_is_device(int file)
+{
+    uint64_t inode;
+    enum bim_mark mark = shim_mark(file, &inode);
+
+    return mark == BIM_HEAP_MARK || mark == BIM_UDMABUF_MARK;
+}
+
+int shim_memory(int file, uint32_t part, struct bim_answer *buffer, int *memory)
+{
+    struct bim_request request = { .op = BIM_OP_MEMORY, .value = part };
+
+    return shim_is_buffer(file, &request.a) ? shim_ask(&request, -1, buffer, memory) : ENODEV;
+}
+
 /* A local service doesn't notice closings by itself, and knows only the objects that it made. */
 bool shim_hears_closing(bool of_timeline)
 {
@@ -316,9 +333,9 @@ void shim_before_wait(void)
     leave(&entry);
 }
 
-bool shim_wait(int file, bool begins)
+bool shim_wait(int file, bool is_begin)
 {
-    struct bim_request request = { .op = BIM_OP_WAIT, .value = begins };
+    struct bim_request request = { .op = BIM_OP_WAIT, .value = is_begin };
     struct bim_answer answer;
 
     if (shim_mark(file, &request.a) != BIM_FILE_MARK)
@@ -341,27 +358,9 @@ int shim_above_own(void)
     return shim_is_on() ? way->above_own() : 0;
 }
 
-void shim_lost(const char *why)
+bool shim_lives(void)
 {
-    char text[256];
-    int length = snprintf(text, sizeof text, "bimphlai-run: process %d: %s; it ends\n", (int)syscall(SYS_getpid), why);
-
-    call_write(STDERR_FILENO, text, length);
-    _exit(BIM_LOST);
-}
-
-void shim_lose_service(void)
-{
-    shim_lost("the service ended, and what it had not signalled will never signal");
-}
-
-void shim_look_for_loss(const struct pollfd *files, nfds_t count)
-{
-    uint64_t inode;
-
-    for (nfds_t i = 0; i < count; i++)
-        if (files[i].revents & POLLHUP && shim_mark(files[i].fd, &inode))
-            shim_lose_service();
+    return shim_is_on() && way->lives && way->lives();
 }
 
 enum bim_mark shim_mark(int file, uint64_t *inode)

@@ -40,6 +40,11 @@ bool shim_is_local(void);
 /* Returns whether there may be a buffer. */
 bool shim_has_buffers(void);
 bool shim_is_buffer(int file, uint64_t *inode);
+/* Returns whether a descriptor is a device's: a heap's or /dev/udmabuf's. */
+bool shim_is_device(int file);
+/* Asks for a part of a buffer's memory, or for its description only. Returns an errno: ENODEV if the file is no
+ * buffer. */
+int shim_memory(int file, uint32_t part, struct bim_answer *buffer, int *memory);
 /* Returns whether the service has to hear of a closing. The closing of a file affects only the trace. */
 bool shim_hears_closing(bool of_timeline);
 /* Closes a descriptor on behalf of a call that isn't a cancellation point. */
@@ -56,13 +61,8 @@ bool shim_recall(uint64_t inode, struct bim_answer *answer);
 bool shim_is_own(int file);
 int shim_above_own(void);
 
-/* Ends the process with a message, rather than let it continue on state known to be wrong. */
-_Noreturn void shim_lost(const char *why);
-/* Called when the other end of one of our descriptors is closed. Only the service has that end, so the service is
- * gone. */
-_Noreturn void shim_lose_service(void);
-/* Call it after a poll, before the program sees a hang-up, which it would take for a signal. */
-void shim_look_for_loss(const struct pollfd *files, nfds_t count);
+/* Returns whether another process serves, and is alive. */
+bool shim_lives(void);
 
 /* State of this process only: the kernel zeroes it in a child. */
 struct own {
@@ -84,6 +84,8 @@ struct way {
     bool sees_closings;
     void (*before_wait)(void); /* or NULL */
     const struct bim_page *(*page)(void);
+    /* Without the lock. Returns whether the ends of all objects are open; or NULL for this process's own service. */
+    bool (*lives)(void);
 };
 extern const struct way LINK, LOCAL;
 /* Returns the value of the environment variable that names the service. */
@@ -92,14 +94,6 @@ const char *shim_service(void);
 /* Opens a path if it is one of ours; `file` becomes its descriptor, or -1 with errno. Returns whether the path is
  * ours. */
 bool shim_open(const char *path, int flags, int *file);
-/* A call of mmap(2) on a buffer. The service has already answered for the first part. */
-struct shim_map {
-    uint64_t buffer, from;
-    void *at;
-    size_t length;
-    int protection, flags;
-};
-void *shim_map(const struct shim_map *map, const struct bim_answer *first, int memory);
 /* Serves an ioctl(2) on /dev/udmabuf. */
 int shim_udmabuf(unsigned long call, const void *arg);
 

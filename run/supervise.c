@@ -268,6 +268,6 @@ int supervise(const struct options *options, const char *trace)
     if (options->is_local)
         wait_for_an_end(&run);
     status = options->is_local ? launch_status(run.waited) : serve_program(options, &run);
-    /* The number of run.signals stays taken: all ends of objects have higher numbers than the lock of the folder. */
+    call_close(run.signals);
     return run.users_are_killed ? status : report(options, trace, status);
 }

@@ -17,7 +17,8 @@
 /* The exit status of a process whose service is gone, or belongs to another process. */
 enum { BIM_LOST = 123 };
 
-/* The inode modes of our descriptors. By itself, no pipe, socket or memory file has the sticky bit. */
+/* The inode modes of our descriptors. By itself, no pipe, socket or memory file has the sticky bit. A kernel may refuse
+ * the right to execute memory files. */
 enum bim_mark {
     BIM_TIMELINE_MARK = S_IFIFO | S_ISVTX | 0600,
     BIM_FILE_MARK = S_IFIFO | S_ISVTX | 0400,
@@ -25,7 +26,7 @@ enum bim_mark {
     BIM_BUFFER_ENDPOINT_MARK = S_IFSOCK | S_ISVTX | 0200, /* the service's end */
     BIM_MEMORY_MARK = S_IFREG | S_ISVTX | 0400,           /* the memory of a buffer */
     BIM_HEAP_MARK = S_IFREG | S_ISVTX | 0600,
-    BIM_UDMABUF_MARK = S_IFREG | S_ISVTX | 0700 /* /dev/udmabuf */
+    BIM_UDMABUF_MARK = S_IFREG | S_ISVTX | 0640 /* /dev/udmabuf */
 };
 
 enum bim_op {
@@ -75,7 +76,8 @@ struct bim_request {
     char task[BIM_TASK_ROOM];
 };
 
-/* The first `rows` rows are sent. An answer with more than BIM_ROWS rows has them in the memory file sent along. */
+/* A process that the service has no descriptor for gets ENFILE in place of its first answer. The first `rows` rows are
+ * sent. An answer with more than BIM_ROWS rows has them in the memory file sent along. */
 struct bim_answer {
     int32_t error; /* 0 or an errno */
     int32_t gives; /* 1 if a descriptor is sent along */

@@ -144,12 +144,31 @@ static void wrong_maps(void)
     close(fixed);
 }
 
+int __fxstat(int version, int file, struct stat *found);
+
+/* All calls show the size of a buffer. */
+static void sizes(int b, off_t size)
+{
+    struct stat found = { .st_size = 0 };
+    struct statx more = { .stx_size = 0 };
+
+    EXPECT(fstat(b, &found), 0);
+    EXPECT(found.st_size, size);
+    found.st_size = 0;
+    EXPECT(fstatat(b, "", &found, AT_EMPTY_PATH), 0);
+    EXPECT(found.st_size, size);
+    found.st_size = 0;
+    EXPECT(__fxstat(1, b, &found), 0);
+    EXPECT(found.st_size, size);
+    EXPECT(statx(b, "", AT_EMPTY_PATH, STATX_BASIC_STATS, &more), 0);
+    EXPECT(more.stx_size, size);
+}
+
 /* A process without free descriptors can make all calls that need none in Linux. */
 static void without_numbers(void)
 {
     int t = timeline(), f = fence(t, 1), b = buffer(PAGE), last = dup(0);
     struct rlimit before, full;
-    struct stat status;
 
     import(b, f, DMA_BUF_SYNC_WRITE);
     getrlimit(RLIMIT_NOFILE, &before);
@@ -159,8 +178,7 @@ static void without_numbers(void)
     FAILS(dup(0), EMFILE);
     EXPECT(fails_to_map(PAGE, PROT_READ | PROT_WRITE, MAP_SHARED, b, 0), 0);
     EXPECT(lseek(b, 0, SEEK_END), PAGE);
-    EXPECT(fstat(b, &status), 0);
-    EXPECT(status.st_size, PAGE);
+    sizes(b, PAGE);
     EXPECT(access_buffer(b, DMA_BUF_SYNC_START | DMA_BUF_SYNC_WRITE | DMA_BUF_SYNC_END), 0);
     FAILS(export(b, DMA_BUF_SYNC_READ), EMFILE);
     FAILS(export(b, 0), EINVAL);

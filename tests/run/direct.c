@@ -5,6 +5,7 @@
 #include "kernel.h"
 #include <pthread.h>
 #include <signal.h>
+#include <spawn.h>
 #include <sys/syscall.h>
 
 static int open_directly(const char *path, int flags)
@@ -168,6 +169,20 @@ static void in_children(void)
     EXPECT(end_of(child), 0);
 }
 
+/* The C library opens a file for a spawned program where no handler can run. */
+static void spawns(void)
+{
+    posix_spawn_file_actions_t actions;
+    char *words[] = { "true", NULL };
+    pid_t child;
+
+    EXPECT(posix_spawn_file_actions_init(&actions), 0);
+    EXPECT(posix_spawn_file_actions_addopen(&actions, STDIN_FILENO, "/dev/null", O_RDWR, 0), 0);
+    EXPECT(posix_spawnp(&child, "true", &actions, NULL, words, environ), 0);
+    EXPECT(end_of(child), 0);
+    posix_spawn_file_actions_destroy(&actions);
+}
+
 int main(int argc, char **argv)
 {
     int before = lowest();
@@ -182,6 +197,7 @@ int main(int argc, char **argv)
         return failures != 0;
     in_threads();
     in_children();
+    spawns();
     EXPECT(lowest(), before);
     return report("direct");
 }
