@@ -25,6 +25,7 @@ struct entry {
     bool is_alone, locks, blocks;
     int cancel; /* the thread's cancellation state */
     sigset_t mask;
+    struct waiter waiter;
 };
 
 enum { UNBEGUN, BEGINNING, BEGUN };
@@ -41,6 +42,7 @@ static sigset_t mask; /* of the thread that forks */
 #define OF_THREAD static __thread __attribute__((tls_model("initial-exec")))
 OF_THREAD bool is_inside;
 OF_THREAD bool forks; /* has the lock until it has forked, but handlers of other libraries may ask meanwhile */
+OF_THREAD struct waiter forker;
 OF_THREAD bool begins;
 
 /* Blocks all signals but faults', which can't be deferred. */
@@ -63,7 +65,7 @@ static void before_fork(void)
     if (is_inside)
         return;
     block_signals(&before);
-    lock_take(&own->lock);
+    lock_take(&own->lock, &forker);
     mask = before;
     forks = true;
 }
@@ -75,7 +77,7 @@ static void after_fork(void)
     if (is_inside)
         return;
     forks = false;
-    lock_give(&own->lock);
+    lock_give(&own->lock, &forker);
     pthread_sigmask(SIG_SETMASK, &before, NULL);
 }
 
@@ -210,13 +212,13 @@ static void enter(struct entry *entry)
         block_signals(&entry->mask);
     is_inside = true;
     if (entry->locks)
-        lock_take(&own->lock);
+        lock_take(&own->lock, &entry->waiter);
 }
 
-static void leave(const struct entry *entry)
+static void leave(struct entry *entry)
 {
     if (entry->locks)
-        lock_give(&own->lock);
+        lock_give(&own->lock, &entry->waiter);
     is_inside = false;
     if (entry->blocks)
         pthread_sigmask(SIG_SETMASK, &entry->mask, NULL);

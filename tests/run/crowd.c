@@ -1,6 +1,6 @@
 /* usage: crowd [THREADS]
  *
- * More threads than a lock has bits call at once; each gets its turn. */
+ * Many threads call at once; each gets its turn. */
 #include "kernel.h"
 #include <limits.h>
 #include <pthread.h>
