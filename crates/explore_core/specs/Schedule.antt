@@ -1,9 +1,9 @@
 -- The schedules of a plan.
-use Rattle.std.specs.Prelude.{◌≡◌, ℕ, ◌+◌, Bool, true, not, ◌&&◌, if◌then◌else◌, List, [], ◌∷◌, length, nat_eq, replicate, get_or, set, slice_get, take, unwrap_or, Option, None, Some, IsSome}
-use Rattle.std.specs.List.{starts_with}
+use Rattle.std.specs.Prelude.{◌≡◌, ℕ, ◌+◌, Bool, true, not, ◌&&◌, if◌then◌else◌, List, [], ◌∷◌, length, replicate, get_or, set, slice_get, take, unwrap_or, Option, None, Some, IsSome}
+use Rattle.std.specs.Str.{bytes_eq}
 use Rattle.command_core.specs.declared.command.Command.{Command}
 use Rattle.command_core.specs.declared.answer.Answer.{Answer}
-use Rattle.report_core.specs.Answer.{text_of}
+use Rattle.report_core.specs.Answer.{first_line_of}
 use Rattle.explore_core.specs.Branch.{Branching}
 use Rattle.explore_core.specs.declared.plan.Step.{Step}
 use Rattle.desk_core.specs.theorem.Answer.{answer_to, is_refused}
@@ -51,10 +51,10 @@ next_line plan now client = slice_get (lines_of plan client) (made_by now client
 abbrev pub can_be_made : Standing → Step → Bool
 can_be_made now step = not (step.waits && is_refused (answer_now now.history step.command))
 
--- The client makes the lines of the branch: the answer's text begins with the branch's line. The text of a command's answer shows no
--- number of a line, so any number will do.
+-- The client makes the lines of the branch: its line is the first of the answer's text. The text of a command's answer shows no number
+-- of a line, so any number will do.
 abbrev pub is_taken : Branching → Answer → Bool
-is_taken branch given = starts_with nat_eq (text_of 0 given) branch.text
+is_taken branch given = bytes_eq (first_line_of 0 given) branch.text
 
 abbrev pub place_by : Option Branching → ℕ → Answer → ℕ
 place_by None place given = place + 1

@@ -9,7 +9,7 @@ ghost use Rattle.explore_core.specs.Search.{asked_file, asks_for, client_asks, A
 
 use command_core::{Answer, Command};
 use point_core::Name;
-use report_core::print;
+use report_core::first_line;
 use std::alloc::{AllocError, Global};
 use std::marker::Model;
 
@@ -67,14 +67,14 @@ impl Model for Plan {
 impl Step {
     /// The place of the client's next line, once this line, at that place, has got that answer.
     ///
-    /// Fails if no memory is found for the text of the answer.
+    /// Fails only at the greatest place, which no line has.
     pub fn place_after(&self, place: usize, answer: &Answer) -> Result<usize, AllocError>
         ensures next { IfOk result (λ next. next ≡ place_after self.now place answer.now) }
     {
         let Some(branch) = &self.branch else {
             return next_place(place);
         };
-        if !branch.is_taken(answer)? {
+        if !branch.is_taken(answer) {
             return Ok(branch.otherwise);
         }
         next_place(place)
@@ -83,16 +83,10 @@ impl Step {
 
 impl Branch {
     /// Whether the client makes the lines of the branch after this answer.
-    ///
-    /// Fails if no memory is found for the text of the answer.
-    fn is_taken(&self, answer: &Answer) -> Result<bool, AllocError>
-        ensures taken { IfOk result (λ taken. taken ≡ is_taken self.now answer.now) }
+    fn is_taken(&self, answer: &Answer) -> bool
+        ensures { result ≡ is_taken self.now answer.now }
     {
-        let mut text = Vec::new(*self.text.allocator());
-        let Ok(_done) = print(0, answer, &mut text) else {
-            return Err(AllocError);
-        };
-        Ok(text.as_slice().starts_with(self.text.as_slice()))
+        first_line(0, answer).as_bytes() == self.text.as_slice()
     }
 }
 

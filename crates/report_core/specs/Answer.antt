@@ -83,3 +83,13 @@ text_of number (answer.Info info) = info_text info
 text_of number (answer.Show rows) = show_text rows
 text_of number (answer.Report tables) = report_text tables
 text_of number (answer.Refused r) = refusal_text number r
+
+-- the first line of that text
+abbrev pub first_line_of : ℕ → Answer → List ℕ
+first_line_of number answer.Done = line_text (codes "ok" ∷ [])
+first_line_of number (answer.Value n) = value_line n
+first_line_of number (answer.Raised value fired) = value_line value
+first_line_of number (answer.Info info) = info_line info.name info.status (length info.fences)
+first_line_of number (answer.Show rows) = value_line (length rows)
+first_line_of number (answer.Report tables) = value_line (row_count tables)
+first_line_of number (answer.Refused r) = refusal_text number r

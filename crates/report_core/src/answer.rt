@@ -3,7 +3,7 @@ ghost use Rattle.std.specs.Prelude.{◌≡◌, ◌+◌, ◌≤◌, ◌∷◌, �
 ghost use Rattle.std.specs.Io.{StartsWith};
 ghost use Rattle.point_core.specs.declared.refusal.Refusal.TheVariants.{Memory};
 ghost use Rattle.report_core.specs.Answer.{line_text, fired_text, raised_text, driver_of, fence_text, info_line, info_text, show_text};
-ghost use Rattle.report_core.specs.Answer.{report_text, refusal_text, details, value_line, text_of};
+ghost use Rattle.report_core.specs.Answer.{report_text, refusal_text, details, value_line, text_of, first_line_of};
 ghost use Rattle.report_core.specs.LineEnd.{line_end};
 
 use crate::line::{TEXT_LINE_BYTES, TextLine};
@@ -116,6 +116,23 @@ fn put_numbered(line: &mut TextLine, word: &[u8], number: u64)
     line.put(b"\n");
 }
 
+/// The first line of the text of an answer of line `line`, with its line feed.
+///
+/// Does not allocate.
+pub fn first_line(line: u32, answer: &Answer) -> TextLine
+    ensures line { result ≡ first_line_of line answer.now }
+    ensures begins { StartsWith (text_of line answer.now) result }
+{
+    match answer {
+        Answer::Done => done_line(),
+        Answer::Value(value) | Answer::Raised(value, _) => value_line(*value),
+        Answer::Info(info) => info_line(info),
+        Answer::Show(rows) => value_line(rows.as_slice().len() as u64),
+        Answer::Report(report) => count_line(report.row_count()),
+        Answer::Refused(refusal) => refusal_line(line, *refusal),
+    }
+}
+
 fn push_raised(value: u64, fired: &[u64], out: &mut Vec<u8>) -> Result<(), Refusal>
     ensures ok { OnOk result (out.new.items ≡ out.old.items ++ raised_text value fired.now) }
     ensures err { OnErr result ((result ≡ Err Memory) × StartsWith out.new.items out.old.items) }
@@ -143,16 +160,14 @@ pub fn info_text(info: &Info, out: &mut Vec<u8>) -> Result<(), Refusal>
     ensures ok { OnOk result (out.new.items ≡ out.old.items ++ info_text info.now) }
     ensures err { OnErr result ((result ≡ Err Memory) × StartsWith out.new.items out.old.items) }
 {
-    push_file(info, out)?;
+    info_line(info).push_to(out)?;
     push_each(info.fences.as_slice(), out)?;
     Ok(())
 }
 
-/// Appends the line of the file to `out`: its name, its status and the number of its fences.
-fn push_file(info: &Info, out: &mut Vec<u8>) -> Result<(), Refusal>
-    ensures ok { OnOk result (out.new.items ≡ out.old.items
-        ++ info_line info.now.name info.now.status (length info.now.fences)) }
-    ensures err { OnErr result ((result ≡ Err Memory) × StartsWith out.new.items out.old.items) }
+/// The line of the file: its name, its status and the number of its fences.
+fn info_line(info: &Info) -> TextLine
+    ensures { result ≡ info_line info.now.name info.now.status (length info.now.fences) }
 {
     let mut line = TextLine::new();
     line.put(b"ok");
@@ -160,7 +175,7 @@ fn push_file(info: &Info, out: &mut Vec<u8>) -> Result<(), Refusal>
     line.put_word(status_text(info.status));
     line.put_number(info.fences.as_slice().len() as u64);
     line.put(b"\n");
-    line.push_to(out)
+    line
 }
 
 /// Appends the line of a fence to `out`: its timeline, driver, point and status.
@@ -205,19 +220,18 @@ fn push_report(report: &Report, out: &mut Vec<u8>) -> Result<(), Refusal>
     ensures ok { OnOk result (out.new.items ≡ out.old.items ++ report_text report.now) }
     ensures err { OnErr result ((result ≡ Err Memory) × StartsWith out.new.items out.old.items) }
 {
-    push_row_count(report.row_count(), out)?;
+    count_line(report.row_count()).push_to(out)?;
     report_text(report, out)?;
     Ok(())
 }
 
-/// Appends the line with the number of a report's rows to `out`.
-fn push_row_count(count: u128, out: &mut Vec<u8>) -> Result<(), Refusal>
-    ensures ok { OnOk result (out.new.items ≡ out.old.items ++ value_line count) }
-    ensures err { OnErr result ((result ≡ Err Memory) × StartsWith out.new.items out.old.items) }
+/// The line with the number of a report's rows.
+fn count_line(count: u128) -> TextLine
+    ensures { result ≡ value_line count }
 {
     let mut line = TextLine::new();
     line.put(b"ok");
     line.put_word(Buffer::new().format(count).as_bytes());
     line.put(b"\n");
-    line.push_to(out)
+    line
 }
