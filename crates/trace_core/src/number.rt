@@ -1,8 +1,5 @@
 //! Numbers of a line: decimal, of 32 or 64 bits, and times with decimals. A number that is too great gives None.
-ghost use Rattle.std.specs.Prelude.{◌≡◌, ◌≤◌, ◌^◌, length, option_map, take, drop};
-ghost use Rattle.std.specs.List.{prefix_len};
-ghost use Rattle.std.specs.Char.{is_ascii_digit};
-ghost use Rattle.std.specs.Str.Parse.{digits_value};
+ghost use Rattle.std.specs.Prelude.{◌≡◌, ◌≤◌, ◌^◌, length, option_map};
 ghost use Rattle.trace_core.specs.Number.{filled, fraction, microseconds, numeral, number_at, number_at_end, time_at, time_of, time_spelled};
 
 use crate::runs::{Class, before_run, split_run};
@@ -13,9 +10,6 @@ const DECIMALS: usize = 6;
 
 /// A second in microseconds.
 const SECOND: u64 = 1_000_000;
-
-/// The greatest number of 32 bits.
-const MOST: u64 = 0xffff_ffff;
 
 /// The number that the word spells: one decimal digit or more, leading zeros allowed, of at most 64 bits.
 fn numeral(word: &[u8]) -> Option<u64>
@@ -45,41 +39,16 @@ fn small_numeral(word: &[u8]) -> Option<u32>
     }
 }
 
-/// The number that the bytes begin with, and the rest. None if they begin with no digit, or the number has more than 32 bits.
+/// The number of at most 32 bits that the bytes begin with, and the rest. None if there is none.
 #[tactic(auto, unfolding(crate::specs::Number::number_at))]
 pub(crate) fn number_at(bytes: &[u8]) -> Option<(u32, &[u8])>
     ensures value { option_map (λ n. (n.0, n.1.now)) result ≡ number_at (2 ^ 32) bytes.now }
 {
-    let mut value: u64 = 0;
-    for (place, byte) in bytes.iter().enumerate() {
-        if !byte.is_ascii_digit() {
-            return number_before(bytes, place, value);
-        }
-        if value > MOST {
-            return None;
-        }
-        value = value * 10 + u64::from(*byte - b'0');
-    }
-    number_before(bytes, bytes.len(), value)
+    let (digits, rest) = split_run(bytes, Class::Digit);
+    Some((small_numeral(digits)?, rest))
 }
 
-/// The number that the digits before the place spell, which is that value where it has 32 bits, and the rest.
-fn number_before(bytes: &[u8], place: usize, value: u64) -> Option<(u32, &[u8])>
-    requires digits { prefix_len is_ascii_digit bytes.now ≡ place }
-    requires within { place ≤ length bytes.now }
-    requires value { value ≡ digits_value 10 (take place bytes.now) }
-    ensures value { option_map (λ n. (n.0, n.1.now)) result ≡ number_at (2 ^ 32) bytes.now }
-{
-    if place == 0 {
-        return None;
-    }
-    match u32::try_from(value) {
-        Ok(number) => Some((number, &bytes[place..])),
-        Err(_) => None,
-    }
-}
-
-/// Reads a number of at most 64 bits.
+/// As `number_at`, of at most 64 bits.
 #[tactic(auto, unfolding(crate::specs::Number::number_at))]
 pub(crate) fn wide_number_at(bytes: &[u8]) -> Option<(u64, &[u8])>
     ensures value { option_map (λ n. (n.0, n.1.now)) result ≡ number_at (2 ^ 64) bytes.now }
