@@ -1,4 +1,3 @@
 pub mod Escape
-pub mod JsonPart
 pub mod Number
 pub mod Part

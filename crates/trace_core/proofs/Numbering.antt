@@ -1,7 +1,7 @@
 -- A fence that is given a number is taken from those without one.
 use Rattle.std.proofs.Common.{◌≡◌, Bool, true, ◌&&◌, cond, ap, ◌∙◌}
 use Rattle.trace_core.specs.declared.life.Life.{Life}
-use Rattle.trace_core.specs.declared.sighting.FenceKey.{FenceKey}
+use Rattle.trace_core.specs.declared.fence_event.FenceKey.{FenceKey}
 use Rattle.trace_core.specs.Keys.{same_key}
 use Rattle.trace_core.specs.Life.{settled, without_one}
 use Rattle.trace_core.proofs.Same.{swap, same_key-is}

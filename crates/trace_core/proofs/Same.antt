@@ -4,9 +4,9 @@ use Rattle.std.specs.Bool.{Decides}
 use Rattle.std.specs.Cmp.{IsEquivalence}
 use Rattle.std.proofs.lemmas.Bool.{eqb-true, and_parts}
 use Rattle.std.proofs.lemmas.Cmp.{and_equiv, nat_eq_equiv, on_equiv}
-use Rattle.trace_core.specs.declared.sighting.ContextKey.{ContextKey}
-use Rattle.trace_core.specs.declared.sighting.FenceKey.{FenceKey}
-use Rattle.trace_core.specs.declared.sighting.TimelineKey.{TimelineKey}
+use Rattle.trace_core.specs.declared.fence_event.ContextKey.{ContextKey}
+use Rattle.trace_core.specs.declared.fence_event.FenceKey.{FenceKey}
+use Rattle.trace_core.specs.declared.fence_event.TimelineKey.{TimelineKey}
 use Rattle.trace_core.specs.Keys.{same_timeline, same_context, same_key}
 
 pub swap : {X Y : Type 0} (f : X → Y) (b : Bool) (x z : X) (y : Y) → (b ≡ true → x ≡ z) → cond b (f x) y ≡ cond b (f z) y

@@ -3,10 +3,10 @@ use Rattle.std.proofs.Common.{◌≡◌, nat_le, Bool, true, cond, List, ◌∷�
 use Rattle.trace_core.specs.declared.finding.Finding.{Finding}
 use Rattle.trace_core.specs.declared.ledger.Ledger.{Ledger}
 use Rattle.trace_core.specs.declared.life.Life.{Life}
-use Rattle.trace_core.specs.declared.sighting.ContextKey.{ContextKey}
-use Rattle.trace_core.specs.declared.sighting.FenceKey.{FenceKey}
-use Rattle.trace_core.specs.declared.sighting.Sighting.{Sighting}
-use Rattle.trace_core.specs.declared.sighting.TimelineKey.{TimelineKey}
+use Rattle.trace_core.specs.declared.fence_event.ContextKey.{ContextKey}
+use Rattle.trace_core.specs.declared.fence_event.FenceKey.{FenceKey}
+use Rattle.trace_core.specs.declared.fence_event.FenceEvent.{FenceEvent}
+use Rattle.trace_core.specs.declared.fence_event.TimelineKey.{TimelineKey}
 use Rattle.trace_core.specs.Contexts.{context_at, context_after, found_of, no_context}
 use Rattle.trace_core.specs.History.{Step, Seen, Forgot, IsLedgerOf, is_past, events_in, loss_in, is_sure, life_in, context_in, found_in, tally_in, is_of_timeline}
 use Rattle.trace_core.specs.Keys.{same_context, same_timeline, context_of, timeline_of}
@@ -19,7 +19,7 @@ step : {X : Type 0} (f : X → X) (b : Bool) (x y z : X) → (b ≡ true → x �
 step f b x y z is same = swap f b x z y is ∙ ap (λ w. cond b (f z) w) same
 
 -- what was known before the event, and what it left
-pub record HasSeen (old new : Ledger) (e : Sighting) (life : Life) (found : Finding) (tk : TimelineKey) : Type 0 where
+pub record HasSeen (old new : Ledger) (e : FenceEvent) (life : Life) (found : Finding) (tk : TimelineKey) : Type 0 where
   pub life-is : life ≡ life_at old.lives e.key
   pub found-is : found ≡ found_of e life (nat_le old.loss life.born) (context_at old.contexts (context_of e.key))
   pub tk-is : tk ≡ timeline_of e.key
@@ -30,7 +30,7 @@ pub record HasSeen (old new : Ledger) (e : Sighting) (life : Life) (found : Find
   pub timelines : (key : TimelineKey) → tally_at new.timelines key ≡ cond (same_timeline tk key) (tally_after found (tally_at old.timelines tk)) (tally_at old.timelines key)
   pub total : new.total ≡ tally_after found old.total
 
-module _ (old new : Ledger) (e : Sighting) (life : Life) (found : Finding) (tk : TimelineKey) (steps : List Step) (s : HasSeen old new e life found tk) (h : IsLedgerOf old steps) where
+module _ (old new : Ledger) (e : FenceEvent) (life : Life) (found : Finding) (tk : TimelineKey) (steps : List Step) (s : HasSeen old new e life found tk) (h : IsLedgerOf old steps) where
   pub life-known : life ≡ life_in steps e.key
   life-known = s.life-is ∙ h.lives e.key
 

@@ -9,7 +9,7 @@ use Rattle.trace_core.specs.Record.{Printed}
 use Rattle.trace_core.specs.declared.reading.Next.{Next}
 use Rattle.trace_core.specs.declared.reading.Next.TheVariants as next
 use Rattle.trace_core.specs.declared.reading.Reading.{Reading}
-use Rattle.trace_core.specs.declared.tracker.Seen.{Seen}
+use Rattle.trace_core.specs.declared.tracker.TrackedEvent.{TrackedEvent}
 use Rattle.trace_core.specs.declared.tracker.Tracker.{Tracker}
 use Rattle.trace_core.specs.declared.window.Span.{Span}
 use Rattle.trace_core.specs.declared.window.Stage.{Stage}
@@ -23,7 +23,7 @@ pub reversed : (item : Meaning) (items : List Meaning) → reverse items ++ item
 reversed item items = sym (reverse-append (item ∷ []) items)
 
 -- after a piece that is no event, the events are those that there were
-pub stage-given : (span : Span) (stage : Stage) (o : Option Seen) (item : Meaning) (earlier : List (Seen × Printed)) → is_some o ≡ is_event item → stage ≡ stage_at span earlier → stage_with stage span item ≡ stage_at span (given o item ++ earlier)
+pub stage-given : (span : Span) (stage : Stage) (o : Option TrackedEvent) (item : Meaning) (earlier : List (TrackedEvent × Printed)) → is_some o ≡ is_event item → stage ≡ stage_at span earlier → stage_with stage span item ≡ stage_at span (given o item ++ earlier)
 stage-given span stage (Some seen) (Event r) earlier some is = ap (stage_after span r.time) is
 stage-given span stage None (Event r) earlier some is = absurd (false≢true some)
 stage-given span stage None Other earlier some is = is
@@ -40,8 +40,8 @@ stage-given span stage (Some seen) (Counts held written processors) earlier some
 stage-given span stage (Some seen) Note earlier some is = absurd (false≢true (sym some))
 
 -- what `next` gives for a piece that was taken in
-module _ (span : Span) (r : Reading) (t : Tracker) (before now : Option (List ℕ)) (items : List Meaning) (earlier : List (Seen × Printed)) where
-  pub told : (stage : Stage) (o : Option Seen) (item : Meaning) → is_some o ≡ is_event item → is_over stage ≡ false → stage ≡ stage_at span (given o item ++ earlier) → HasRead span r t before now (item ∷ items) (given o item ++ earlier) → GoesOn span r t before now items earlier (next_of stage o item)
+module _ (span : Span) (r : Reading) (t : Tracker) (before now : Option (List ℕ)) (items : List Meaning) (earlier : List (TrackedEvent × Printed)) where
+  pub told : (stage : Stage) (o : Option TrackedEvent) (item : Meaning) → is_some o ≡ is_event item → is_over stage ≡ false → stage ≡ stage_at span (given o item ++ earlier) → HasRead span r t before now (item ∷ items) (given o item ++ earlier) → GoesOn span r t before now items earlier (next_of stage o item)
   told Before (Some seen) (Event printed) some goes is h = (printed, h, sym is)
   told Within (Some seen) (Event printed) some goes is h = (printed, h, sym is)
   told After (Some seen) item some goes is h = absurd (false≢true (sym goes))
@@ -100,7 +100,7 @@ begins-first Within b over none = absurd (false≢true over)
 begins-first After b over none = begun b none
 
 module _ (old new : Reading) (before after : Option (List ℕ)) (passes : Passes old new) where
-  pub got-ahead : (stage : Stage) (o : Option Seen) (item : Meaning) → begins stage old.has_begun ≡ false → GetsAhead old new before after (next_of stage o item)
+  pub got-ahead : (stage : Stage) (o : Option TrackedEvent) (item : Meaning) → begins stage old.has_begun ≡ false → GetsAhead old new before after (next_of stage o item)
   got-ahead Before (Some seen) item none = passes
   got-ahead Within (Some seen) item none = (begun old.has_begun none, passes)
   got-ahead After (Some seen) item none = (begun old.has_begun none, passes)
@@ -116,7 +116,7 @@ module _ (old new : Reading) (before after : Option (List ℕ)) (passes : Passes
 pub reading-none : (span : Span) (r : Reading) (t : Tracker) (text : Option (List ℕ)) → HasRead span r t text text [] [] → IsReading span r t text text
 reading-none span r t text read = record { items = []; seen = []; read = read }
 
-module _ (span : Span) (r : Reading) (t : Tracker) (text rest : Option (List ℕ)) (items : List Meaning) (seen : List (Seen × Printed)) where
+module _ (span : Span) (r : Reading) (t : Tracker) (text rest : Option (List ℕ)) (items : List Meaning) (seen : List (TrackedEvent × Printed)) where
   -- a step of the reading
   pub reading-more : (n : Next) → GoesOn span r t text rest items seen n → IsReading span r t text rest
   reading-more (next.Within e) goes = record { items = Event goes.0 ∷ items; seen = (e, goes.0) ∷ seen; read = goes.1 }

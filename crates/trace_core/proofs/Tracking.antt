@@ -3,10 +3,10 @@ use Rattle.std.proofs.Common.{◌≡◌, Bool, true, false, refl, sym, ap, ◌�
 use Rattle.trace_core.specs.Item.{Meaning, Event}
 use Rattle.trace_core.specs.Record.{Printed}
 use Rattle.trace_core.specs.declared.names.Names.{Names}
-use Rattle.trace_core.specs.declared.sighting.Sighting.{Sighting}
+use Rattle.trace_core.specs.declared.fence_event.FenceEvent.{FenceEvent}
 use Rattle.trace_core.specs.declared.ledger.Ledger.{Ledger}
-use Rattle.trace_core.specs.declared.sighting.FenceKey.{FenceKey}
-use Rattle.trace_core.specs.declared.tracker.Seen.{Seen as SeenEvent}
+use Rattle.trace_core.specs.declared.fence_event.FenceKey.{FenceKey}
+use Rattle.trace_core.specs.declared.tracker.TrackedEvent.{TrackedEvent}
 use Rattle.trace_core.specs.History.{Step, Seen, Lost, Forgot, IsLedgerOf, events_in, found_in, life_in}
 use Rattle.std.specs.Prelude.{IfSome, option_map}
 use Rattle.trace_core.specs.Names.{name_at}
@@ -14,7 +14,7 @@ use Rattle.trace_core.specs.Waits.{IsWaitOf, open_waits, started_of, wait_in}
 use Rattle.trace_core.specs.Tracker.{AreSeen, IsSeen, Says, IsStep, AreSteps, Keeps, steps_of, unforgetting}
 
 module _ (d e t u : Names) (drivers : Keeps d e) (timelines : Keeps t u) where
-  says-kept : (s : Sighting) (r : Printed) → Says d t s r → Says e u s r
+  says-kept : (s : FenceEvent) (r : Printed) → Says d t s r → Says e u s r
   says-kept s r says = record {
     event = says.event;
     driver = drivers s.key.driver r.driver says.driver;
@@ -39,7 +39,7 @@ module _ (d e t u : Names) (drivers : Keeps d e) (timelines : Keeps t u) where
   steps-kept (x ∷ more) [] are = are
   steps-kept (x ∷ more) (step ∷ steps) are = (step-kept x step are.0, steps-kept more steps are.1)
 
-pub seen : (d d1 d2 t t1 t2 : Names) (items : List Meaning) (s : Sighting) (r : Printed) (steps : List Step) → AreSteps d t (steps_of items) (unforgetting steps) → Keeps d d1 → Keeps t t1 → Says d1 t1 s r → d2 ≡ d1 → t2 ≡ t1 → AreSteps d2 t2 (steps_of (Event r ∷ items)) (unforgetting (Seen s ∷ steps))
+pub seen : (d d1 d2 t t1 t2 : Names) (items : List Meaning) (s : FenceEvent) (r : Printed) (steps : List Step) → AreSteps d t (steps_of items) (unforgetting steps) → Keeps d d1 → Keeps t t1 → Says d1 t1 s r → d2 ≡ d1 → t2 ≡ t1 → AreSteps d2 t2 (steps_of (Event r ∷ items)) (unforgetting (Seen s ∷ steps))
 seen d d1 d2 t t1 t2 items s r steps are drivers timelines says d-is t-is =
     subst (λ x. AreSteps x t2 (Some r ∷ steps_of items) (Seen s ∷ unforgetting steps)) (sym d-is) (subst (λ x. AreSteps d1 x (Some r ∷ steps_of items) (Seen s ∷ unforgetting steps)) (sym t-is) (says, steps-kept d d1 t t1 drivers timelines (steps_of items) (unforgetting steps) are))
 
@@ -47,7 +47,7 @@ seen d d1 d2 t t1 t2 items s r steps are drivers timelines says d-is t-is =
 pub record IsLedgerLike (l : Ledger) (steps : List Step) : Type 0 where
   pub more : List Step
   pub same : unforgetting more ≡ unforgetting steps
-  pub seen : (given : List (SeenEvent × Printed)) → AreSeen steps given → AreSeen more given
+  pub seen : (given : List (TrackedEvent × Printed)) → AreSeen steps given → AreSeen more given
   pub ledger : IsLedgerOf l more
   pub open_same : open_waits more ≡ open_waits steps
 
@@ -67,11 +67,11 @@ maybe false l m key steps h forgot kept = record {
   open_same = refl;
 }
 
-pub is-seen : (earlier : List Step) (given : SeenEvent) → given.life ≡ life_in earlier given.sighting.key → given.found ≡ found_in earlier given.sighting → IfSome given.wait (IsWaitOf given.sighting) → option_map started_of given.wait ≡ wait_in earlier given.sighting → IsSeen earlier given.sighting given
+pub is-seen : (earlier : List Step) (given : TrackedEvent) → given.life ≡ life_in earlier given.event.key → given.found ≡ found_in earlier given.event → IfSome given.wait (IsWaitOf given.event) → option_map started_of given.wait ≡ wait_in earlier given.event → IsSeen earlier given.event given
 is-seen earlier given life found wait begun = record { event = refl; life = life; found = found; wait = wait; begun = begun }
 
 -- the newest event has the names of its record
-pub named : (d t : Names) (printed : Printed) (items : List Meaning) (given : SeenEvent) (earlier : List (SeenEvent × Printed)) (steps : List Step) → AreSteps d t (steps_of (Event printed ∷ items)) (unforgetting steps) → AreSeen steps ((given, printed) ∷ earlier) → (name_at d given.sighting.key.driver ≡ Some printed.driver) × (name_at t given.sighting.key.timeline ≡ Some printed.timeline)
+pub named : (d t : Names) (printed : Printed) (items : List Meaning) (given : TrackedEvent) (earlier : List (TrackedEvent × Printed)) (steps : List Step) → AreSteps d t (steps_of (Event printed ∷ items)) (unforgetting steps) → AreSeen steps ((given, printed) ∷ earlier) → (name_at d given.event.key.driver ≡ Some printed.driver) × (name_at t given.event.key.timeline ≡ Some printed.timeline)
 named d t printed items given earlier [] are seen = elim are [ ]
 named d t printed items given earlier (Seen e ∷ steps) are seen = (
   ap (λ s. name_at d s.key.driver) seen.0.event ∙ are.0.driver,
@@ -81,7 +81,7 @@ named d t printed items given earlier (Lost ∷ steps) are seen = elim are.0 [ ]
 named d t printed items given earlier (Forgot key ∷ steps) are seen = named d t printed items given earlier steps are seen
 
 -- no event was seen exactly where none was given
-pub none-given : (steps : List Step) (given : List (SeenEvent × Printed)) → AreSeen steps given → events_in steps ≡ 0 → given ≡ []
+pub none-given : (steps : List Step) (given : List (TrackedEvent × Printed)) → AreSeen steps given → events_in steps ≡ 0 → given ≡ []
 none-given [] [] are none = refl
 none-given [] (seen ∷ more) are none = elim are [ ]
 none-given (Seen e ∷ steps) given are none = absurd (omega (arith, none))

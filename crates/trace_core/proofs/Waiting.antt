@@ -4,7 +4,7 @@ use Rattle.std.specs.Map.{lookup, remove_entry, values_of}
 use Rattle.std.proofs.lemmas.Bool.{eqb-true, eq-eqb, ne_eqb, cases_lt, and_parts}
 use Rattle.std.proofs.lemmas.List.{reverse-append}
 use Rattle.indexmap.specs.IndexMap.{IndexMap}
-use Rattle.trace_core.specs.declared.sighting.FenceKey.{FenceKey}
+use Rattle.trace_core.specs.declared.fence_event.FenceKey.{FenceKey}
 use Rattle.trace_core.specs.declared.waits.Wait.{Wait}
 use Rattle.trace_core.specs.declared.waits.WaitKey.{WaitKey}
 use Rattle.trace_core.specs.Keys.{same_key}

@@ -1,4 +1,4 @@
--- What an event is, by what was known before it.
+-- The class of an event, given the state before it.
 use Rattle.std.specs.Prelude.{ℕ, ◌==◌, Bool, true, false, not, ◌&&◌, ◌||◌, nat_lt}
 use Rattle.trace_core.specs.declared.event.Event.{Event}
 use Rattle.trace_core.specs.declared.event.Event.TheVariants.{Init, Emit, Signaled, Destroy}

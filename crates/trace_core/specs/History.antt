@@ -4,10 +4,10 @@ use Rattle.trace_core.specs.declared.contexts.ContextState.{ContextState}
 use Rattle.trace_core.specs.declared.finding.Finding.{Finding}
 use Rattle.trace_core.specs.declared.ledger.Ledger.{Ledger}
 use Rattle.trace_core.specs.declared.life.Life.{Life}
-use Rattle.trace_core.specs.declared.sighting.ContextKey.{ContextKey}
-use Rattle.trace_core.specs.declared.sighting.FenceKey.{FenceKey}
-use Rattle.trace_core.specs.declared.sighting.Sighting.{Sighting}
-use Rattle.trace_core.specs.declared.sighting.TimelineKey.{TimelineKey}
+use Rattle.trace_core.specs.declared.fence_event.ContextKey.{ContextKey}
+use Rattle.trace_core.specs.declared.fence_event.FenceKey.{FenceKey}
+use Rattle.trace_core.specs.declared.fence_event.FenceEvent.{FenceEvent}
+use Rattle.trace_core.specs.declared.fence_event.TimelineKey.{TimelineKey}
 use Rattle.trace_core.specs.declared.tally.Tally.{Tally}
 use Rattle.trace_core.specs.Contexts.{context_at, context_seen, found_of, no_context}
 use Rattle.trace_core.specs.Keys.{same_context, same_timeline, context_of, timeline_of}
@@ -17,10 +17,10 @@ use Rattle.trace_core.specs.Points.{is_only}
 use Rattle.trace_core.specs.Tally.{none, plus_one, tally_after}
 use Rattle.trace_core.specs.Timelines.{tally_at}
 
--- An event that was read, a place where events were lost, or one where the context of a key was forgotten: to keep what is
--- of use, and not what each context did that ever was.
+-- An event that was read, a place where events were lost, or one where the context of a key was forgotten, so that memory
+-- follows live contexts.
 pub data Step : Type 0 where
-  Seen : Sighting → Step
+  Seen : FenceEvent → Step
   Lost : Step
   Forgot : FenceKey → Step
 
@@ -62,7 +62,7 @@ context_in (Forgot past ∷ earlier) key =
     if same_context (context_of past) key then no_context else context_in earlier key
 
 -- what the next event is
-abbrev pub found_in : List Step → Sighting → Finding
+abbrev pub found_in : List Step → FenceEvent → Finding
 found_in earlier e = found_of e (life_in earlier e.key) (is_sure earlier e.key) (context_in earlier (context_of e.key))
 
 -- what the fences did that pass the test

@@ -1,8 +1,8 @@
 -- The names of fences, contexts and timelines in a trace.
 use Rattle.std.specs.Prelude.{nat_eq, Bool, ◌&&◌}
-use Rattle.trace_core.specs.declared.sighting.ContextKey.{ContextKey}
-use Rattle.trace_core.specs.declared.sighting.FenceKey.{FenceKey}
-use Rattle.trace_core.specs.declared.sighting.TimelineKey.{TimelineKey}
+use Rattle.trace_core.specs.declared.fence_event.ContextKey.{ContextKey}
+use Rattle.trace_core.specs.declared.fence_event.FenceKey.{FenceKey}
+use Rattle.trace_core.specs.declared.fence_event.TimelineKey.{TimelineKey}
 
 abbrev pub same_timeline : TimelineKey → TimelineKey → Bool
 same_timeline a b = nat_eq a.driver b.driver && nat_eq a.timeline b.timeline

@@ -6,7 +6,7 @@ use Rattle.trace_core.specs.Record.{Printed}
 use Rattle.trace_core.specs.declared.reading.Next.{Next}
 use Rattle.trace_core.specs.declared.reading.Next.TheVariants as next
 use Rattle.trace_core.specs.declared.reading.Reading.{Reading}
-use Rattle.trace_core.specs.declared.tracker.Seen.{Seen}
+use Rattle.trace_core.specs.declared.tracker.TrackedEvent.{TrackedEvent}
 use Rattle.trace_core.specs.declared.tracker.Tracker.{Tracker}
 use Rattle.trace_core.specs.declared.window.Span.{Span}
 use Rattle.trace_core.specs.declared.window.Stage.{Stage}
@@ -25,7 +25,7 @@ stage_with stage span (Counts held written processors) = stage
 stage_with stage span Note = stage
 
 -- the stage after these events, the newest first
-abbrev pub stage_at : Span → List (Seen × Printed) → Stage
+abbrev pub stage_at : Span → List (TrackedEvent × Printed) → Stage
 stage_at span [] = Before
 stage_at span (seen ∷ earlier) = stage_after span seen.1.time (stage_at span earlier)
 
@@ -39,7 +39,7 @@ is_end next.Other = false
 is_end next.End = true
 
 -- an event is before the window or in it
-abbrev pub event_at : Stage → Seen → Next
+abbrev pub event_at : Stage → TrackedEvent → Next
 event_at Before seen = next.Before seen
 event_at Within seen = next.Within seen
 event_at After seen = next.Within seen
@@ -53,13 +53,13 @@ loss_of (BufferStarted cpu) = next.StartedLate
 loss_of (Counts held written processors) = next.Other
 loss_of Note = next.Other
 
-abbrev pub next_of : Stage → Option Seen → Meaning → Next
+abbrev pub next_of : Stage → Option TrackedEvent → Meaning → Next
 next_of stage (Some seen) item = event_at stage seen
 next_of stage None item = loss_of item
 
 -- These are the pieces that the tracker took in, and these its answers for their events. The newest come first.
 pub record HasRead (span : Span) (r : Reading) (t : Tracker) (before now : Option (List ℕ))
-    (items : List Meaning) (seen : List (Seen × Printed)) : Type 0 where
+    (items : List Meaning) (seen : List (TrackedEvent × Printed)) : Type 0 where
   pub span_is : r.span ≡ span
   pub passed : HasPassed before now r.pieces (reverse items)
   pub stage : r.stage ≡ stage_at span seen
@@ -67,7 +67,7 @@ pub record HasRead (span : Span) (r : Reading) (t : Tracker) (before now : Optio
   pub tracks : Tracks t items seen
 
 -- the next piece is an event after the window
-pub record IsPast (span : Span) (rest : Unpassed) (seen : List (Seen × Printed)) : Type 0 where
+pub record IsPast (span : Span) (rest : Unpassed) (seen : List (TrackedEvent × Printed)) : Type 0 where
   pub record_is : Printed
   pub len : ℕ
   pub next : IsNext rest (Event record_is) len
@@ -75,7 +75,7 @@ pub record IsPast (span : Span) (rest : Unpassed) (seen : List (Seen × Printed)
 
 -- The pieces of a text up to the end of a window: all of them, or those before the first event after the window. The newest come
 -- first.
-pub record HasReadWindow (span : Span) (before now : Option (List ℕ)) (items : List Meaning) (seen : List (Seen × Printed))
+pub record HasReadWindow (span : Span) (before now : Option (List ℕ)) (items : List Meaning) (seen : List (TrackedEvent × Printed))
     : Type 0 where
   pub rest : Unpassed
   pub passed : HasPassed before now rest (reverse items)
@@ -83,20 +83,20 @@ pub record HasReadWindow (span : Span) (before now : Option (List ℕ)) (items :
 
 -- an event was taken in, and the reading is at that stage after the event
 abbrev pub TookIn : Span → Reading → Tracker → Option (List ℕ) → Option (List ℕ)
-    → List Meaning → List (Seen × Printed) → Seen → Stage → Type 0
+    → List Meaning → List (TrackedEvent × Printed) → TrackedEvent → Stage → Type 0
 TookIn span r t before now items earlier seen stage =
     (printed : Printed) × HasRead span r t before now (Event printed ∷ items) ((seen, printed) ∷ earlier)
     × (stage_at span ((seen, printed) ∷ earlier) ≡ stage)
 
 -- a piece was taken in that is no event and no loss
 abbrev pub PassedOver : Span → Reading → Tracker → Option (List ℕ) → Option (List ℕ)
-    → List Meaning → List (Seen × Printed) → Type 0
+    → List Meaning → List (TrackedEvent × Printed) → Type 0
 PassedOver span r t before now items seen =
     (item : Meaning) × (loss_of item ≡ next.Other) × HasRead span r t before now (item ∷ items) seen
 
 -- The answer of a step is true, and nothing else was taken in: an event or a loss is given when it is, and no piece twice.
 abbrev pub GoesOn : Span → Reading → Tracker → Option (List ℕ) → Option (List ℕ)
-    → List Meaning → List (Seen × Printed) → Next → Type 0
+    → List Meaning → List (TrackedEvent × Printed) → Next → Type 0
 GoesOn span r t before now items earlier (next.Before seen) = TookIn span r t before now items earlier seen Before
 GoesOn span r t before now items earlier (next.Within seen) = TookIn span r t before now items earlier seen Within
 GoesOn span r t before now items earlier next.End =
@@ -142,12 +142,12 @@ GetsAhead old new before after next.End = old.has_begun ≡ true
 -- the text was read so far
 pub record IsReading (span : Span) (r : Reading) (t : Tracker) (text rest : Option (List ℕ)) : Type 0 where
   pub items : List Meaning
-  pub seen : List (Seen × Printed)
+  pub seen : List (TrackedEvent × Printed)
   pub read : HasRead span r t text rest items seen
 
 -- the text was read up to the end of the window, and the tracker knows what it says
 pub record HasTakenIn (span : Span) (t : Tracker) (text rest : Option (List ℕ)) : Type 0 where
   pub items : List Meaning
-  pub seen : List (Seen × Printed)
+  pub seen : List (TrackedEvent × Printed)
   pub window : HasReadWindow span text rest items seen
   pub tracks : Tracks t items seen

@@ -1,7 +1,7 @@
 -- What the fences of a timeline did.
 use Rattle.std.specs.Prelude.{unwrap_or}
 use Rattle.std.specs.Map.{lookup}
-use Rattle.trace_core.specs.declared.sighting.TimelineKey.{TimelineKey}
+use Rattle.trace_core.specs.declared.fence_event.TimelineKey.{TimelineKey}
 use Rattle.trace_core.specs.declared.tally.Tally.{Tally}
 use Rattle.trace_core.specs.declared.timelines.TimelineTallies.{TimelineTallies}
 use Rattle.trace_core.specs.Keys.{same_timeline}

@@ -3,17 +3,17 @@ use Rattle.std.specs.Prelude.{◌≡◌, ℕ, ⊤, Bool, true, false, IfSome, Li
 use Rattle.trace_core.specs.Item.{Meaning, Event, Other, Unread, Lost as LostEvents, BufferStarted, Counts, Note}
 use Rattle.trace_core.specs.Record.{Printed}
 use Rattle.trace_core.specs.declared.names.Names.{Names}
-use Rattle.trace_core.specs.declared.sighting.Sighting.{Sighting}
+use Rattle.trace_core.specs.declared.fence_event.FenceEvent.{FenceEvent}
 use Rattle.trace_core.specs.declared.summary.TraceClock.{TraceClock}
-use Rattle.trace_core.specs.declared.tracker.Seen.{Seen as SeenEvent}
+use Rattle.trace_core.specs.declared.tracker.TrackedEvent.{TrackedEvent}
 use Rattle.trace_core.specs.declared.tracker.Tracker.{Tracker}
 use Rattle.trace_core.specs.History.{Step, Seen, Lost, Forgot, IsLedgerOf, found_in, life_in}
 use Rattle.trace_core.specs.Names.{name_at}
 use Rattle.trace_core.specs.Waits.{AreOpen, IsWaitOf, open_waits, started_of, wait_in}
 
 -- the event says what the record says, with numbers for names
-pub record Says (drivers timelines : Names) (e : Sighting) (r : Printed) : Type 0 where
-  pub event : e.event ≡ r.event
+pub record Says (drivers timelines : Names) (e : FenceEvent) (r : Printed) : Type 0 where
+  pub event : e.kind ≡ r.event
   pub driver : name_at drivers e.key.driver ≡ Some r.driver
   pub timeline : name_at timelines e.key.timeline ≡ Some r.timeline
   pub context : e.key.context ≡ r.context
@@ -60,15 +60,15 @@ Keeps old new = (n : ℕ) (name : List ℕ) → name_at old n ≡ Some name → 
 
 -- The answer for an event: its key's life before the event, what was found of it, and the wait of its task for its fence that
 -- it begins or ends, if any.
-pub record IsSeen (earlier : List Step) (e : Sighting) (seen : SeenEvent) : Type 0 where
-  pub event : seen.sighting ≡ e
+pub record IsSeen (earlier : List Step) (e : FenceEvent) (seen : TrackedEvent) : Type 0 where
+  pub event : seen.event ≡ e
   pub life : seen.life ≡ life_in earlier e.key
   pub found : seen.found ≡ found_in earlier e
   pub wait : IfSome seen.wait (IsWaitOf e)
   pub begun : option_map started_of seen.wait ≡ wait_in earlier e
 
 -- the answers for the events, each with its record; the newest first in both
-abbrev pub AreSeen : List Step → List (SeenEvent × Printed) → Type 0
+abbrev pub AreSeen : List Step → List (TrackedEvent × Printed) → Type 0
 AreSeen [] [] = ⊤
 AreSeen [] (seen ∷ more) = ⊥
 AreSeen (Seen e ∷ earlier) [] = ⊥
@@ -92,7 +92,7 @@ is_event (Counts held written processors) = false
 is_event Note = false
 
 -- the answer for an item, with its record
-abbrev pub given : Option SeenEvent → Meaning → List (SeenEvent × Printed)
+abbrev pub given : Option TrackedEvent → Meaning → List (TrackedEvent × Printed)
 given None item = []
 given (Some seen) (Event r) = (seen, r) ∷ []
 given (Some seen) (LostEvents cpu events) = []
@@ -114,14 +114,14 @@ records_in (Counts held written processors ∷ items) = records_in items
 records_in (Note ∷ items) = records_in items
 
 -- The steps are the items' events and losses, each once and in order, and these are the answers. The newest come first.
-pub record Saw (drivers timelines : Names) (items : List Meaning) (seen : List (SeenEvent × Printed)) (steps : List Step) : Type 0 where
+pub record Saw (drivers timelines : Names) (items : List Meaning) (seen : List (TrackedEvent × Printed)) (steps : List Step) : Type 0 where
   pub are : AreSteps drivers timelines (steps_of items) (unforgetting steps)
   pub seen_are : AreSeen steps seen
   pub records : records_in items ≡ map (λ s. s.1) seen
 
 -- The ledger is the folds over the items' events and losses, the waits that are kept are the open ones, and these were the
 -- answers for the events.
-pub record Tracks (t : Tracker) (items : List Meaning) (seen : List (SeenEvent × Printed)) : Type 0 where
+pub record Tracks (t : Tracker) (items : List Meaning) (seen : List (TrackedEvent × Printed)) : Type 0 where
   pub steps : List Step
   pub saw : Saw t.drivers t.timelines items seen steps
   pub ledger : IsLedgerOf t.ledger steps

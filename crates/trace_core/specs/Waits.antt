@@ -3,8 +3,8 @@ use Rattle.std.specs.Prelude.{◌≡◌, ℕ, nat_eq, ◌-◌, Bool, ◌&&◌, i
 use Rattle.std.specs.List.{filter}
 use Rattle.trace_core.specs.declared.event.Event.{Event}
 use Rattle.trace_core.specs.declared.event.Event.TheVariants.{WaitStart, WaitEnd}
-use Rattle.trace_core.specs.declared.sighting.FenceKey.{FenceKey}
-use Rattle.trace_core.specs.declared.sighting.Sighting.{Sighting}
+use Rattle.trace_core.specs.declared.fence_event.FenceKey.{FenceKey}
+use Rattle.trace_core.specs.declared.fence_event.FenceEvent.{FenceEvent}
 use Rattle.trace_core.specs.declared.waits.Wait.{Wait}
 use Rattle.trace_core.specs.declared.waits.WaitKey.{WaitKey}
 use Rattle.trace_core.specs.declared.waits.Waits.{Waits}
@@ -12,7 +12,7 @@ use Rattle.trace_core.specs.History.{Step, Seen, Lost, Forgot}
 use Rattle.trace_core.specs.Keys.{same_key}
 
 -- the wait is one of the event's task for its fence, and lasted up to the event
-pub record IsWaitOf (e : Sighting) (wait : Wait) : Type 0 where
+pub record IsWaitOf (e : FenceEvent) (wait : Wait) : Type 0 where
   pub task : wait.pid ≡ e.pid
   pub fence : wait.key ≡ e.key
   pub length : wait.length ≡ e.time - wait.start
@@ -23,7 +23,7 @@ pub record Started : Type 0 where
   pub key : FenceKey
   pub start : ℕ
 
-abbrev pub started_by : Sighting → Started
+abbrev pub started_by : FenceEvent → Started
 started_by e = record { pid = e.pid; key = e.key; start = e.time }
 
 abbrev pub started_of : Wait → Started
@@ -40,13 +40,13 @@ without_first test (wait ∷ waits) = if test wait then waits else wait ∷ with
 
 -- The open waits after an event, from the open waits before it, with the newest first. A wait_end ends a wait of its task for its
 -- fence: of several, the wait that began last.
-abbrev pub waits_after : Event → Sighting → List Started → List Started
+abbrev pub waits_after : Event → FenceEvent → List Started → List Started
 waits_after WaitStart e waits = started_by e ∷ waits
 waits_after WaitEnd e waits = without_first (is_wait_for e.pid e.key) waits
 waits_after _ e waits = waits
 
 -- the wait that an event begins or ends, if any, by the waits that are open before it
-abbrev pub wait_by : Event → Sighting → List Started → Option Started
+abbrev pub wait_by : Event → FenceEvent → List Started → Option Started
 wait_by WaitStart e waits = Some (started_by e)
 wait_by WaitEnd e waits = find (is_wait_for e.pid e.key) waits
 wait_by _ e waits = None
@@ -54,13 +54,13 @@ wait_by _ e waits = None
 -- the waits that are open after the steps, the newest first
 abbrev pub open_waits : List Step → List Started
 open_waits [] = []
-open_waits (Seen e ∷ earlier) = waits_after e.event e (open_waits earlier)
+open_waits (Seen e ∷ earlier) = waits_after e.kind e (open_waits earlier)
 open_waits (Lost ∷ earlier) = open_waits earlier
 open_waits (Forgot key ∷ earlier) = open_waits earlier
 
 -- the wait that the event begins or ends, by the steps before it
-abbrev pub wait_in : List Step → Sighting → Option Started
-wait_in earlier e = wait_by e.event e (open_waits earlier)
+abbrev pub wait_in : List Step → FenceEvent → Option Started
+wait_in earlier e = wait_by e.kind e (open_waits earlier)
 
 -- how many of the waits are of that task for that fence
 abbrev pub waiting : ℕ → FenceKey → List Started → ℕ

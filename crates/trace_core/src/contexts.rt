@@ -2,16 +2,16 @@
 //! without fences when there are more than `KEPT_CONTEXTS`, so that a trace of any length fits in memory.
 ghost use Rattle.std.specs.Prelude.{◌≡◌, false, true, if◌then◌else◌, OnOk, IfOk, IfErr, nat_lt, length};
 ghost use Rattle.point_core.specs.declared.refusal.Refusal.TheVariants.{Memory};
-ghost use Rattle.trace_core.specs.declared.sighting.ContextKey.{ContextKey};
+ghost use Rattle.trace_core.specs.declared.fence_event.ContextKey.{ContextKey};
 ghost use Rattle.trace_core.specs.declared.contexts.TheConstants.{KEPT_CONTEXTS};
 ghost use Rattle.trace_core.specs.Contexts.{context_at, context_after, found_of, no_context};
 ghost use Rattle.trace_core.specs.Keys.{same_context, context_of};
 
+use crate::fence_event::{ContextKey, FenceEvent};
 use crate::finding::Finding;
 use crate::life::Life;
 use crate::order::Order;
 use crate::points::Points;
-use crate::sighting::{ContextKey, Sighting};
 use crate::tally::Tally;
 use indexmap::IndexMap;
 use point_core::Refusal;
@@ -38,12 +38,12 @@ impl ContextState {
 
     /// Classifies an event, given what is known of its key (certain or only likely).
     #[inline(always)]
-    fn found(&self, sighting: &Sighting, life: Life, sure: bool) -> Finding
-        ensures { result ≡ found_of sighting.now life sure self.now }
+    fn found(&self, event: &FenceEvent, life: Life, sure: bool) -> Finding
+        ensures { result ≡ found_of event.now life sure self.now }
     {
         Finding::of(
-            sighting.event,
-            sighting.key.seqno,
+            event.kind,
+            event.key.seqno,
             life,
             self.points,
             self.order,
@@ -51,13 +51,13 @@ impl ContextState {
         )
     }
 
-    /// Takes in event number `at`, of one of its fences, classified as `found`.
+    /// Records event number `at`, of one of its fences, of the class `found`.
     #[inline(always)]
-    fn see(&mut self, sighting: &Sighting, at: u64, found: &Finding)
-        ensures { self.new ≡ context_after sighting.now at found.now self.old }
+    fn see(&mut self, event: &FenceEvent, at: u64, found: &Finding)
+        ensures { self.new ≡ context_after event.now at found.now self.old }
     {
-        let seqno = sighting.key.seqno;
-        self.order = self.order.after(sighting.event, seqno, at);
+        let seqno = event.key.seqno;
+        self.order = self.order.after(event.kind, seqno, at);
         self.points = self.points.after(seqno);
         self.tally.count(found);
     }
@@ -96,34 +96,34 @@ impl Contexts {
         &self.by_key
     }
 
-    /// Takes in event number `at`. `life` is what was known of its key before it, and `sure` whether no events were lost
-    /// since. Answers what the event is.
+    /// Records event number `at`; returns its class. `life` is the state of its key before it, and `sure` says that no events were
+    /// lost since.
     ///
     /// Fails only with `Memory`, and then nothing has changed.
     pub fn see(
         &mut self,
-        sighting: &Sighting,
+        event: &FenceEvent,
         at: u64,
         life: Life,
         sure: bool,
     ) -> Result<Finding, Refusal>
         ensures found { IfOk result (λ f.
-            f ≡ found_of sighting.now life sure (context_at self.old (context_of sighting.now.key))) }
+            f ≡ found_of event.now life sure (context_at self.old (context_of event.now.key))) }
         ensures seen { IfOk result (λ f. (key : ContextKey) → context_at self.new key ≡
-            (if same_context (context_of sighting.now.key) key
-            then context_after sighting.now at f (context_at self.old (context_of sighting.now.key))
+            (if same_context (context_of event.now.key) key
+            then context_after event.now at f (context_at self.old (context_of event.now.key))
             else context_at self.old key)) }
         ensures memory { IfErr result (λ e. e ≡ Memory) }
     {
-        let key = sighting.key.context_key();
+        let key = event.key.context_key();
         if let Some(context) = self.by_key.get_mut(&key) {
-            let found = context.found(sighting, life, sure);
-            context.see(sighting, at, &found);
+            let found = context.found(event, life, sure);
+            context.see(event, at, &found);
             return Ok(found);
         }
         let mut context = ContextState::NONE;
-        let found = context.found(sighting, life, sure);
-        context.see(sighting, at, &found);
+        let found = context.found(event, life, sure);
+        context.see(event, at, &found);
         let Ok(_old) = self.by_key.insert(key, context) else {
             return Err(Refusal::Memory);
         };

@@ -3,7 +3,7 @@
 ghost use Rattle.std.specs.Prelude.{◌≡◌, IfErr};
 ghost use Rattle.point_core.specs.declared.refusal.Refusal.TheVariants.{Memory};
 
-use crate::sighting::TimelineKey;
+use crate::fence_event::TimelineKey;
 use indexmap::IndexMap;
 use point_core::Refusal;
 use std::alloc::Global;

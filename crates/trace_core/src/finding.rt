@@ -1,4 +1,4 @@
-//! `Finding`: what an event is, by what was known before it. Every counter of a tally is a function of it.
+//! `Finding`: the class of an event, given the state before it. Every counter of a tally is a function of it.
 ghost use Rattle.std.specs.Prelude.{◌≡◌};
 ghost use Rattle.trace_core.specs.Finding.{finding_of, is_overtaken, is_plain, is_signalled_only};
 
@@ -7,7 +7,7 @@ use crate::life::Life;
 use crate::order::Order;
 use crate::points::Points;
 
-/// What an event is, by what was known of its key and of its context before it. [`Tally`](crate::Tally) explains each.
+/// The class of an event, given the states of its key and of its context before it. [`Tally`](crate::Tally) explains each.
 #[derive(Clone, Copy)]
 pub struct Finding {
     pub event: Event,

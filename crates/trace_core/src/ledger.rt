@@ -11,21 +11,21 @@ ghost use Rattle.trace_core.specs.Lives.{life_at};
 
 use crate::contexts::Contexts;
 use crate::event::Event;
+use crate::fence_event::{FenceEvent, FenceKey, TimelineKey};
 use crate::finding::Finding;
 use crate::life::Life;
 use crate::lives::Lives;
-use crate::sighting::{FenceKey, Sighting, TimelineKey};
 use crate::tally::Tally;
 use crate::timelines::TimelineTallies;
 use point_core::Refusal;
 use std::alloc::Global;
 
-/// What was known before an event, and what the event is by that.
+/// The key's state before an event, and the event's class.
 #[derive(Clone, Copy)]
-pub struct Sight {
-    /// What was known of its key.
+pub struct Classified {
+    /// The state of its key before it.
     pub life: Life,
-    /// What it is, by that.
+    /// Its class.
     pub found: Finding,
 }
 
@@ -56,36 +56,36 @@ impl Ledger {
         }
     }
 
-    /// Takes in an event. Answers what was known of its key, and what the event is by that.
+    /// Records an event; returns the key's prior state and the event's class.
     ///
     /// Fails only with `Memory`; then the ledger is not to be used further.
-    pub fn see(&mut self, sighting: &Sighting) -> Result<Sight, Refusal>
-        ensures known { IfOk result (λ sight. (steps : List Step) →
-            IsLedgerOf self.old steps → sight.life ≡ life_in steps sighting.now.key) }
-        ensures found { IfOk result (λ sight. (steps : List Step) →
-            IsLedgerOf self.old steps → sight.found ≡ found_in steps sighting.now) }
+    pub fn see(&mut self, event: &FenceEvent) -> Result<Classified, Refusal>
+        ensures known { IfOk result (λ classified. (steps : List Step) →
+            IsLedgerOf self.old steps → classified.life ≡ life_in steps event.now.key) }
+        ensures found { IfOk result (λ classified. (steps : List Step) →
+            IsLedgerOf self.old steps → classified.found ≡ found_in steps event.now) }
         ensures seen { OnOk result ((steps : List Step) →
-            IsLedgerOf self.old steps → IsLedgerOf self.new (Seen sighting.now ∷ steps)) }
+            IsLedgerOf self.old steps → IsLedgerOf self.new (Seen event.now ∷ steps)) }
         ensures memory { IfErr result (λ e. e ≡ Memory) }
     {
-        let life = self.lives.see(sighting, self.events)?;
+        let life = self.lives.see(event, self.events)?;
         let sure = self.loss <= life.born;
-        let found = self.contexts.see(sighting, self.events, life, sure)?;
-        self.timelines.count(sighting.key.timeline_key(), &found)?;
+        let found = self.contexts.see(event, self.events, life, sure)?;
+        self.timelines.count(event.key.timeline_key(), &found)?;
         self.total.count(&found);
         self.events = self.events.saturating_add(1);
-        Ok(Sight { life, found })
+        Ok(Classified { life, found })
     }
 
     /// Drops a context from the cache when the cache is over its limit, the context has seen only this key, and no
     /// fence of the key is alive.
-    pub fn forget(&mut self, sighting: &Sighting, life: Life) -> bool
+    pub fn forget(&mut self, event: &FenceEvent, life: Life) -> bool
         ensures forgot { result ≡ true → (steps : List Step) →
-            IsLedgerOf self.old steps → IsLedgerOf self.new (Forgot sighting.now.key ∷ steps) }
+            IsLedgerOf self.old steps → IsLedgerOf self.new (Forgot event.now.key ∷ steps) }
         ensures kept { result ≡ false → self.new ≡ self.old }
     {
-        if may_end(sighting.event, life) {
-            return self.forget_past(&sighting.key);
+        if may_end(event.kind, life) {
+            return self.forget_past(&event.key);
         }
         false
     }
@@ -180,7 +180,7 @@ impl Ledger {
         &self.timelines
     }
 
-    /// Takes in that events were lost here.
+    /// Records that events were lost here.
     pub fn lose(&mut self)
         ensures lost { (steps : List Step) → IsLedgerOf self.old steps → IsLedgerOf self.new (Lost ∷ steps) }
     {

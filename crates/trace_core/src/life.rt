@@ -21,7 +21,7 @@ pub struct Life {
 }
 
 impl Life {
-    /// What is known of a key that has no fence, or whose fences are all gone: nothing.
+    /// The state of a key without live fences.
     pub const UNBORN: Life = Life {
         pending: 0,
         signalled: 0,
@@ -102,7 +102,7 @@ impl Life {
         }
     }
 
-    /// Without one of the fences that are pending.
+    /// The state after one pending fence is gone.
     pub fn without_one(self) -> Life
         ensures { result ≡ without_one self }
     {

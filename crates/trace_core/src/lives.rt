@@ -2,15 +2,15 @@
 //! alive at once.
 ghost use Rattle.std.specs.Prelude.{◌≡◌, ◌&&◌, nat_eq, if◌then◌else◌, OnOk, OnErr, IfOk, IfErr};
 ghost use Rattle.point_core.specs.declared.refusal.Refusal.TheVariants.{Memory};
-ghost use Rattle.trace_core.specs.declared.sighting.FenceKey.{FenceKey};
+ghost use Rattle.trace_core.specs.declared.fence_event.FenceKey.{FenceKey};
 ghost use Rattle.trace_core.specs.Keys.{same_key};
 ghost use Rattle.trace_core.specs.Life.{unborn, settled};
 ghost use Rattle.trace_core.specs.Lives.{life_at, life_step, without_number};
 ghost use Rattle.trace_core.specs.Finding.{is_emit};
 
 use crate::event::Event;
+use crate::fence_event::{FenceEvent, FenceKey};
 use crate::life::Life;
-use crate::sighting::{FenceKey, Sighting};
 use indexmap::IndexMap;
 use point_core::Refusal;
 use std::alloc::Global;
@@ -48,32 +48,32 @@ impl Lives {
         &self.by_key
     }
 
-    /// Takes in event number `born`. Answers what was known of its key.
+    /// Records event `born`; returns its key's prior state.
     ///
     /// Fails only with `Memory`; then no more events are to be taken in.
     #[tactic(auto, unfolding(crate::specs::Lives::life_step))]
-    pub fn see(&mut self, sighting: &Sighting, born: u64) -> Result<Life, Refusal>
-        ensures known { IfOk result (λ own. own ≡ life_at self.old sighting.now.key) }
+    pub fn see(&mut self, event: &FenceEvent, born: u64) -> Result<Life, Refusal>
+        ensures known { IfOk result (λ own. own ≡ life_at self.old event.now.key) }
         ensures seen { OnOk result ((key : FenceKey) → life_at self.new key ≡
-            life_step sighting.now born (life_at self.old sighting.now.key) key (life_at self.old key)) }
+            life_step event.now born (life_at self.old event.now.key) key (life_at self.old key)) }
         ensures memory { IfErr result (λ e. e ≡ Memory) }
     {
-        let own = self.life(&sighting.key);
-        self.number(sighting, own)?;
-        self.put(sighting.key, own.after(sighting.event, born, sighting.time))?;
+        let own = self.life(&event.key);
+        self.number(event, own)?;
+        self.put(event.key, own.after(event.kind, born, event.time))?;
         Ok(own)
     }
 
     /// Takes one away from the context's fences without a number, where the event gives it one.
-    fn number(&mut self, sighting: &Sighting, own: Life) -> Result<(), Refusal>
+    fn number(&mut self, event: &FenceEvent, own: Life) -> Result<(), Refusal>
         ensures numbered { OnOk result ((key : FenceKey) → life_at self.new key ≡
-            without_number sighting.now own key (life_at self.old key)) }
+            without_number event.now own key (life_at self.old key)) }
         ensures memory { IfErr result (λ e. e ≡ Memory) }
     {
-        if !gives_number(sighting.event, own) {
+        if !gives_number(event.kind, own) {
             return Ok(());
         }
-        let unnumbered = sighting.key.unnumbered();
+        let unnumbered = event.key.unnumbered();
         let life = self.life(&unnumbered);
         self.put(unnumbered, life.without_one())?;
         Ok(())

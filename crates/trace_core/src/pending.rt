@@ -8,8 +8,8 @@ ghost use Rattle.trace_core.specs.History.{Step, IsLedgerOf};
 ghost use Rattle.trace_core.specs.Keys.{same_key};
 ghost use Rattle.trace_core.specs.Pending.{kind_of, pending_among};
 
+use crate::fence_event::FenceKey;
 use crate::ledger::Ledger;
-use crate::sighting::FenceKey;
 use point_core::Refusal;
 use std::alloc::Global;
 

@@ -95,7 +95,7 @@ fn first_line(bytes: &[u8], whole: bool) -> Option<(&[u8], usize)>
     }
 }
 
-/// What lines are with the next one.
+/// How a run of lines reads once the next line is added.
 #[derive(Clone, Copy)]
 enum Joining<'a> {
     /// More has to be read first.
@@ -104,7 +104,7 @@ enum Joining<'a> {
     Alone,
     /// A record, and where it ends.
     Whole(Record<'a>, usize),
-    /// No record, but it may be one with the line after that. The next line ends there.
+    /// Not a record yet; the following line may complete it. The next line ends there.
     Longer(usize),
 }
 

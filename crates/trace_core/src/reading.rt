@@ -1,7 +1,7 @@
 //! `Reading`: a window of a trace, from a reader, step by step.
 //!
-//! The one loop over pieces that reports, scripts and trace events share: each step hands one piece to the tracker, and answers
-//! what it was. `HasRead` says which pieces were taken in so far; `next` upholds it.
+//! Each step hands one piece to the tracker, and returns what it was. `HasRead` says which pieces were handed over so far; `next`
+//! upholds it. `for_each_step` loops over the steps.
 ghost use Rattle.std.specs.Prelude.{◌≡◌, ◌⊎◌, [], List, ℕ, Option, IfOk, IfErr};
 ghost use Rattle.point_core.specs.declared.refusal.Refusal.TheVariants.{Read as ReadFault, Memory};
 ghost use Rattle.trace_core.specs.Item.{Meaning, meaning_of};
@@ -12,7 +12,7 @@ ghost use Rattle.trace_core.specs.Tracker.{Tracks};
 
 use crate::item::TraceItem;
 use crate::pieces::Pieces;
-use crate::tracker::{Seen, Tracker};
+use crate::tracker::{TrackedEvent, Tracker};
 use crate::window::{Span, Stage};
 use point_core::Refusal;
 use std::io::Read;
@@ -27,9 +27,9 @@ pub enum Next {
     /// A line says that all earlier events of a processor are missing.
     StartedLate,
     /// An event before the window.
-    Before(Seen),
+    Before(TrackedEvent),
     /// An event of the window.
-    Within(Seen),
+    Within(TrackedEvent),
     /// Another line, or more of the text.
     Other,
     /// The end of the window, or of the text.
@@ -77,7 +77,7 @@ impl Reading {
     /// After a refusal neither the reading nor the tracker is to be used further.
     pub fn next<R: Read>(&mut self, tracker: &mut Tracker, reader: &mut R) -> Result<Next, Refusal>
         ensures more { IfOk result (λ next. (span : Span) → (before : Option (List ℕ)) →
-            (items : List Meaning) → (seen : List (Seen × Printed)) →
+            (items : List Meaning) → (seen : List (TrackedEvent × Printed)) →
             HasRead span self.old tracker.old before (R.remaining reader.old) items seen →
             GoesOn span self.new tracker.new before (R.remaining reader.new) items seen next) }
         ensures ahead { IfOk result (GetsAhead self.old self.new (R.remaining reader.old) (R.remaining reader.new)) }
@@ -106,7 +106,7 @@ impl Reading {
     fn read_on<R: Read>(&mut self, tracker: &mut Tracker, reader: &mut R) -> Result<Next, Refusal>
         requires waiting { IsWaiting self.old.pieces }
         ensures more { IfOk result (λ next. (span : Span) → (before : Option (List ℕ)) →
-            (items : List Meaning) → (seen : List (Seen × Printed)) →
+            (items : List Meaning) → (seen : List (TrackedEvent × Printed)) →
             HasRead span self.old tracker.old before (R.remaining reader.old) items seen →
             GoesOn span self.new tracker.new before (R.remaining reader.new) items seen next) }
         ensures ahead { IfOk result (GetsAhead self.old self.new (R.remaining reader.old) (R.remaining reader.new)) }
@@ -155,7 +155,7 @@ fn begins(stage: Stage, has_begun: bool) -> bool
 }
 
 /// The step that an item makes, at the stage after the item.
-fn next_of(stage: Stage, seen: Option<Seen>, item: &TraceItem<'_>) -> Next
+fn next_of(stage: Stage, seen: Option<TrackedEvent>, item: &TraceItem<'_>) -> Next
     ensures { result ≡ next_of stage seen (meaning_of item.now) }
 {
     match seen {
@@ -164,7 +164,7 @@ fn next_of(stage: Stage, seen: Option<Seen>, item: &TraceItem<'_>) -> Next
     }
 }
 
-fn event_at(stage: Stage, seen: Seen) -> Next
+fn event_at(stage: Stage, seen: TrackedEvent) -> Next
     ensures { result ≡ event_at stage seen }
 {
     match stage {

@@ -1,13 +1,13 @@
 //! `TimelineTallies`: the tally of each timeline, a fold over the timeline's events (`specs/Timelines.antt`).
 ghost use Rattle.std.specs.Prelude.{◌≡◌, if◌then◌else◌, OnOk, IfErr};
 ghost use Rattle.point_core.specs.declared.refusal.Refusal.TheVariants.{Memory};
-ghost use Rattle.trace_core.specs.declared.sighting.TimelineKey.{TimelineKey};
+ghost use Rattle.trace_core.specs.declared.fence_event.TimelineKey.{TimelineKey};
 ghost use Rattle.trace_core.specs.Keys.{same_timeline};
 ghost use Rattle.trace_core.specs.Tally.{none, tally_after};
 ghost use Rattle.trace_core.specs.Timelines.{tally_at};
 
+use crate::fence_event::TimelineKey;
 use crate::finding::Finding;
-use crate::sighting::TimelineKey;
 use crate::tally::Tally;
 use indexmap::IndexMap;
 use point_core::Refusal;

@@ -10,37 +10,37 @@ ghost use Rattle.trace_core.specs.Waits.{AreOpen, IsWaitOf, Started, started_of,
 
 use crate::delays::Delays;
 use crate::event::Event;
+use crate::fence_event::{FenceEvent, FenceKey, TimelineKey};
 use crate::finding::Finding;
 use crate::item::TraceItem;
-use crate::ledger::{Ledger, Sight};
+use crate::ledger::{Classified, Ledger};
 use crate::life::Life;
 use crate::names::Names;
 use crate::piece::Piece;
 use crate::record::Record;
-use crate::sighting::{FenceKey, Sighting, TimelineKey};
 use crate::summary::Summary;
 use crate::task::TaskName;
 use crate::waits::{Wait, Waits};
 use point_core::Refusal;
 use std::alloc::Global;
 
-/// An event of a fence, as it was taken in.
+/// An event of a fence, with its class.
 #[derive(Clone, Copy)]
-pub struct Seen {
-    pub sighting: Sighting,
-    /// What was known of its key before it.
+pub struct TrackedEvent {
+    pub event: FenceEvent,
+    /// The state of its key before it.
     pub life: Life,
-    /// What it is, by that.
+    /// Its class.
     pub found: Finding,
     /// The wait that it begins, or the wait that it ends, if that began within the text.
     pub wait: Option<Wait>,
 }
 
-/// What a trace says of fences, as far as it was read.
+/// The state of a trace read so far.
 #[derive(Drop)]
 pub struct Tracker {
     pub summary: Summary,
-    /// The names of drivers and of timelines, by the numbers that keys have.
+    /// Interned names; keys hold their numbers.
     pub drivers: Names,
     pub timelines: Names,
     pub ledger: Ledger,
@@ -63,11 +63,11 @@ impl Tracker {
         }
     }
 
-    /// Takes in the next piece of the text. Answers the event, or none if the piece is not the record of one.
+    /// Records the next piece of the text; returns its event, or none if the piece is not the record of one.
     ///
     /// After `Memory` the tracker is not to be used further.
-    pub fn take(&mut self, piece: &Piece<'_>) -> Result<Option<Seen>, Refusal>
-        ensures more { IfOk result (λ seen. (items : List Meaning) → (earlier : List (Seen × Printed)) →
+    pub fn take(&mut self, piece: &Piece<'_>) -> Result<Option<TrackedEvent>, Refusal>
+        ensures more { IfOk result (λ seen. (items : List Meaning) → (earlier : List (TrackedEvent × Printed)) →
             Tracks self.old items earlier → Tracks self.new (meaning_of piece.now.item ∷ items)
             (given seen (meaning_of piece.now.item) ++ earlier)) }
         ensures events { IfOk result (λ seen. is_some seen ≡ is_event (meaning_of piece.now.item)) }
@@ -91,7 +91,7 @@ impl Tracker {
 
     /// Counts the bytes that were dropped from a line that is too long.
     pub fn count_dropped(&mut self, bytes: usize)
-        ensures tracks { (items : List Meaning) → (seen : List (Seen × Printed)) →
+        ensures tracks { (items : List Meaning) → (seen : List (TrackedEvent × Printed)) →
             Tracks self.old items seen → Tracks self.new items seen }
     {
         self.summary.add_bytes(bytes);
@@ -117,18 +117,18 @@ impl Tracker {
         }
     }
 
-    fn see(&mut self, event: &Record<'_>) -> Result<Seen, Refusal>
-        ensures seen { IfOk result (λ seen. (items : List Meaning) → (earlier : List (Seen × Printed)) →
-            Tracks self.old items earlier → Tracks self.new (EventMeaning (printed event.now) ∷ items)
-            ((seen, printed event.now) ∷ earlier)) }
+    fn see(&mut self, raw: &Record<'_>) -> Result<TrackedEvent, Refusal>
+        ensures seen { IfOk result (λ seen. (items : List Meaning) → (earlier : List (TrackedEvent × Printed)) →
+            Tracks self.old items earlier → Tracks self.new (EventMeaning (printed raw.now) ∷ items)
+            ((seen, printed raw.now) ∷ earlier)) }
         ensures memory { IfErr result (λ e. e ≡ Memory) }
     {
-        let sighting = self.sighting(event)?;
-        let Sight { life, found } = self.ledger.see(&sighting)?;
-        let wait = self.time(&sighting, life, event.task)?;
-        self.ledger.forget(&sighting, life);
-        Ok(Seen {
-            sighting,
+        let event = self.fence_event(raw)?;
+        let Classified { life, found } = self.ledger.see(&event)?;
+        let wait = self.time(&event, life, raw.task)?;
+        self.ledger.forget(&event, life);
+        Ok(TrackedEvent {
+            event,
             life,
             found,
             wait,
@@ -136,54 +136,48 @@ impl Tracker {
     }
 
     /// The event, with its names by number.
-    fn sighting(&mut self, event: &Record<'_>) -> Result<Sighting, Refusal>
-        ensures says { IfOk result (λ e. Says self.new.drivers self.new.timelines e (printed event.now)) }
+    fn fence_event(&mut self, raw: &Record<'_>) -> Result<FenceEvent, Refusal>
+        ensures says { IfOk result (λ e. Says self.new.drivers self.new.timelines e (printed raw.now)) }
         ensures drivers { Keeps self.old.drivers self.new.drivers }
         ensures timelines { Keeps self.old.timelines self.new.timelines }
         ensures ledger { self.new.ledger ≡ self.old.ledger }
         ensures waits { self.new.waits ≡ self.old.waits }
         ensures memory { IfErr result (λ e. e ≡ Memory) }
     {
-        let driver = self.drivers.number(event.driver)?;
-        let timeline = self.timelines.number(event.timeline)?;
-        Ok(Sighting {
-            event: event.event,
+        let driver = self.drivers.number(raw.driver)?;
+        let timeline = self.timelines.number(raw.timeline)?;
+        Ok(FenceEvent {
+            kind: raw.event,
             key: FenceKey {
                 driver,
                 timeline,
-                context: event.context,
-                seqno: event.seqno,
+                context: raw.context,
+                seqno: raw.seqno,
             },
-            time: event.time,
-            pid: event.pid,
+            time: raw.time,
+            pid: raw.pid,
         })
     }
 
-    /// Takes in what the event says of waits and of times. `life` is what was known of its key before it. Answers the wait that
-    /// the event begins or ends.
-    fn time(
-        &mut self,
-        sighting: &Sighting,
-        life: Life,
-        task: &[u8],
-    ) -> Result<Option<Wait>, Refusal>
+    /// Updates waits and delays. `life` is the state of the event's key before it. Returns the wait that the event begins or ends.
+    fn time(&mut self, event: &FenceEvent, life: Life, task: &[u8]) -> Result<Option<Wait>, Refusal>
         ensures drivers { self.new.drivers ≡ self.old.drivers }
         ensures timelines { self.new.timelines ≡ self.old.timelines }
         ensures ledger { self.new.ledger ≡ self.old.ledger }
-        ensures wait { IfOk result (λ wait. IfSome wait (IsWaitOf sighting.now)) }
+        ensures wait { IfOk result (λ wait. IfSome wait (IsWaitOf event.now)) }
         ensures begun { IfOk result (λ wait. (waits : List Started) → AreOpen self.old.waits waits →
-            option_map started_of wait ≡ wait_by sighting.now.event sighting.now waits) }
+            option_map started_of wait ≡ wait_by event.now.kind event.now waits) }
         ensures waits { OnOk result ((waits : List Started) → AreOpen self.old.waits waits →
-            AreOpen self.new.waits (waits_after sighting.now.event sighting.now waits)) }
+            AreOpen self.new.waits (waits_after event.now.kind event.now waits)) }
         ensures memory { IfErr result (λ e. e ≡ Memory) }
     {
-        match sighting.event {
-            Event::WaitStart => return Ok(Some(self.waits.start(sighting, TaskName::new(task))?)),
-            Event::WaitEnd => return self.waits.end(sighting, life.is_pending()),
+        match event.kind {
+            Event::WaitStart => return Ok(Some(self.waits.start(event, TaskName::new(task))?)),
+            Event::WaitEnd => return self.waits.end(event, life.is_pending()),
             Event::Signaled => {
                 if life.pending > 0 {
-                    let delay = sighting.time.saturating_sub(life.since);
-                    self.delays.add(sighting.key.timeline_key(), delay)?;
+                    let delay = event.time.saturating_sub(life.since);
+                    self.delays.add(event.key.timeline_key(), delay)?;
                 }
             }
             Event::Init | Event::Emit | Event::EnableSignal | Event::Destroy => {}

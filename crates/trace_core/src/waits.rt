@@ -6,7 +6,7 @@ ghost use Rattle.std.specs.Prelude.{◌≡◌, List, [], ◌∷◌, find, option
 ghost use Rattle.point_core.specs.declared.refusal.Refusal.TheVariants.{Memory};
 ghost use Rattle.trace_core.specs.Waits.{AreOpen, IsWaitOf, Started, is_wait_for, started_by, started_of, wait_key, waiting, without_first};
 
-use crate::sighting::{FenceKey, Sighting, TimelineKey};
+use crate::fence_event::{FenceEvent, FenceKey, TimelineKey};
 use crate::task::TaskName;
 use indexmap::IndexMap;
 use point_core::Refusal;
@@ -72,7 +72,7 @@ pub struct Waits {
 }
 
 impl Waits {
-    /// Nobody waits. Does not allocate.
+    /// No waits. Does not allocate.
     pub fn new(alloc: Global) -> Waits
         ensures { AreOpen result [] }
     {
@@ -128,52 +128,52 @@ impl Waits {
         self.unsignalled
     }
 
-    /// Begins a wait, and answers it, with a length of 0.
+    /// Begins a wait, and returns it, with a length of 0.
     ///
     /// Fails only with `Memory`, and then nothing has begun.
-    pub fn start(&mut self, sighting: &Sighting, task: TaskName) -> Result<Wait, Refusal>
-        ensures begun { IfOk result (IsWaitOf sighting.now) }
-        ensures start { IfOk result (λ wait. wait.start ≡ sighting.now.time) }
+    pub fn start(&mut self, event: &FenceEvent, task: TaskName) -> Result<Wait, Refusal>
+        ensures begun { IfOk result (IsWaitOf event.now) }
+        ensures start { IfOk result (λ wait. wait.start ≡ event.now.time) }
         ensures task { IfOk result (λ wait. wait.task ≡ task) }
         ensures are_open { OnOk result ((waits : List Started) → AreOpen self.old waits →
-            AreOpen self.new (started_by sighting.now ∷ waits)) }
+            AreOpen self.new (started_by event.now ∷ waits)) }
         ensures memory { IfErr result (λ e. e ≡ Memory) }
     {
         let wait = Wait {
-            pid: sighting.pid,
+            pid: event.pid,
             task,
-            key: sighting.key,
-            start: sighting.time,
+            key: event.key,
+            start: event.time,
             length: 0,
         };
-        let key = wait_key(sighting, self.waiting(sighting));
+        let key = wait_key(event, self.waiting(event));
         let Ok(_none) = self.open.insert(key, wait) else {
             return Err(Refusal::Memory);
         };
         Ok(wait)
     }
 
-    /// Ends a wait for a fence; if the fence `is_pending`, the wait counts as unsignalled. Answers the wait, or none if its start was
+    /// Ends a wait for a fence; if the fence `is_pending`, the wait counts as unsignalled. Returns the wait, or none if its start was
     /// not seen: such an end only counts as one without a start.
     ///
     /// Fails only with `Memory`; then the wait has ended, but the sums may lack it.
-    pub fn end(&mut self, sighting: &Sighting, is_pending: bool) -> Result<Option<Wait>, Refusal>
-        ensures ended { IfOk result (λ wait. IfSome wait (IsWaitOf sighting.now)) }
+    pub fn end(&mut self, event: &FenceEvent, is_pending: bool) -> Result<Option<Wait>, Refusal>
+        ensures ended { IfOk result (λ wait. IfSome wait (IsWaitOf event.now)) }
         ensures last { IfOk result (λ wait. (waits : List Started) → AreOpen self.old waits →
-            option_map started_of wait ≡ find (is_wait_for sighting.now.pid sighting.now.key) waits) }
+            option_map started_of wait ≡ find (is_wait_for event.now.pid event.now.key) waits) }
         ensures are_open { OnOk result ((waits : List Started) → AreOpen self.old waits →
-            AreOpen self.new (without_first (is_wait_for sighting.now.pid sighting.now.key) waits)) }
+            AreOpen self.new (without_first (is_wait_for event.now.pid event.now.key) waits)) }
         ensures memory { IfErr result (λ e. e ≡ Memory) }
     {
-        let last = wait_key(sighting, self.waiting(sighting).saturating_sub(1));
+        let last = wait_key(event, self.waiting(event).saturating_sub(1));
         let Some(started) = self.open.shift_remove(&last) else {
             self.without_start = self.without_start.saturating_add(1);
             return Ok(None);
         };
         let wait = Wait {
-            pid: sighting.pid,
-            key: sighting.key,
-            length: sighting.time.saturating_sub(started.start),
+            pid: event.pid,
+            key: event.key,
+            length: event.time.saturating_sub(started.start),
             ..started
         };
         self.count(wait, is_pending)?;
@@ -208,13 +208,13 @@ impl Waits {
     }
 
     /// How many waits of the event's thread for its fence are open.
-    fn waiting(&self, sighting: &Sighting) -> usize
+    fn waiting(&self, event: &FenceEvent) -> usize
         ensures count { (waits : List Started) → AreOpen self.now waits →
-            result ≡ waiting sighting.now.pid sighting.now.key waits }
+            result ≡ waiting event.now.pid event.now.key waits }
     {
         let len = self.open.len();
         for nth in 0..len {
-            if !self.open.contains_key(&wait_key(sighting, nth)) {
+            if !self.open.contains_key(&wait_key(event, nth)) {
                 return nth;
             }
         }
@@ -247,12 +247,12 @@ impl Waits {
     }
 }
 
-fn wait_key(sighting: &Sighting, nth: usize) -> WaitKey
-    ensures { result ≡ wait_key sighting.now.pid sighting.now.key nth }
+fn wait_key(event: &FenceEvent, nth: usize) -> WaitKey
+    ensures { result ≡ wait_key event.now.pid event.now.key nth }
 {
     WaitKey {
-        pid: sighting.pid,
-        key: sighting.key,
+        pid: event.pid,
+        key: event.key,
         nth,
     }
 }

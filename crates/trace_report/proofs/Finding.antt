@@ -16,14 +16,13 @@ use Rattle.trace_core.specs.declared.life.Life.{Life}
 use Rattle.trace_core.specs.declared.pending.Pending.{Pending}
 use Rattle.trace_core.specs.declared.pending.PendingKind.{PendingKind}
 use Rattle.trace_core.specs.declared.pending.PendingKind.TheVariants.{Hang, Unknown, Unnumbered}
-use Rattle.trace_core.specs.declared.sighting.FenceKey.{FenceKey}
+use Rattle.trace_core.specs.declared.fence_event.FenceKey.{FenceKey}
 use Rattle.trace_core.specs.History.{Step, IsLedgerOf, is_sure, is_unnumbered}
 use Rattle.trace_core.specs.Keys.{same_key}
 use Rattle.trace_core.specs.Life.{is_pending, unborn}
 use Rattle.trace_core.specs.Pending.{is_pending_in, pending_among, pending_at}
 use Rattle.trace_core.proofs.Same.{same_key-decides, same_key-is, same_key-laws}
-use Rattle.trace_report.specs.declared.found.Listed.{Listed}
-use Rattle.trace_report.specs.Found.{AreHangs, AreListed, AreUnknown, hanging, hangs_by, is_hang, is_reported, is_unknown, key_of, listed_key, may_be_signalled, not_known, unknown_by}
+use Rattle.trace_report.specs.Found.{AreHangs, AreListed, AreUnknown, hanging, hangs_by, is_hang, is_reported, is_unknown, key_of, may_be_signalled, not_known, unknown_by}
 
 pub hanging-is : (fence : Pending) (kind : PendingKind) → fence.kind ≡ kind → hanging fence ≡ cond (hangs_by kind) (fence ∷ []) []
 hanging-is fence kind is = ap (λ k. cond (hangs_by k) (fence ∷ []) []) is
@@ -94,26 +93,26 @@ distinct-kept : (test : FenceKey → Bool) (keys : List FenceKey) → IsDistinct
 distinct-kept test keys once =
     IsDistinct-from_AllPairs same_key-decides (filter test keys) (AllPairs-filter (λ x y. x ≢ y) test keys (AllPairs-from_IsDistinct same_key-decides keys once))
 
-are-listed : (test : FenceKey → Bool) (keys : List FenceKey) (found : List Listed) → ((key : FenceKey) → test key ≡ true → Contains keys key) → IsDistinct same_key keys → IsPermutation (filter test keys) (map listed_key found) → AreListed test found
+are-listed : (test : FenceKey → Bool) (keys : List FenceKey) (found : List Pending) → ((key : FenceKey) → test key ≡ true → Contains keys key) → IsDistinct same_key keys → IsPermutation (filter test keys) (map key_of found) → AreListed test found
 are-listed test keys found all once same =
     let kept = filter test keys in
     record {
       are = λ key. (
-        λ there. All-contains (λ k. test k ≡ true) kept key (filter_passes test keys) (Contains-permutation (map listed_key found) kept key (IsPermutation-sym kept (map listed_key found) same) there),
-        λ passes. Contains-permutation kept (map listed_key found) key same (contains-kept test keys key (all key passes) passes),
+        λ there. All-contains (λ k. test k ≡ true) kept key (filter_passes test keys) (Contains-permutation (map key_of found) kept key (IsPermutation-sym kept (map key_of found) same) there),
+        λ passes. Contains-permutation kept (map key_of found) key same (contains-kept test keys key (all key passes) passes),
       );
-      once = IsDistinct-IsPermutation same_key same_key-laws.symm kept (map listed_key found) same (distinct-kept test keys once);
+      once = IsDistinct-IsPermutation same_key same_key-laws.symm kept (map key_of found) same (distinct-kept test keys once);
     }
 
 -- both tests begin with the key being pending
 pending-first : (pending sure numbered : Bool) → ((pending && sure) && numbered) ≡ true → pending ≡ true
 pending-first pending sure numbered is = (and_parts pending sure (and_parts (pending && sure) numbered is).0).0
 
-module _ (ledger : Ledger) (steps : List Step) (found : List Listed) (h : IsLedgerOf ledger steps) (once : IsDistinct same_key (keys_of ledger.lives.by_key.entries)) where
-  pub are-hangs : IsPermutation (filter (is_reported steps) (keys_of ledger.lives.by_key.entries)) (map listed_key found) → AreHangs steps found
+module _ (ledger : Ledger) (steps : List Step) (found : List Pending) (h : IsLedgerOf ledger steps) (once : IsDistinct same_key (keys_of ledger.lives.by_key.entries)) where
+  pub are-hangs : IsPermutation (filter (is_reported steps) (keys_of ledger.lives.by_key.entries)) (map key_of found) → AreHangs steps found
   are-hangs same =
       are-listed (is_reported steps) (keys_of ledger.lives.by_key.entries) found (λ key is. is-alive ledger steps h key (pending-first (is_pending_in steps key) (is_sure steps key) (not (is_unnumbered steps key)) is)) once same
 
-  pub are-unknown : IsPermutation (filter (may_be_signalled steps) (keys_of ledger.lives.by_key.entries)) (map listed_key found) → AreUnknown steps found
+  pub are-unknown : IsPermutation (filter (may_be_signalled steps) (keys_of ledger.lives.by_key.entries)) (map key_of found) → AreUnknown steps found
   are-unknown same =
       are-listed (may_be_signalled steps) (keys_of ledger.lives.by_key.entries) found (λ key is. is-alive ledger steps h key (pending-first (is_pending_in steps key) (not (is_sure steps key)) (not (is_unnumbered steps key)) is)) once same

@@ -1,6 +1,3 @@
-mod Writing
 mod Finding
-mod Growing
-mod Showing
-mod Ordering
 mod Reported
+mod Writing

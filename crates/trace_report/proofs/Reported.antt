@@ -1,16 +1,16 @@
 -- What a whole trace shows.
-use Rattle.std.proofs.Common.{◌≡◌, ◌∙◌, ℕ, true, false, ◌&&◌, List, [], ◌∷◌, Option, Result, Ok, Err, IfOk, refl, sym, ap, arith}
+use Rattle.std.proofs.Common.{◌≡◌, ◌∙◌, ℕ, true, false, ◌&&◌, List, [], ◌∷◌, Option, Result, Ok, Err, IfErr, IfOk, refl, sym, ap, arith}
 use Rattle.std.specs.Prelude.{◌==◌}
 use Rattle.std.proofs.lemmas.Bool.{and_parts, eqb-true, false≢true}
-use Rattle.trace_core.specs.declared.sighting.FenceKey.{FenceKey}
+use Rattle.trace_core.specs.declared.fence_event.FenceKey.{FenceKey}
+use Rattle.trace_core.specs.declared.pending.Pending.{Pending}
 use Rattle.trace_core.specs.declared.tally.Tally.{Tally}
 use Rattle.trace_core.specs.declared.tracker.Tracker.{Tracker}
 use Rattle.trace_core.specs.History.{Step, every, events_in, tally_in}
 use Rattle.trace_core.specs.Reading.{HasTakenIn}
-use Rattle.trace_report.specs.declared.found.Listed.{Listed}
 use Rattle.trace_report.specs.declared.report.TraceOutcome.{TraceOutcome}
 use Rattle.trace_report.specs.declared.report.TraceOutcome.TheVariants.{Sound, Broken, NoEvents}
-use Rattle.trace_report.specs.Found.{AreHangs, is_reported, listed_key}
+use Rattle.trace_report.specs.Found.{AreHangs, is_reported, key_of}
 use Rattle.trace_report.specs.Report.{IsSound, IsVerdict, ReportsTrace, Shows, is_sound, whole}
 
 module _ (steps : List Step) where
@@ -18,7 +18,7 @@ module _ (steps : List Step) where
   none-listed key hangs reported = let there = (hangs.are key).1 reported in omega (arith, there.1)
 
   -- no fence is listed, and no rule is counted as broken
-  pub sound : (fences : List Listed) (total : Tally) → AreHangs steps fences → total ≡ tally_in every steps → is_sound fences total ≡ true → IsSound steps
+  pub sound : (fences : List Pending) (total : Tally) → AreHangs steps fences → total ≡ tally_in every steps → is_sound fences total ≡ true → IsSound steps
   sound [] total hangs counted is =
       let parts = and_parts (total.overtaken == 0) (total.signalled_twice == 0) is in
       record {
@@ -29,13 +29,13 @@ module _ (steps : List Step) where
   sound (fence ∷ fences) total hangs counted is = absurd (false≢true is)
 
   -- a fence is listed, or a rule is counted as broken
-  pub broken : (fences : List Listed) (total : Tally) → AreHangs steps fences → total ≡ tally_in every steps → is_sound fences total ≡ false → IsSound steps → ⊥
+  pub broken : (fences : List Pending) (total : Tally) → AreHangs steps fences → total ≡ tally_in every steps → is_sound fences total ≡ false → IsSound steps → ⊥
   broken [] total hangs counted is fine =
       let overtaken = ap (λ n. n == 0) (ap (λ (t : Tally). t.overtaken) counted ∙ fine.overtaken) in
       let twice = ap (λ n. n == 0) (ap (λ (t : Tally). t.signalled_twice) counted ∙ fine.twice) in
       false≢true (sym is ∙ ap (λ b. b && total.signalled_twice == 0) overtaken ∙ twice)
   broken (fence ∷ fences) total hangs counted is fine =
-      fine.none (listed_key fence) ((hangs.are (listed_key fence)).0 (0, omega arith, refl))
+      fine.none (key_of fence) ((hangs.are (key_of fence)).0 (0, omega arith, refl))
 
 -- the trace was read, and these are its steps
 module _ (t : Tracker) (text rest before after : Option (List ℕ)) (h : HasTakenIn whole t text rest) where
@@ -60,3 +60,7 @@ module _ (t : Tracker) (text rest before after : Option (List ℕ)) (h : HasTake
 pub ok-then : {T E : Type 0} {P Q : T → Type 0} (r : Result T E) → IfOk r P → ((v : T) → P v → Q v) → IfOk r Q
 ok-then (Ok v) h on = on v h
 ok-then (Err e) h on = tt
+
+pub err-then : {T E : Type 0} {P Q : E → Type 0} (r : Result T E) → IfErr r P → ((e : E) → P e → Q e) → IfErr r Q
+err-then (Ok v) h on = tt
+err-then (Err e) h on = on e h

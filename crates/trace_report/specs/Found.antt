@@ -4,17 +4,13 @@ use Rattle.std.specs.List.{IsDistinct}
 use Rattle.trace_core.specs.declared.pending.Pending.{Pending}
 use Rattle.trace_core.specs.declared.pending.PendingKind.{PendingKind}
 use Rattle.trace_core.specs.declared.pending.PendingKind.TheVariants.{Hang, Unknown, Unnumbered}
-use Rattle.trace_core.specs.declared.sighting.FenceKey.{FenceKey}
+use Rattle.trace_core.specs.declared.fence_event.FenceKey.{FenceKey}
 use Rattle.trace_core.specs.History.{Step, hangs, is_sure, is_unnumbered}
 use Rattle.trace_core.specs.Keys.{same_key}
 use Rattle.trace_core.specs.Pending.{is_pending_in}
-use Rattle.trace_report.specs.declared.found.Listed.{Listed}
 
 abbrev pub key_of : Pending → FenceKey
 key_of p = p.key
-
-abbrev pub listed_key : Listed → FenceKey
-listed_key l = l.fence.key
 
 abbrev pub hangs_by : PendingKind → Bool
 hangs_by Hang = true
@@ -49,12 +45,12 @@ abbrev pub may_be_signalled : List Step → FenceKey → Bool
 may_be_signalled steps key = (is_pending_in steps key && not (is_sure steps key)) && not (is_unnumbered steps key)
 
 -- The fences that are listed are exactly those of the keys that pass the test, each once.
-pub record AreListed (test : FenceKey → Bool) (found : List Listed) : Type 0 where
-  pub are : (key : FenceKey) → Contains (map listed_key found) key ↔ (test key ≡ true)
-  pub once : IsDistinct same_key (map listed_key found)
+pub record AreListed (test : FenceKey → Bool) (found : List Pending) : Type 0 where
+  pub are : (key : FenceKey) → Contains (map key_of found) key ↔ (test key ≡ true)
+  pub once : IsDistinct same_key (map key_of found)
 
-abbrev pub AreHangs : List Step → List Listed → Type 0
+abbrev pub AreHangs : List Step → List Pending → Type 0
 AreHangs steps found = AreListed (is_reported steps) found
 
-abbrev pub AreUnknown : List Step → List Listed → Type 0
+abbrev pub AreUnknown : List Step → List Pending → Type 0
 AreUnknown steps found = AreListed (may_be_signalled steps) found

@@ -1,10 +1,3 @@
-pub mod Block
-pub mod Found
-pub mod Document
-pub mod EventPart
-pub mod TraceEvent
-pub mod Slices
-pub mod Rows
-pub mod EventPage
 pub mod Events
+pub mod Found
 pub mod Report

@@ -3,14 +3,14 @@ use Rattle.std.specs.Prelude.{◌≡◌, ◌==◌, ◌&&◌, ◌^◌, ◌-◌, �
 use Rattle.trace_core.specs.Item.{Meaning}
 use Rattle.trace_core.specs.Record.{Printed}
 use Rattle.trace_core.specs.declared.names.Names.{Names}
-use Rattle.trace_core.specs.declared.sighting.FenceKey.{FenceKey}
+use Rattle.trace_core.specs.declared.pending.Pending.{Pending}
+use Rattle.trace_core.specs.declared.fence_event.FenceKey.{FenceKey}
 use Rattle.trace_core.specs.declared.tally.Tally.{Tally}
-use Rattle.trace_core.specs.declared.tracker.Seen.{Seen}
+use Rattle.trace_core.specs.declared.tracker.TrackedEvent.{TrackedEvent}
 use Rattle.trace_core.specs.declared.window.Span.{Span}
 use Rattle.trace_core.specs.History.{Forgets, Step, every, events_in, tally_in}
 use Rattle.trace_core.specs.Reading.{HasReadWindow}
 use Rattle.trace_core.specs.Tracker.{Saw}
-use Rattle.trace_report.specs.declared.found.Listed.{Listed}
 use Rattle.trace_report.specs.declared.report.TraceOutcome.{TraceOutcome}
 use Rattle.trace_report.specs.declared.report.TraceOutcome.TheVariants.{Sound, Broken, NoEvents}
 use Rattle.trace_report.specs.Found.{is_reported}
@@ -25,12 +25,12 @@ pub record IsSound (steps : List Step) : Type 0 where
   pub overtaken : (tally_in every steps).overtaken ≡ 0
   pub twice : (tally_in every steps).signalled_twice ≡ 0
 
-abbrev pub are_none : List Listed → Bool
+abbrev pub are_none : List Pending → Bool
 are_none [] = true
 are_none (fence ∷ fences) = false
 
 -- the same, by the fences that are listed as hanging and by the counts
-abbrev pub is_sound : List Listed → Tally → Bool
+abbrev pub is_sound : List Pending → Tally → Bool
 is_sound fences total = (are_none fences && total.overtaken == 0) && total.signalled_twice == 0
 
 abbrev pub IsVerdict : List Step → TraceOutcome → Type 0
@@ -47,7 +47,7 @@ Shows steps before after Broken = (events_in steps ≡ 0 → ⊥) × (IsSound st
 -- The trace was read to its end, and shows this. The newest items, events and steps come first.
 pub record ReportsTrace (text rest before after : Option (List ℕ)) (outcome : TraceOutcome) : Type 0 where
   pub items : List Meaning
-  pub seen : List (Seen × Printed)
+  pub seen : List (TrackedEvent × Printed)
   pub drivers : Names
   pub timelines : Names
   pub steps : List Step

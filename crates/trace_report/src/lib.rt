@@ -5,13 +5,12 @@
 //! [`Tracker`](trace_core::Tracker) knows what the events mean; this crate only chooses and writes. `fencectl trace` calls it.
 #![tactic(auto)]
 
+mod by_timeline;
+mod content;
 mod document;
 mod events;
 mod found;
-pub mod laws;
-mod reading;
 mod report;
-mod table;
 mod text;
 
 pub use events::{Written, events_of_trace};

@@ -1,25 +1,28 @@
 //! A report of a trace: reads it to its end, and writes it as text or as JSON. `ReportsTrace` says which outcome a trace has.
 //! `fencectl trace` calls `report_trace`.
-ghost use Rattle.std.specs.Prelude.{◌≡◌, ◌⊎◌, [], List, IfOk, IfErr, OnOk};
+ghost use Rattle.std.specs.Prelude.{◌≡◌, ◌⊎◌, [], List, IfOk, IfErr};
 ghost use Rattle.point_core.specs.declared.refusal.Refusal.TheVariants.{Read as ReadFault, Write as WriteFault, Memory};
 ghost use Rattle.trace_core.specs.History.{Step, IsLedgerOf};
 ghost use Rattle.trace_core.specs.Tracker.{Tracks};
-ghost use Rattle.trace_report.specs.declared.report.ReportForm.TheVariants.{Json};
-ghost use Rattle.trace_report.specs.declared.report.TraceOutcome.TheVariants.{NoEvents};
-ghost use Rattle.trace_report.specs.Document.{IsDocument, WritesDocument};
 ghost use Rattle.trace_report.specs.Found.{AreHangs};
 ghost use Rattle.trace_report.specs.Report.{IsVerdict, ReportsTrace, is_sound};
 
+use crate::by_timeline::ByTimeline;
+use crate::content::Content;
 use crate::document::document_of;
-use crate::found::{Listed, PendingFences};
-use crate::reading::read_trace;
-use crate::table::{Content, PendingCounts};
+use crate::found::PendingFences;
 use crate::text::text_of;
 use point_core::Refusal;
 use report_core::write_whole;
 use std::alloc::Global;
 use std::io::{Read, Write};
-use trace_core::{Tally, Tracker};
+use trace_core::{Next, Pending, Span, StepHandler, Tally, Tracker, for_each_step};
+
+/// All of a trace's time.
+const ALL: Span = Span {
+    from: 0,
+    to: u64::MAX,
+};
 
 /// How a report is written.
 #[derive(Clone, Copy)]
@@ -39,6 +42,21 @@ pub enum TraceOutcome {
     NoEvents,
 }
 
+/// A report handles no step, since the tracker has all that it reports.
+#[derive(Clone, Copy)]
+struct NoHandler;
+
+impl StepHandler<()> for NoHandler {
+    ghost use Rattle.std.specs.Prelude.{◌≡◌};
+    ghost use Rattle.point_core.specs.declared.refusal.Refusal.TheVariants.{Memory};
+
+    ghost refuses = { λ e. e ≡ Memory };
+
+    fn handle(&mut self, _tracker: &Tracker, _next: Next, _output: &mut ()) -> Result<(), Refusal> {
+        Ok(())
+    }
+}
+
 /// Reads a trace to its end, and writes the report.
 ///
 /// Fails with `Read` or `Write` if the reader or the writer fails, and with `Memory`. After `Write` a prefix of the report may have
@@ -52,8 +70,6 @@ pub fn report_trace<R: Read, W: Write>(
     // The verdict follows from the events of the text, and nothing is written of a text without one.
     ensures reported { IfOk result (ReportsTrace (R.remaining reader.old) (R.remaining reader.new)
         (W.contents writer.old) (W.contents writer.new)) }
-    ensures document { IfOk result (λ outcome. form ≡ Json → (outcome ≡ NoEvents → ⊥) →
-        WritesDocument (W.contents writer.old) (W.contents writer.new)) }
     ensures refusals { IfErr result (λ e. (e ≡ ReadFault) ⊎ (e ≡ WriteFault) ⊎ (e ≡ Memory)) }
 {
     let mut tracker = Tracker::new(alloc);
@@ -72,11 +88,9 @@ fn read_and_report<R: Read, W: Write>(
     requires fresh { Tracks tracker.old [] [] }
     ensures reported { IfOk result (ReportsTrace (R.remaining reader.old) (R.remaining reader.new)
         (W.contents writer.old) (W.contents writer.new)) }
-    ensures document { IfOk result (λ outcome. form ≡ Json → (outcome ≡ NoEvents → ⊥) →
-        WritesDocument (W.contents writer.old) (W.contents writer.new)) }
     ensures refusals { IfErr result (λ e. (e ≡ ReadFault) ⊎ (e ≡ WriteFault) ⊎ (e ≡ Memory)) }
 {
-    read_trace(tracker, reader)?;
+    for_each_step(ALL, tracker, reader, &mut NoHandler, &mut ())?;
     if tracker.ledger.events() == 0 {
         return Ok(TraceOutcome::NoEvents);
     }
@@ -93,7 +107,6 @@ fn write_report<W: Write>(
     found: &PendingFences,
     writer: &mut W,
 ) -> Result<TraceOutcome, Refusal>
-    ensures document { OnOk result (form ≡ Json → WritesDocument (W.contents writer.old) (W.contents writer.new)) }
     ensures verdict { IfOk result (λ outcome. (steps : List Step) → IsLedgerOf tracker.now.ledger steps →
         AreHangs steps found.now.hangs.items → IsVerdict steps outcome) }
     ensures refusals { IfErr result (λ e. (e ≡ WriteFault) ⊎ (e ≡ Memory)) }
@@ -111,28 +124,21 @@ fn report_of(
     tracker: &Tracker,
     found: &PendingFences,
 ) -> Result<Vec<u8>, Refusal>
-    ensures document { IfOk result (λ bytes. form ≡ Json → IsDocument bytes.items) }
     ensures memory { IfErr result (λ e. e ≡ Memory) }
 {
-    let timelines = PendingCounts::new(alloc, found)?;
+    let hangs = ByTimeline::of(alloc, found.hangs.as_slice())?;
+    let unknown = ByTimeline::of(alloc, found.unknown.as_slice())?;
     let content = Content {
         tracker,
         found,
-        timelines: &timelines,
+        hangs: &hangs,
+        unknown: &unknown,
     };
-    let bytes = bytes_of(alloc, form, content);
-    drop(timelines);
-    bytes
-}
-
-fn bytes_of(alloc: Global, form: ReportForm, content: Content<'_>) -> Result<Vec<u8>, Refusal>
-    ensures document { IfOk result (λ bytes. form ≡ Json → IsDocument bytes.items) }
-    ensures memory { IfErr result (λ e. e ≡ Memory) }
-{
-    match form {
-        ReportForm::Text => text_of(alloc, content),
-        ReportForm::Json => document_of(alloc, content),
-    }
+    let bytes = match form {
+        ReportForm::Text => text_of(alloc, content)?,
+        ReportForm::Json => document_of(alloc, content)?,
+    };
+    Ok(bytes)
 }
 
 /// The verdict on a trace that has events.
@@ -149,7 +155,7 @@ fn outcome_of(tracker: &Tracker, found: &PendingFences) -> TraceOutcome
 }
 
 /// Whether nothing hangs, and no rule is broken.
-fn is_sound(hangs: &[Listed], total: &Tally) -> bool
+fn is_sound(hangs: &[Pending], total: &Tally) -> bool
     ensures { result ≡ is_sound hangs.now total.now }
 {
     hangs.is_empty() && total.overtaken == 0 && total.signalled_twice == 0

@@ -1,32 +1,24 @@
-//! The report as text, for a terminal. Its bytes are tested (`tests/traces`), not proved. `report` calls `text_of`.
+//! The report as text, for a terminal. Its bytes are tested (`tests/traces`). `report` calls `text_of`.
 
-ghost use Rattle.std.specs.Prelude.{◌≡◌, IfErr};
-ghost use Rattle.point_core.specs.declared.refusal.Refusal.TheVariants.{Memory};
-
-use crate::found::Listed;
-use crate::table::Content;
-use point_core::Refusal;
-use std::alloc::Global;
+use crate::by_timeline::ByTimeline;
+use crate::content::Content;
+use std::alloc::{AllocError, Global};
 use text_core::{Page, Part};
 use trace_core::{FenceKey, Pending, Summary, Tally, TimelineKey, Tracker, Wait};
 
 /// The counts of what was read, the fences that hang, the waits, the broken rules, and what each timeline did.
-pub(crate) fn text_of(alloc: Global, content: Content<'_>) -> Result<Vec<u8>, Refusal>
-    ensures memory { IfErr result (λ e. e ≡ Memory) }
-{
+pub(crate) fn text_of(alloc: Global, content: Content<'_>) -> Result<Vec<u8>, AllocError> {
     let mut page = Page::new(alloc);
     add_parts(&mut page, content);
-    let text = page.finish()?;
-    Ok(text)
+    page.finish()
 }
 
 fn add_parts(page: &mut Page, content: Content<'_>) {
     let tracker = content.tracker;
-    let found = content.found;
     add_read(page, tracker);
     add_losses(page, &tracker.summary);
-    add_hangs(page, tracker, found.hangs.as_slice());
-    add_unknown(page, tracker, found.unknown.as_slice());
+    add_hangs(page, content);
+    add_unknown(page, content);
     add_waits(page, tracker);
     add_broken(page, &tracker.ledger.total());
     add_timelines(page, content);
@@ -101,7 +93,8 @@ fn add_count(page: &mut Page, text: &'static str, count: u64) {
 }
 
 /// The fences that hang, and which of several is the first.
-fn add_hangs(page: &mut Page, tracker: &Tracker, hangs: &[Listed]) {
+fn add_hangs(page: &mut Page, content: Content<'_>) {
+    let hangs = content.found.hangs.as_slice();
     let Some(first) = hangs.first() else {
         page.add("\nwhat hangs: nothing\n", &[]);
         return;
@@ -110,10 +103,10 @@ fn add_hangs(page: &mut Page, tracker: &Tracker, hangs: &[Listed]) {
         "\nwhat hangs: # made or emitted, and never signalled\n",
         &[Part::Number(hangs.len() as u64)],
     );
-    add_each(page, tracker, hangs);
+    add_pending(page, content.tracker, content.hangs);
     if hangs.len() > 1 {
         page.add("  The first is ", &[]);
-        add_fence(page, tracker, &first.fence.key);
+        add_fence(page, content.tracker, &first.key);
         page.add(
             "; the others were made after it, and may wait for it.\n",
             &[],
@@ -121,24 +114,31 @@ fn add_hangs(page: &mut Page, tracker: &Tracker, hangs: &[Listed]) {
     }
 }
 
-fn add_unknown(page: &mut Page, tracker: &Tracker, unknown: &[Listed]) {
+fn add_unknown(page: &mut Page, content: Content<'_>) {
     add_count(
         page,
         "\nnot known: # made or emitted before events were lost; their signals may be among those\n",
-        unknown.len() as u64,
+        content.found.unknown.len() as u64,
     );
-    add_each(page, tracker, unknown);
+    add_pending(page, content.tracker, content.unknown);
+}
+
+/// The fences of each timeline.
+fn add_pending(page: &mut Page, tracker: &Tracker, pending: &ByTimeline) {
+    for (_, fences) in pending.fences().iter() {
+        add_each(page, tracker, fences.as_slice());
+    }
 }
 
 /// The fences, each with the tasks that wait for it.
-fn add_each(page: &mut Page, tracker: &Tracker, pending: &[Listed]) {
-    for listed in pending {
-        add_pending(page, tracker, &listed.fence);
+fn add_each(page: &mut Page, tracker: &Tracker, fences: &[Pending]) {
+    for fence in fences {
+        add_one(page, tracker, fence);
     }
 }
 
 /// A fence, and a line for each task that waits for it.
-fn add_pending(page: &mut Page, tracker: &Tracker, fence: &Pending) {
+fn add_one(page: &mut Page, tracker: &Tracker, fence: &Pending) {
     let length = tracker.latest().saturating_sub(fence.since);
     page.add("  ", &[]);
     add_fence(page, tracker, &fence.key);
@@ -253,30 +253,19 @@ fn add_broken(page: &mut Page, total: &Tally) {
 }
 
 fn add_timelines(page: &mut Page, content: Content<'_>) {
-    let Content {
-        tracker,
-        found: _,
-        timelines,
-    } = content;
     page.add(
         "\ntimelines, with the seconds from making or emitting to signalling:\n",
         &[],
     );
-    for (key, tally) in tracker.ledger.timelines().by_key().iter() {
-        add_timeline(page, tracker, key, tally, timelines.pending(key));
+    for (key, tally) in content.tracker.ledger.timelines().by_key().iter() {
+        add_timeline(page, content, key, tally);
     }
 }
 
 /// What a timeline did, and the seconds from making or emitting to signalling.
-fn add_timeline(
-    page: &mut Page,
-    tracker: &Tracker,
-    key: &TimelineKey,
-    tally: &Tally,
-    pending: u64,
-) {
-    let (driver, timeline) = tracker.names(key);
-    let delay = tracker.delays.delay(key);
+fn add_timeline(page: &mut Page, content: Content<'_>, key: &TimelineKey, tally: &Tally) {
+    let (driver, timeline) = content.tracker.names(key);
+    let delay = content.tracker.delays.delay(key);
     page.add(
         "  #/#: # contexts, # made, # signalled, # pending; median #, 95 % #, longest #\n",
         &[
@@ -285,7 +274,7 @@ fn add_timeline(
             Part::Number(tally.contexts),
             Part::Number(tally.events.init),
             Part::Number(tally.events.signaled),
-            Part::Number(pending),
+            Part::Number(content.pending(key)),
             Part::Seconds(delay.median),
             Part::Seconds(delay.percentile_95),
             Part::Seconds(delay.longest),

@@ -1,6 +1,6 @@
 -- The timelines of a script, by their places.
 use Rattle.std.specs.Prelude.{ℕ, List, Option, option_map, slice_get}
-use Rattle.trace_core.specs.declared.sighting.TimelineKey.{TimelineKey}
+use Rattle.trace_core.specs.declared.fence_event.TimelineKey.{TimelineKey}
 use Rattle.trace_script.specs.declared.safe_names.SafeNames.{SafeNames}
 
 -- the timeline of the trace, and its name in the script

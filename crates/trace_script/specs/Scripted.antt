@@ -3,7 +3,7 @@ use Rattle.std.specs.Prelude.{◌≡◌, ◌≤◌, ℕ, ⊤, List, [], length, 
 use Rattle.line_core.specs.declared.script.TheConstants.{SCRIPT_BYTES}
 use Rattle.trace_core.specs.Item.{Meaning}
 use Rattle.trace_core.specs.Record.{Printed}
-use Rattle.trace_core.specs.declared.tracker.Seen.{Seen}
+use Rattle.trace_core.specs.declared.tracker.TrackedEvent.{TrackedEvent}
 use Rattle.trace_core.specs.declared.window.Span.{Span}
 use Rattle.trace_core.specs.Reading.{HasReadWindow}
 use Rattle.trace_core.specs.Tracker.{records_in}
@@ -22,7 +22,7 @@ IsWritten NoEvents = ⊥
 IsWritten TooLong = ⊤
 
 -- there are no events exactly if none comes up to the end of the window
-abbrev pub IsScripted : List (Seen × Printed) → Scripted → Type 0
+abbrev pub IsScripted : List (TrackedEvent × Printed) → Scripted → Type 0
 IsScripted seen (Script text) = (seen ≡ [] → ⊥) × IsScript text.items
 IsScripted seen NoEvents = seen ≡ []
 IsScripted seen TooLong = seen ≡ [] → ⊥
@@ -30,7 +30,7 @@ IsScripted seen TooLong = seen ≡ [] → ⊥
 -- The trace was read up to the end of the window, and this is given of it. The newest items and events come first.
 pub record ScriptsTrace (span : Span) (text rest : Option (List ℕ)) (scripted : Scripted) : Type 0 where
   pub items : List Meaning
-  pub seen : List (Seen × Printed)
+  pub seen : List (TrackedEvent × Printed)
   pub window : HasReadWindow span text rest items seen
   pub records : records_in items ≡ map (λ s. s.1) seen
   pub is : IsScripted seen scripted

@@ -1,5 +1,5 @@
 //! `Acts`: what happened in a window, act by act, before points are known. A fence's point depends on how many fences of its
-//! timeline are signalled before it, so the lines are written only when the window is over.
+//! timeline are signalled before it, so the lines are written only when the window is over. `Acts` handles the steps of a reading.
 //!
 //! Only memory can be refused, so the error is `AllocError` where no list of the tracker is asked for.
 ghost use Rattle.std.specs.Prelude.{◌≡◌, IfErr, nat_lt, vec_len};
@@ -12,7 +12,10 @@ use indexmap::IndexMap;
 use line_core::SCRIPT_BYTES;
 use point_core::Refusal;
 use std::alloc::{AllocError, Global};
-use trace_core::{FenceKey, Ledger, Life, TaskName, Tracker, Wait, pending_of};
+use trace_core::{
+    Event, FenceKey, Ledger, Life, Next, StepHandler, TaskName, TrackedEvent, Tracker, Wait,
+    pending_of,
+};
 
 /// The bytes of the shortest line of a script that acts.
 const SHORTEST_LINE: usize = 8;
@@ -67,6 +70,7 @@ impl TraceAct {
 /// What happened in a window.
 #[derive(Drop)]
 pub(crate) struct Acts {
+    alloc: Global,
     pub(crate) names: SafeNames,
     pub(crate) fences: Vec<ScriptFence>,
     pub(crate) acts: Vec<TraceAct>,
@@ -76,10 +80,27 @@ pub(crate) struct Acts {
     signalled: Vec<u64>,
 }
 
+impl StepHandler<()> for Acts {
+    ghost use Rattle.std.specs.Prelude.{◌≡◌};
+    ghost use Rattle.point_core.specs.declared.refusal.Refusal.TheVariants.{Memory};
+
+    ghost refuses = { λ e. e ≡ Memory };
+
+    fn handle(&mut self, tracker: &Tracker, next: Next, _output: &mut ()) -> Result<(), Refusal> {
+        match next {
+            Next::Begin => self.begin(tracker)?,
+            Next::Within(seen) => self.see(tracker, &seen)?,
+            Next::Before(_) | Next::Lost(_) | Next::StartedLate | Next::Other | Next::End => {}
+        }
+        Ok(())
+    }
+}
+
 impl Acts {
     /// Nothing happened. Does not allocate.
     pub(crate) fn new(alloc: Global) -> Acts {
         Acts {
+            alloc,
             names: SafeNames::new(alloc),
             fences: Vec::new(alloc),
             acts: Vec::new(alloc),
@@ -96,28 +117,32 @@ impl Acts {
     }
 
     /// Begins with the fences that are pending, in the order of their making.
-    pub(crate) fn begin(&mut self, alloc: Global, tracker: &Tracker) -> Result<(), Refusal>
+    fn begin(&mut self, tracker: &Tracker) -> Result<(), Refusal>
         ensures memory { IfErr result (λ e. e ≡ Memory) }
     {
-        let mut earlier = pending_of(alloc, &tracker.ledger)?;
+        let mut earlier = pending_of(self.alloc, &tracker.ledger)?;
         earlier.sort()?;
         for fence in earlier.as_slice() {
-            self.make(alloc, tracker, fence.key)?;
+            self.make(tracker, fence.key)?;
         }
         Ok(())
     }
 
-    /// Takes in `life`, the key's state after one of its events.
-    pub(crate) fn see(
-        &mut self,
-        alloc: Global,
-        tracker: &Tracker,
-        key: FenceKey,
-        life: Life,
-    ) -> Result<(), AllocError> {
+    /// Adds what an event of the window does.
+    fn see(&mut self, tracker: &Tracker, seen: &TrackedEvent) -> Result<(), AllocError> {
+        let key = seen.event.key;
+        self.follow(tracker, key, tracker.ledger.life(&key))?;
+        match (seen.event.kind, seen.wait) {
+            (Event::WaitStart, Some(wait)) => self.wait(&wait),
+            _ => Ok(()),
+        }
+    }
+
+    /// Adds the act that leads to `life`, the key's state after one of its events.
+    fn follow(&mut self, tracker: &Tracker, key: FenceKey, life: Life) -> Result<(), AllocError> {
         let Some(place) = self.place(&key) else {
             if life.is_pending() {
-                return self.make(alloc, tracker, key);
+                return self.make(tracker, key);
             }
             return Ok(());
         };
@@ -131,8 +156,8 @@ impl Acts {
         Ok(())
     }
 
-    /// Takes in that a wait began.
-    pub(crate) fn wait(&mut self, wait: &Wait) -> Result<(), AllocError> {
+    /// Adds that a wait began.
+    fn wait(&mut self, wait: &Wait) -> Result<(), AllocError> {
         match self.place(&wait.key) {
             Some(fence) => self.push(TraceAct::Wait {
                 fence,
@@ -161,10 +186,10 @@ impl Acts {
         self.open.get(key).copied()
     }
 
-    fn make(&mut self, alloc: Global, tracker: &Tracker, key: FenceKey) -> Result<(), AllocError> {
+    fn make(&mut self, tracker: &Tracker, key: FenceKey) -> Result<(), AllocError> {
         let timeline_key = key.timeline_key();
         let (_, raw) = tracker.names(&timeline_key);
-        let timeline = self.names.place(alloc, timeline_key, raw)?;
+        let timeline = self.names.place(self.alloc, timeline_key, raw)?;
         if timeline >= self.signalled.len() {
             self.signalled.push(0)?;
         }

@@ -7,7 +7,6 @@ ghost use Rattle.std.specs.Prelude.{◌≡◌, ◌≤◌, ◌⊎◌, ◌||◌, [
 ghost use Rattle.line_core.specs.declared.script.TheConstants.{SCRIPT_BYTES};
 ghost use Rattle.point_core.specs.declared.context.TheConstants.{CONTEXTS};
 ghost use Rattle.point_core.specs.declared.refusal.Refusal.TheVariants.{Read as ReadFault, Memory};
-ghost use Rattle.trace_core.specs.Reading.{HasTakenIn};
 ghost use Rattle.trace_core.specs.Tracker.{Tracks};
 ghost use Rattle.point_core.specs.Name.{IsName};
 ghost use Rattle.trace_script.specs.Line.{AreLines, IsNamed, IsNamedFile, said};
@@ -20,7 +19,7 @@ use point_core::{CONTEXTS, Refusal};
 use std::alloc::{AllocError, Global};
 use std::io::Read;
 use syncfile_core::FILES;
-use trace_core::{Event, Next, Reading, Seen, Span, Tracker};
+use trace_core::{Span, Tracker, for_each_step};
 
 /// The result of a trace.
 #[derive(Drop)]
@@ -68,58 +67,13 @@ fn script_of<R: Read>(
     ensures scripted { IfOk result (ScriptsTrace span (R.remaining reader.old) (R.remaining reader.new)) }
     ensures refusals { IfErr result (λ e. (e ≡ ReadFault) ⊎ (e ≡ Memory)) }
 {
-    read_window(alloc, span, tracker, acts, reader)?;
+    for_each_step(span, tracker, reader, acts, &mut ())?;
     if tracker.ledger.events() == 0 {
         return Ok(Scripted::NoEvents);
     }
     acts.number_the_rest(&tracker.ledger);
     let scripted = written(alloc, tracker, acts)?;
     Ok(scripted)
-}
-
-/// Reads up to the end of the window.
-fn read_window<R: Read>(
-    alloc: Global,
-    span: Span,
-    tracker: &mut Tracker,
-    acts: &mut Acts,
-    reader: &mut R,
-) -> Result<(), Refusal>
-    requires fresh { Tracks tracker.old [] [] }
-    ensures read { OnOk result (HasTakenIn span tracker.new (R.remaining reader.old) (R.remaining reader.new)) }
-    ensures refusals { IfErr result (λ e. (e ≡ ReadFault) ⊎ (e ≡ Memory)) }
-{
-    let mut reading = Reading::new(span);
-    for _ in 0..u64::MAX {
-        let next = reading.next(tracker, reader)?;
-        if next.is_end() {
-            return Ok(());
-        }
-        take(alloc, tracker, acts, next)?;
-    }
-    Err(Refusal::Read)
-}
-
-/// Takes in one step of the reading, after the tracker did.
-fn take(alloc: Global, tracker: &Tracker, acts: &mut Acts, next: Next) -> Result<(), Refusal>
-    ensures memory { IfErr result (λ e. e ≡ Memory) }
-{
-    match next {
-        Next::Begin => acts.begin(alloc, tracker)?,
-        Next::Within(seen) => see(alloc, tracker, acts, &seen)?,
-        Next::Before(_) | Next::Lost(_) | Next::StartedLate | Next::Other | Next::End => {}
-    }
-    Ok(())
-}
-
-/// Takes in an event of the window.
-fn see(alloc: Global, tracker: &Tracker, acts: &mut Acts, seen: &Seen) -> Result<(), AllocError> {
-    let key = seen.sighting.key;
-    acts.see(alloc, tracker, key, tracker.ledger.life(&key))?;
-    match (seen.sighting.event, seen.wait) {
-        (Event::WaitStart, Some(wait)) => acts.wait(&wait),
-        _ => Ok(()),
-    }
 }
 
 /// What was recorded up to the end of the window.

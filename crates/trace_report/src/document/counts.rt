@@ -1,13 +1,12 @@
 //! The members on what was read, and on what all fences did.
 
-use crate::document::writing::Document;
 use crate::found::PendingFences;
-use text_core::JsonPart;
+use text_core::JsonPage;
 use trace_core::{Summary, Tally, Tracker};
 
-/// What was read, and what was lost.
-pub(crate) fn add_summary(document: &mut Document, summary: &Summary) {
-    document.add_numbers(
+/// Totals read and lost.
+pub(crate) fn add_summary(page: &mut JsonPage, summary: &Summary) {
+    page.numbers(
         "bytes lines unread_lines records_over_two_lines other_records late_buffers",
         &[
             summary.bytes,
@@ -19,34 +18,34 @@ pub(crate) fn add_summary(document: &mut Document, summary: &Summary) {
         ],
     );
     if let Some(clock) = summary.clock {
-        document.add_numbers(
+        page.numbers(
             "first_event_us last_event_us times_going_back",
             &[clock.first, clock.latest, clock.steps_back],
         );
     }
-    add_losses(document, summary);
+    add_losses(page, summary);
 }
 
 /// What was lost, by lines of the text, and by its header where that counts the events that were overwritten.
-fn add_losses(document: &mut Document, summary: &Summary) {
-    document.add(&[JsonPart::Key("lost"), JsonPart::BeginObject]);
-    document.add_numbers(
+fn add_losses(page: &mut JsonPage, summary: &Summary) {
+    page.object("lost");
+    page.numbers(
         "markers events",
         &[summary.loss_markers, summary.lost_events],
     );
     if let Some(counts) = summary.counts {
         let lost = counts.written.saturating_sub(counts.in_buffer);
-        document.add_numbers("by_header", &[lost]);
+        page.numbers("by_header", &[lost]);
     }
-    document.add_numbers("unnumbered", &[summary.unnumbered_losses]);
-    document.add(&[JsonPart::EndObject]);
+    page.numbers("unnumbered", &[summary.unnumbered_losses]);
+    page.end_object();
 }
 
 /// How many events of each kind there were.
-pub(crate) fn add_events(document: &mut Document, tracker: &Tracker) {
+pub(crate) fn add_events(page: &mut JsonPage, tracker: &Tracker) {
     let events = tracker.ledger.total().events;
-    document.add(&[JsonPart::Key("events"), JsonPart::BeginObject]);
-    document.add_numbers(
+    page.object("events");
+    page.numbers(
         "init emit enable_signal signaled wait_start wait_end destroy all",
         &[
             events.init,
@@ -59,16 +58,16 @@ pub(crate) fn add_events(document: &mut Document, tracker: &Tracker) {
             tracker.ledger.events(),
         ],
     );
-    document.add(&[JsonPart::EndObject]);
+    page.end_object();
 }
 
 /// What all fences did.
-pub(crate) fn add_totals(document: &mut Document, total: &Tally, found: &PendingFences) {
+pub(crate) fn add_totals(page: &mut JsonPage, total: &Tally, found: &PendingFences) {
     let unknown = found.unknown.len() as u64;
     let hangs = found.hangs.len() as u64;
     let fences = hangs.saturating_add(unknown);
-    document.add(&[JsonPart::Key("totals"), JsonPart::BeginObject]);
-    document.add_numbers(
+    page.object("totals");
+    page.numbers(
         "inits signalled never_signalled_pending not_known",
         &[
             total.events.init,
@@ -77,12 +76,12 @@ pub(crate) fn add_totals(document: &mut Document, total: &Tally, found: &Pending
             unknown,
         ],
     );
-    add_faults(document, total);
+    add_faults(page, total);
 }
 
 /// What fences did beside their signals, which ends the object.
-pub(crate) fn add_faults(document: &mut Document, tally: &Tally) {
-    document.add_numbers(
+pub(crate) fn add_faults(page: &mut JsonPage, tally: &Tally) {
+    page.numbers(
         "destroyed_unsignalled out_of_order_plain out_of_order_wrap repeats",
         &[
             tally.destroyed_pending,
@@ -91,7 +90,7 @@ pub(crate) fn add_faults(document: &mut Document, tally: &Tally) {
             tally.repeats,
         ],
     );
-    document.add_numbers(
+    page.numbers(
         "init_of_pending_key signalled_unseen destroyed_unseen signalled_twice overtaken",
         &[
             tally.made_again,
@@ -101,5 +100,5 @@ pub(crate) fn add_faults(document: &mut Document, tally: &Tally) {
             tally.overtaken,
         ],
     );
-    document.add(&[JsonPart::EndObject]);
+    page.end_object();
 }

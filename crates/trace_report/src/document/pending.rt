@@ -1,38 +1,43 @@
 //! The members on fences that are pending, and on the tasks that wait for them.
 
+use crate::by_timeline::ByTimeline;
 use crate::document::add_fence;
 use crate::document::waits::add_task;
-use crate::document::writing::Document;
-use crate::found::Listed;
-use text_core::JsonPart;
-use trace_core::{FenceKey, Tracker};
+use text_core::JsonPage;
+use trace_core::{FenceKey, Pending, Tracker};
 
 /// The member of that name, with the fences.
 pub(crate) fn add_pending(
-    document: &mut Document,
+    page: &mut JsonPage,
     name: &str,
     tracker: &Tracker,
-    pending: &[Listed],
+    pending: &ByTimeline,
 ) {
-    document.add(&[JsonPart::Key(name), JsonPart::BeginArray]);
-    for listed in pending {
-        document.add(&[JsonPart::BeginObject]);
-        add_fence(document, tracker, &listed.fence.key);
-        document.add_numbers("since_us", &[listed.fence.since]);
-        add_waiters(document, tracker, &listed.fence.key);
-        document.add(&[JsonPart::EndObject]);
+    page.array(name);
+    for (_, fences) in pending.fences().iter() {
+        add_each(page, tracker, fences.as_slice());
     }
-    document.add(&[JsonPart::EndArray]);
+    page.end_array();
+}
+
+fn add_each(page: &mut JsonPage, tracker: &Tracker, fences: &[Pending]) {
+    for fence in fences {
+        page.begin_object();
+        add_fence(page, tracker, &fence.key);
+        page.numbers("since_us", &[fence.since]);
+        add_waiters(page, tracker, &fence.key);
+        page.end_object();
+    }
 }
 
 /// The tasks that wait for the fence.
-fn add_waiters(document: &mut Document, tracker: &Tracker, key: &FenceKey) {
-    document.add(&[JsonPart::Key("waiters"), JsonPart::BeginArray]);
+fn add_waiters(page: &mut JsonPage, tracker: &Tracker, key: &FenceKey) {
+    page.array("waiters");
     for (_, wait) in tracker.waits.open().iter() {
         if wait.key == *key {
-            document.add(&[JsonPart::BeginObject]);
-            add_task(document, wait);
+            page.begin_object();
+            add_task(page, wait);
         }
     }
-    document.add(&[JsonPart::EndArray]);
+    page.end_array();
 }

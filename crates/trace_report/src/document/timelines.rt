@@ -1,65 +1,60 @@
 //! The members on what each timeline and each context did.
 
+use crate::content::Content;
 use crate::document::add_names;
 use crate::document::counts::add_faults;
-use crate::document::writing::Document;
-use crate::table::Content;
-use text_core::JsonPart;
+use text_core::JsonPage;
 use trace_core::{ContextKey, ContextState, Tally, TimelineKey, Tracker};
 
 /// The member on timelines.
-pub(crate) fn add_timelines(document: &mut Document, content: Content<'_>) {
+pub(crate) fn add_timelines(page: &mut JsonPage, content: Content<'_>) {
     let timelines = content.tracker.ledger.timelines();
-    document.add(&[JsonPart::Key("per_timeline_name"), JsonPart::BeginObject]);
+    page.object("per_timeline_name");
     for (key, tally) in timelines.by_key().iter() {
-        add_timeline(document, content, key, tally);
+        add_timeline(page, content, key, tally);
     }
-    document.add(&[JsonPart::EndObject]);
+    page.end_object();
 }
 
 /// A timeline, with the times from making or emitting to signalling, where there are any.
-fn add_timeline(document: &mut Document, content: Content<'_>, key: &TimelineKey, tally: &Tally) {
+fn add_timeline(page: &mut JsonPage, content: Content<'_>, key: &TimelineKey, tally: &Tally) {
     let (driver, timeline) = content.tracker.names(key);
-    document.add(&[JsonPart::Pair(driver, timeline), JsonPart::BeginObject]);
-    document.add_numbers(
+    page.key_of_two(driver, timeline);
+    page.begin_object();
+    page.numbers(
         "contexts inits signalled pending",
         &[
             tally.contexts,
             tally.events.init,
             tally.events.signaled,
-            content.timelines.pending(key),
+            content.pending(key),
         ],
     );
     let delay = content.tracker.delays.delay(key);
     if delay.count > 0 {
-        document.add_numbers(
+        page.numbers(
             "median_us percentile_95_us longest_us",
             &[delay.median, delay.percentile_95, delay.longest],
         );
     }
-    add_faults(document, tally);
+    add_faults(page, tally);
 }
 
 /// The member on contexts.
-pub(crate) fn add_contexts(document: &mut Document, tracker: &Tracker) {
+pub(crate) fn add_contexts(page: &mut JsonPage, tracker: &Tracker) {
     let contexts = tracker.ledger.contexts();
-    document.add(&[JsonPart::Key("contexts"), JsonPart::BeginArray]);
+    page.array("contexts");
     for (key, context) in contexts.by_key().iter() {
-        add_context(document, tracker, key, context);
+        add_context(page, tracker, key, context);
     }
-    document.add(&[JsonPart::EndArray]);
+    page.end_array();
 }
 
-fn add_context(
-    document: &mut Document,
-    tracker: &Tracker,
-    key: &ContextKey,
-    context: &ContextState,
-) {
+fn add_context(page: &mut JsonPage, tracker: &Tracker, key: &ContextKey, context: &ContextState) {
     let events = context.tally.events;
-    document.add(&[JsonPart::BeginObject]);
-    add_names(document, tracker, &key.timeline_key());
-    document.add_numbers(
+    page.begin_object();
+    add_names(page, tracker, &key.timeline_key());
+    page.numbers(
         "context inits emits enable_signal signalled destroyed",
         &[
             u64::from(key.context),
@@ -70,5 +65,5 @@ fn add_context(
             events.destroy,
         ],
     );
-    add_faults(document, &context.tally);
+    add_faults(page, &context.tally);
 }

@@ -1,41 +1,16 @@
-//! `TraceEvent`: an object of the trace event format, by `specs/TraceEvent.antt`. The page makes its bytes.
-ghost use Rattle.std.specs.Prelude.{◌≡◌, ◌++◌, OnOk, IfOk};
-ghost use Rattle.text_core.specs.JsonPart.{Adds};
-ghost use Rattle.trace_report.specs.TraceEvent.{broken_tokens, category_of, end_text, end_tokens, event_text, event_tokens};
-ghost use Rattle.trace_report.specs.TraceEvent.{flow_begin_tokens, flow_end_tokens, lost_tokens, named_tokens, order_tokens};
-ghost use Rattle.trace_report.specs.TraceEvent.{rule_name, slice_tokens};
+//! `TraceEvent`: an object of the trace event format, which Perfetto reads. `EventPage` writes it.
 
-use crate::events::part::{EventPart, NamePair, TrackRow, put_all};
-use json::Writer;
-use std::alloc::{AllocError, Global};
+use crate::events::rows::TrackRow;
+use crate::events::slice::Slice;
+use itoa::Buffer;
+use text_core::JsonPage;
 use trace_core::FenceKey;
 
-/// What a slice shows, from which its category follows.
+/// The names of a driver and of its timeline.
 #[derive(Clone, Copy)]
-pub(crate) enum SliceKind {
-    /// A fence, from making or emitting to its signal.
-    Signalled,
-    /// A signal of a fence that was not seen to be made.
-    Unseen,
-    /// A fence that was destroyed and never signalled, which is ordinary.
-    Destroyed,
-    /// A fence that hangs at the end.
-    Hang,
-    /// A fence whose signal may be among events that were lost.
-    Unknown,
-    /// A wait that ended.
-    Wait,
-    /// A wait that did not end.
-    Unfinished,
-}
-
-/// A slice of time: what it shows, when it begins and ends, in microseconds, and the fence.
-#[derive(Clone, Copy)]
-pub(crate) struct Slice {
-    pub(crate) kind: SliceKind,
-    pub(crate) begin: u64,
-    pub(crate) end: u64,
-    pub(crate) key: FenceKey,
+pub(crate) struct NamePair<'a> {
+    pub(crate) driver: &'a [u8],
+    pub(crate) timeline: &'a [u8],
 }
 
 /// A rule that was broken.
@@ -44,6 +19,15 @@ pub(crate) enum Rule {
     /// Signalled after a later fence of its context, which was made after it.
     Overtaken,
     SignalledTwice,
+}
+
+impl Rule {
+    fn name(self) -> &'static str {
+        match self {
+            Rule::Overtaken => "overtaken",
+            Rule::SignalledTwice => "signalled twice",
+        }
+    }
 }
 
 /// What lines say of lost events, since the event before them.
@@ -55,6 +39,31 @@ pub(crate) struct Losses {
     pub(crate) events: u64,
     /// How many say that all earlier events of a processor are missing.
     pub(crate) late_buffers: u64,
+}
+
+impl Losses {
+    /// Nothing was lost.
+    pub(crate) const NONE: Losses = Losses {
+        lines: 0,
+        events: 0,
+        late_buffers: 0,
+    };
+
+    /// Whether no line says that events are missing.
+    pub(crate) fn are_none(&self) -> bool {
+        self.lines == 0 && self.late_buffers == 0
+    }
+
+    /// Adds a line that says that events were lost, and how many where it does.
+    pub(crate) fn add_line(&mut self, events: Option<u64>) {
+        self.lines = self.lines.saturating_add(1);
+        self.events = self.events.saturating_add(events.unwrap_or(0));
+    }
+
+    /// Adds a line that says that all earlier events of a processor are missing.
+    pub(crate) fn add_late_buffer(&mut self) {
+        self.late_buffers = self.late_buffers.saturating_add(1);
+    }
 }
 
 /// A trace event. Times are microseconds.
@@ -70,267 +79,121 @@ pub(crate) enum TraceEvent<'a> {
     Slice(TrackRow, Slice, NamePair<'a>),
     /// The beginning of the arrow of that number, at a time within a slice of the row.
     FlowBegin(TrackRow, u64, u64),
-    /// Its end.
+    /// Its end, which binds to the slice that it is in.
     FlowEnd(TrackRow, u64, u64),
     /// A rule that the fence of a slice broke at its end, at the process of its driver.
     Broken(Rule, u64, Slice, NamePair<'a>),
     /// Lost events, and the time of what follows them.
     Lost(u64, Losses),
+    /// The time at which the trace ends.
+    End(u64),
 }
 
-/// Adds the object of the event after the text, and the separator that follows an object.
-///
-/// Fails only with `Memory`.
-pub(crate) fn push_event(
-    alloc: Global,
-    event: &TraceEvent<'_>,
-    text: Vec<u8>,
-) -> Result<Vec<u8>, AllocError>
-    ensures added { IfOk result (λ added. added.items ≡ text.items ++ event_text event.now) }
-{
-    let mut writer = Writer::new(text);
-    put_event(alloc, &mut writer, event)?;
-    let mut text = writer.into_inner();
-    text.extend_from_slice(b",\n")?;
-    Ok(text)
-}
-
-/// Adds the last object, which marks the time at which the text ends, and what ends the document.
-///
-/// Fails only with `Memory`.
-pub(crate) fn push_end(alloc: Global, time: u64, text: Vec<u8>) -> Result<Vec<u8>, AllocError>
-    ensures added { IfOk result (λ added. added.items ≡ text.items ++ end_text time) }
-{
-    let mut writer = Writer::new(text);
-    put_end(alloc, &mut writer, time)?;
-    let mut text = writer.into_inner();
-    text.extend_from_slice(b"\n]}\n")?;
-    Ok(text)
-}
-
-fn put_event(alloc: Global, writer: &mut Writer, event: &TraceEvent<'_>) -> Result<(), AllocError>
-    ensures added { OnOk result (Adds writer.old writer.new (event_tokens event.now)) }
-{
-    match event {
-        TraceEvent::Process(process, name) => {
-            put_named(alloc, writer, "process_name", *process, *process, name)
+impl TraceEvent<'_> {
+    /// Adds the object. Its phase `ph` is M for a name, X for a slice, s and f for the ends of an arrow, and i for an instant.
+    pub(crate) fn put(&self, page: &mut JsonPage) {
+        page.begin_object();
+        match self {
+            TraceEvent::Process(process, name) => put_process(page, *process, name),
+            TraceEvent::Thread(row, name) => put_thread(page, row, name),
+            TraceEvent::Order(row, place) => put_order(page, row, *place),
+            TraceEvent::Slice(row, slice, names) => put_slice(page, row, slice, names),
+            TraceEvent::FlowBegin(row, number, time) => {
+                page.strings("name cat ph", &["signal", "flow", "s"]);
+                put_flow(page, row, *number, *time);
+            }
+            TraceEvent::FlowEnd(row, number, time) => {
+                page.strings("name cat ph bp", &["signal", "flow", "f", "e"]);
+                put_flow(page, row, *number, *time);
+            }
+            TraceEvent::Broken(rule, process, slice, names) => {
+                put_broken(page, *rule, *process, slice, names);
+            }
+            TraceEvent::Lost(time, losses) => put_lost(page, *time, losses),
+            TraceEvent::End(time) => put_instant(page, "end of the trace", "end", *time),
         }
-        TraceEvent::Thread(row, name) => {
-            put_named(alloc, writer, "thread_name", row.process, row.thread, name)
-        }
-        TraceEvent::Order(row, place) => put_order(alloc, writer, row, *place),
-        TraceEvent::Slice(row, slice, names) => put_slice(alloc, writer, row, slice, names),
-        TraceEvent::FlowBegin(row, number, time) => {
-            put_flow_begin(alloc, writer, row, *number, *time)
-        }
-        TraceEvent::FlowEnd(row, number, time) => put_flow_end(alloc, writer, row, *number, *time),
-        TraceEvent::Broken(rule, process, slice, names) => {
-            put_broken(alloc, writer, *rule, *process, slice, names)
-        }
-        TraceEvent::Lost(time, losses) => put_lost(alloc, writer, *time, losses),
+        page.end_object();
     }
 }
 
-fn put_named<'a>(
-    alloc: Global,
-    writer: &mut Writer,
-    what: &'a str,
-    process: u64,
-    thread: u64,
-    name: &'a [u8],
-) -> Result<(), AllocError>
-    ensures added { OnOk result (Adds writer.old writer.new (named_tokens what.now process thread name.now)) }
-{
-    let parts = [
-        EventPart::Begin,
-        EventPart::Text("name", what),
-        EventPart::Text("ph", "M"),
-        EventPart::Row(TrackRow { process, thread }),
-        EventPart::Arguments,
-        EventPart::Name("name", name),
-        EventPart::End,
-        EventPart::End,
-    ];
-    put_all(alloc, writer, &parts)
+fn put_process(page: &mut JsonPage, process: u64, name: &[u8]) {
+    page.strings("name ph", &["process_name", "M"]);
+    page.numbers("pid tid", &[process, process]);
+    put_name(page, name);
 }
 
-fn put_order(
-    alloc: Global,
-    writer: &mut Writer,
-    row: &TrackRow,
-    place: u64,
-) -> Result<(), AllocError>
-    ensures added { OnOk result (Adds writer.old writer.new (order_tokens row.now place)) }
-{
-    let parts = [
-        EventPart::Begin,
-        EventPart::Text("name", "thread_sort_index"),
-        EventPart::Text("ph", "M"),
-        EventPart::Row(*row),
-        EventPart::Arguments,
-        EventPart::Count("sort_index", place),
-        EventPart::End,
-        EventPart::End,
-    ];
-    put_all(alloc, writer, &parts)
+fn put_thread(page: &mut JsonPage, row: &TrackRow, name: &[u8]) {
+    page.strings("name ph", &["thread_name", "M"]);
+    page.numbers("pid tid", &[row.process, row.thread]);
+    put_name(page, name);
 }
 
-fn put_slice(
-    alloc: Global,
-    writer: &mut Writer,
-    row: &TrackRow,
-    slice: &Slice,
-    names: &NamePair<'_>,
-) -> Result<(), AllocError>
-    ensures added { OnOk result (Adds writer.old writer.new (slice_tokens row.now slice.now names.now)) }
-{
-    let category = category_of(slice.kind);
-    let length = slice.end.saturating_sub(slice.begin);
-    let parts = [
-        EventPart::Begin,
-        EventPart::Point(slice.key),
-        EventPart::Text("cat", category),
-        EventPart::Text("ph", "X"),
-        EventPart::Count("ts", slice.begin),
-        EventPart::Count("dur", length),
-        EventPart::Row(*row),
-        EventPart::Arguments,
-        EventPart::Fence(slice.key, *names),
-        EventPart::End,
-        EventPart::End,
-    ];
-    put_all(alloc, writer, &parts)
+fn put_name(page: &mut JsonPage, name: &[u8]) {
+    page.object("args");
+    page.lossy("name", name);
+    page.end_object();
 }
 
-fn category_of(kind: SliceKind) -> &'static str
-    ensures { result.now ≡ category_of kind }
-{
-    match kind {
-        SliceKind::Signalled => "fence",
-        SliceKind::Unseen => "unseen",
-        SliceKind::Destroyed => "destroyed",
-        SliceKind::Hang => "hang",
-        SliceKind::Unknown => "unknown",
-        SliceKind::Wait => "wait",
-        SliceKind::Unfinished => "unfinished",
-    }
+fn put_order(page: &mut JsonPage, row: &TrackRow, place: u64) {
+    page.strings("name ph", &["thread_sort_index", "M"]);
+    page.numbers("pid tid", &[row.process, row.thread]);
+    page.object("args");
+    page.numbers("sort_index", &[place]);
+    page.end_object();
 }
 
-fn put_flow_begin(
-    alloc: Global,
-    writer: &mut Writer,
-    row: &TrackRow,
-    number: u64,
-    time: u64,
-) -> Result<(), AllocError>
-    ensures added { OnOk result (Adds writer.old writer.new (flow_begin_tokens row.now number time)) }
-{
-    let parts = [
-        EventPart::Begin,
-        EventPart::Text("name", "signal"),
-        EventPart::Text("cat", "flow"),
-        EventPart::Text("ph", "s"),
-        EventPart::Arrow(number, time, *row),
-        EventPart::End,
-    ];
-    put_all(alloc, writer, &parts)
+fn put_slice(page: &mut JsonPage, row: &TrackRow, slice: &Slice, names: &NamePair<'_>) {
+    put_point(page, &slice.key);
+    page.strings("cat ph", &[slice.kind.category(), "X"]);
+    page.numbers(
+        "ts dur pid tid",
+        &[slice.begin, slice.length(), row.process, row.thread],
+    );
+    put_fence(page, &slice.key, names);
 }
 
-fn put_flow_end(
-    alloc: Global,
-    writer: &mut Writer,
-    row: &TrackRow,
-    number: u64,
-    time: u64,
-) -> Result<(), AllocError>
-    ensures added { OnOk result (Adds writer.old writer.new (flow_end_tokens row.now number time)) }
-{
-    let parts = [
-        EventPart::Begin,
-        EventPart::Text("name", "signal"),
-        EventPart::Text("cat", "flow"),
-        EventPart::Text("ph", "f"),
-        EventPart::Text("bp", "e"),
-        EventPart::Arrow(number, time, *row),
-        EventPart::End,
-    ];
-    put_all(alloc, writer, &parts)
+/// The name of a fence: its context and its seqno, as `120:31`.
+fn put_point(page: &mut JsonPage, key: &FenceKey) {
+    let mut context = Buffer::new();
+    let mut seqno = Buffer::new();
+    let text = [context.format(key.context), ":", seqno.format(key.seqno)];
+    page.joined("name", &text);
 }
 
-fn put_broken(
-    alloc: Global,
-    writer: &mut Writer,
-    rule: Rule,
-    process: u64,
-    slice: &Slice,
-    names: &NamePair<'_>,
-) -> Result<(), AllocError>
-    ensures added { OnOk result (Adds writer.old writer.new (broken_tokens rule process slice.now names.now)) }
-{
-    let name = rule_name(rule);
-    let parts = [
-        EventPart::Begin,
-        EventPart::Text("name", name),
-        EventPart::Text("cat", "broken"),
-        EventPart::Text("ph", "i"),
-        EventPart::Text("s", "p"),
-        EventPart::Count("ts", slice.end),
-        EventPart::Process(process),
-        EventPart::Arguments,
-        EventPart::Fence(slice.key, *names),
-        EventPart::End,
-        EventPart::End,
-    ];
-    put_all(alloc, writer, &parts)
+fn put_fence(page: &mut JsonPage, key: &FenceKey, names: &NamePair<'_>) {
+    page.object("args");
+    page.lossy("driver", names.driver);
+    page.lossy("timeline", names.timeline);
+    page.numbers(
+        "context seqno",
+        &[u64::from(key.context), u64::from(key.seqno)],
+    );
+    page.end_object();
 }
 
-fn rule_name(rule: Rule) -> &'static str
-    ensures { result.now ≡ rule_name rule }
-{
-    match rule {
-        Rule::Overtaken => "overtaken",
-        Rule::SignalledTwice => "signalled twice",
-    }
+fn put_flow(page: &mut JsonPage, row: &TrackRow, number: u64, time: u64) {
+    page.numbers("id ts pid tid", &[number, time, row.process, row.thread]);
 }
 
-fn put_lost(
-    alloc: Global,
-    writer: &mut Writer,
-    time: u64,
-    losses: &Losses,
-) -> Result<(), AllocError>
-    ensures added { OnOk result (Adds writer.old writer.new (lost_tokens time losses.now)) }
-{
-    let parts = [
-        EventPart::Begin,
-        EventPart::Text("name", "events were lost"),
-        EventPart::Text("cat", "lost"),
-        EventPart::Text("ph", "i"),
-        EventPart::Text("s", "g"),
-        EventPart::Count("ts", time),
-        EventPart::Process(0),
-        EventPart::Arguments,
-        EventPart::Count("lines", losses.lines),
-        EventPart::Count("events", losses.events),
-        EventPart::Count("late_buffers", losses.late_buffers),
-        EventPart::End,
-        EventPart::End,
-    ];
-    put_all(alloc, writer, &parts)
+/// An instant of a process.
+fn put_broken(page: &mut JsonPage, rule: Rule, process: u64, slice: &Slice, names: &NamePair<'_>) {
+    page.strings("name cat ph s", &[rule.name(), "broken", "i", "p"]);
+    page.numbers("ts pid tid", &[slice.end, process, process]);
+    put_fence(page, &slice.key, names);
 }
 
-fn put_end(alloc: Global, writer: &mut Writer, time: u64) -> Result<(), AllocError>
-    ensures added { OnOk result (Adds writer.old writer.new (end_tokens time)) }
-{
-    let parts = [
-        EventPart::Begin,
-        EventPart::Text("name", "end of the trace"),
-        EventPart::Text("cat", "end"),
-        EventPart::Text("ph", "i"),
-        EventPart::Text("s", "g"),
-        EventPart::Count("ts", time),
-        EventPart::Process(0),
-        EventPart::End,
-    ];
-    put_all(alloc, writer, &parts)
+fn put_lost(page: &mut JsonPage, time: u64, losses: &Losses) {
+    put_instant(page, "events were lost", "lost", time);
+    page.object("args");
+    page.numbers(
+        "lines events late_buffers",
+        &[losses.lines, losses.events, losses.late_buffers],
+    );
+    page.end_object();
+}
+
+/// An instant of all processes.
+fn put_instant(page: &mut JsonPage, name: &str, category: &str, time: u64) {
+    page.strings("name cat ph s", &[name, category, "i", "g"]);
+    page.numbers("ts pid tid", &[time, 0, 0]);
 }

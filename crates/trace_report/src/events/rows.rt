@@ -1,10 +1,6 @@
 //! `Rows`: rows on which no two slices overlap, as Perfetto needs. A row keeps the end of its last slice; a slice gets a row that
 //! ended before it begins.
-ghost use Rattle.std.specs.Prelude.{◌≡◌, IfOk};
-ghost use Rattle.trace_report.specs.Rows.{process_of};
-ghost use Rattle.trace_report.specs.Slices.{process_of_driver};
 
-use crate::events::part::TrackRow;
 use indexmap::IndexSet;
 use std::alloc::{AllocError, Global};
 use std::collections::BTreeSet;
@@ -16,6 +12,13 @@ const PIDS: u64 = 4_194_304;
 
 /// Rows that show no thread of the kernel have this number or a greater one.
 const ROWS: u64 = 8_388_608;
+
+/// A row: a thread of a process, by their numbers.
+#[derive(Clone, Copy)]
+pub(crate) struct TrackRow {
+    pub(crate) process: u64,
+    pub(crate) thread: u64,
+}
 
 /// The owner of rows.
 #[derive(Clone, Copy, PartialEq, Eq, Hash)]
@@ -30,9 +33,7 @@ pub(crate) enum Track {
 
 impl Track {
     /// Pseudo-pid under which Perfetto groups this driver or task.
-    pub(crate) fn process(&self) -> u64
-        ensures { result ≡ process_of self.now }
-    {
+    pub(crate) fn process(&self) -> u64 {
         match self {
             Track::Timeline(key) => process_of_driver(key.driver),
             Track::Context(key) => process_of_driver(key.driver),
@@ -42,9 +43,7 @@ impl Track {
 }
 
 /// The number of the process that shows a driver.
-pub(crate) fn process_of_driver(driver: u32) -> u64
-    ensures { result ≡ process_of_driver driver }
-{
+pub(crate) fn process_of_driver(driver: u32) -> u64 {
     u64::from(driver) + (PIDS + 1)
 }
 
@@ -83,15 +82,13 @@ impl Rows {
     }
 
     /// A row of the track on which each slice ended before `begin`: the one that was left last, or a new one if there is none. That no
-    /// slices of a row overlap is tested, not proved.
+    /// slices of a row overlap is tested.
     pub(crate) fn place(
         &mut self,
         track: Track,
         begin: u64,
         end: u64,
-    ) -> Result<RowPlace, AllocError>
-        ensures process { IfOk result (λ place. place.row.process ≡ process_of track) }
-    {
+    ) -> Result<RowPlace, AllocError> {
         let Ok((number, is_first)) = self.tracks.insert_full(track) else {
             return Err(AllocError);
         };
@@ -116,7 +113,7 @@ impl Rows {
         })
     }
 
-    /// Takes away the row of the track that was left last before `begin`, and answers its number.
+    /// Removes the row of the track that was left last before `begin`; returns its number.
     fn take_free(&mut self, track: u64, begin: u64) -> Option<u64> {
         let row = self.free(track, begin)?;
         self.used.remove(&row);

@@ -11,7 +11,7 @@ returns-clause-seen c =
       contexts = c.see-2.new.self;
       timelines = c.count.new.self;
       total = c.count-2.new.self;
-    }) c.args.sighting.now c.in_ok-life.life c.in_ok-found.found c.timeline_key.result steps (record {
+    }) c.args.event.now c.in_ok-life.life c.in_ok-found.found c.timeline_key.result steps (record {
       life-is = c.in_ok-life.ensures.known;
       found-is = c.in_ok-found.ensures.found;
       tk-is = c.timeline_key.ensures;
@@ -32,7 +32,7 @@ returns-clause-found c =
       contexts = c.see-2.new.self;
       timelines = c.count.new.self;
       total = c.count-2.new.self;
-    }) c.args.sighting.now c.in_ok-life.life c.in_ok-found.found c.timeline_key.result steps (record {
+    }) c.args.event.now c.in_ok-life.life c.in_ok-found.found c.timeline_key.result steps (record {
       life-is = c.in_ok-life.ensures.known;
       found-is = c.in_ok-found.ensures.found;
       tk-is = c.timeline_key.ensures;

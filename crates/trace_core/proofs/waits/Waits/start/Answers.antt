@@ -5,7 +5,7 @@ use Rattle.trace_core.proofs.waits.Waits.start.Goals as goal
 
 pub returns-clause-are_open : goal.returns-clause-are_open
 returns-clause-are_open c =
-    let e = c.args.sighting.now in
+    let e = c.args.event.now in
     let map = c.args.self.now.open in
     λ waits are.
     let at = c.waiting.ensures.count waits are in

@@ -6,4 +6,4 @@ use Rattle.trace_core.proofs.waits.Waits.waiting.Given as goal
 
 abbrev pub invariant-loop-nth : goal.invariant-loop-nth
 invariant-loop-nth l =
-    (k : ℕ) → k < l.nth → is_some (lookup (same_wait (wait_key l.sighting.pid l.sighting.key k)) l.self.open.entries) ≡ true
+    (k : ℕ) → k < l.nth → is_some (lookup (same_wait (wait_key l.event.pid l.event.key k)) l.self.open.entries) ≡ true

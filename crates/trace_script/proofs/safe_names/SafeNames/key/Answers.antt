@@ -1,6 +1,6 @@
 use Rattle.std.proofs.Common.{ℕ, ap}
 use Rattle.std.specs.Prelude.{option_map}
-use Rattle.trace_core.specs.declared.sighting.TimelineKey.{TimelineKey}
+use Rattle.trace_core.specs.declared.fence_event.TimelineKey.{TimelineKey}
 use Rattle.trace_script.proofs.safe_names.SafeNames.key.Goals as goal
 
 pub returns-in-Some : goal.returns-in-Some
