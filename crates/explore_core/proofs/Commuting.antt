@@ -1,6 +1,7 @@
 -- Independent commands commute.
 use Rattle.std.proofs.Common.{◌≡◌, ℕ, ◌+◌, Bool, true, false, not, ◌&&◌, ◌||◌, cond, refl, sym, ap, ◌∙◌, List, [], ◌∷◌, ◌++◌, append_assoc, append-nil, length, length-append, map, Option, None, Some, option_map, unwrap_or, arith, count_by, if◌then◌else◌, inl, inr}
 use Rattle.std.specs.Prelude.{⊤}
+use Rattle.std.specs.List.{AllZip}
 use Rattle.std.specs.Option.{option_or}
 use Rattle.std.specs.Cmp.Lexicographic.{same_text}
 use Rattle.std.proofs.lemmas.Bool.{cases_Bool, false≢true, and_parts}
@@ -16,11 +17,11 @@ use Rattle.dmabuf_core.specs.Flags.{exported, imported, is_sync_flags}
 use Rattle.timeline_core.specs.Timeline.{Timeline, has_timeline, context_of, reach_of, raised_by, closed_timeline}
 use Rattle.command_core.specs.declared.command.Command.{Command}
 use Rattle.command_core.specs.declared.command.Command.TheVariants as command
-use Rattle.desk_core.specs.theorem.World.{World, MadeFile, MadeBuffer, after, has_file, file_named, files_without, put_set, has_made_buffer, buffer_put_set, put_into}
+use Rattle.desk_core.specs.theorem.World.{World, MadeFile, MadeBuffer, MadeWatch, after, has_file, file_named, files_without, put_set, has_made_buffer, buffer_put_set, put_into}
 use Rattle.desk_core.specs.theorem.Answer.{answer_to, causes, cause, first_of, is_refused, listed_points}
 use Rattle.desk_core.proofs.Buffers.{names-put_into, buffer_put_set-put, buffer_put_set-other}
 use Rattle.desk_core.proofs.Sound.{first_of-none, not-false, causes-accepted}
-use Rattle.explore_core.specs.Alike.{AreAlike, after_answer}
+use Rattle.explore_core.specs.Alike.{AreAlike, IsSameWatch, after_answer}
 use Rattle.explore_core.specs.Independence.{reads_file, LeavesAlone, IsNarrow, AreIndependent, Passes, IsRoomy, Commute}
 use Rattle.explore_core.proofs.Leaving.{itself, turned, or_true, or_first, FindsSame, finds-itself, finds-after, same-answer, same-context, same-put_set, buffer_names-after, watches-after}
 use Rattle.explore_core.proofs.Naming.{named-push, named-without_named, count_by-without_named, length-without_named}
@@ -348,8 +349,12 @@ watches_made-after : (w : World) (c : Command) → IsNarrow c → (after w c).wa
 watches_made-after w (command.Watch f cookie) narrow = absurd narrow
 watches_made-after w _ narrow = refl
 
-alike-itself : (asked : List ℕ → Bool) (w : World) → w.watches ≡ [] → AreAlike asked w w
-alike-itself asked w none = record {
+watches-itself : (reach : List ℕ) (xs : List MadeWatch) → AllZip (IsSameWatch reach) xs xs
+watches-itself reach [] = tt
+watches-itself reach (x ∷ xs) = (record { cookie = refl; put = AgreesAbove-refl reach x.put }, watches-itself reach xs)
+
+pub alike-itself : (asked : List ℕ → Bool) (w : World) → AreAlike asked w w
+alike-itself asked w = record {
   timelines = refl;
   file_counts = λ n. refl;
   files_made = refl;
@@ -357,7 +362,7 @@ alike-itself asked w none = record {
   lists = λ n is. refl;
   buffer_names = refl;
   buffers = λ n. AgreesAbove-refl (reach_of w.timelines) (buffer_put_set w.buffers n);
-  watches = rw none tt;
+  watches = watches-itself (reach_of w.timelines) w.watches;
   watches_made = refl;
 }
 
@@ -494,9 +499,9 @@ module _ (asked : List ℕ → Bool) (w : World) (c d : Command) (roomy : IsRoom
 
   alike-by : (r s : Bool) → is_refused (answer_to w c) ≡ r → is_refused (answer_to w d) ≡ s
       → AreAlike asked (if r then (if s then w else after w d) else after (if s then w else after w d) c) (if s then (if r then w else after w c) else after (if r then w else after w c) d)
-  alike-by true true is is' = alike-itself asked w roomy.watches
-  alike-by true false is is' = alike-itself asked (after w d) (watches-after w d i.second roomy.watches)
-  alike-by false true is is' = alike-itself asked (after w c) (watches-after w c i.first roomy.watches)
+  alike-by true true is is' = alike-itself asked w
+  alike-by true false is is' = alike-itself asked (after w d)
+  alike-by false true is is' = alike-itself asked (after w c)
   alike-by false false is is' = worlds-commute asked w c d roomy i (causes-accepted w c is) (causes-accepted w d is')
 
   pub commute : Commute asked w c d

@@ -19,3 +19,4 @@ pub mod Recording
 pub mod Counting
 pub mod Leaving
 pub mod Commuting
+pub mod Moving

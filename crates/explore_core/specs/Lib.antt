@@ -4,5 +4,6 @@ pub mod Covering
 pub mod Found
 pub mod Independence
 pub mod Looks
+pub mod Moving
 pub mod Schedule
 pub mod Search

@@ -1,6 +1,6 @@
 //! Theorems about alike worlds, desks that look alike, and standings that cover all schedules. Each is the contract of a function
 //! with an empty body, which no caller runs.
-ghost use Rattle.std.specs.Prelude.{◌≡◌, ℕ, Bool, List, All};
+ghost use Rattle.std.specs.Prelude.{◌≡◌, ℕ, Bool, true, List, Some, All};
 ghost use Rattle.command_core.specs.declared.command.Command.{Command};
 ghost use Rattle.desk_core.specs.theorem.World.{World};
 ghost use Rattle.desk_core.specs.theorem.Answer.{answer_to};
@@ -10,7 +10,9 @@ ghost use Rattle.desk_core.specs.theorem.Desk.{DeskState, HasHistory};
 ghost use Rattle.desk_core.specs.theorem.History.{world_of};
 ghost use Rattle.explore_core.specs.Looks.{LooksAlike};
 ghost use Rattle.command_core.specs.declared.answer.Answer.{Answer};
-ghost use Rattle.explore_core.specs.Schedule.{Lines, Standing, Schedule, ComesTo, IsStuck, IsAnswered};
+ghost use Rattle.explore_core.specs.declared.plan.Step.{Step};
+ghost use Rattle.explore_core.specs.Moving.{IsPatient, AllGoBeside, MayGoFirst};
+ghost use Rattle.explore_core.specs.Schedule.{Lines, Standing, Schedule, Leads, ComesTo, IsStuck, IsAnswered, can_be_made, next_line};
 ghost use Rattle.explore_core.specs.Covering.{MayAsk, AreEnough, HasAlike, AnswersThere, IsStuckThere};
 ghost use Rattle.explore_core.specs.Alike.{AsksOnly, AreAlike, after_answer, answers_along};
 ghost use Rattle.explore_core.specs.Independence.{AreIndependent, Commute, IsRoomy, Passes};
@@ -41,6 +43,16 @@ pub fn desks_that_look_alike_answer_alike()
 pub fn independent_commands_commute()
     ensures { (asked : List ℕ → Bool) (w : World) (c d : Command) →
         IsRoomy w → AreIndependent asked c d → Passes w c → Passes w d → Commute asked w c d }
+{}
+
+/// A line that can be made, and is independent of the lines that other clients make along a schedule, may be made before them: each
+/// line is answered as it was, and the standings at the end are alike.
+pub fn an_independent_line_may_go_first()
+    ensures { (asked : List ℕ → Bool) (plan : Lines) (client : ℕ) (step : Step) (others : Schedule) (now later : Standing) →
+        MayAsk asked plan → IsSound (world_of now.history) → IsPatient step.command step.waits →
+        next_line plan now client ≡ Some step → can_be_made now step ≡ true →
+        AllGoBeside asked plan client step.command now others → Leads plan now others later →
+        MayGoFirst asked plan client step now others later }
 {}
 
 /// A search that has visited enough standings (`AreEnough`) has seen every schedule: where it leads, how its lines are answered,
