@@ -64,7 +64,8 @@ static void counts(int full, int empty)
         expect_readable(all[i], FD_SETSIZE, empty, 0);
     }
     FAILS(select(-1, bounded(FD_SETSIZE), NULL, NULL, &none), EINVAL);
-    FAILS(select(1, (fd_set *)(void *)((char *)bounded(64) + 8), NULL, NULL, &none), EFAULT);
+    if (most_count == INT_MAX)
+        FAILS(select(1, (fd_set *)(void *)((char *)bounded(64) + 8), NULL, NULL, &none), EFAULT);
 }
 
 /* Sets with more bits, for descriptors above FD_SETSIZE. */
@@ -108,6 +109,8 @@ static void uses(int full, int empty)
     EXPECT(inc(t, 0), 0);
     counts(full, empty);
     expect_readable(FD_SETSIZE, FD_SETSIZE, f, 0);
+    close(f);
+    close(t);
     large_sets(full);
 }
 
