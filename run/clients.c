@@ -6,6 +6,7 @@
 #include "pass.h"
 
 #include <errno.h>
+#include <sched.h>
 #include <stdlib.h>
 #include <string.h>
 #include <sys/epoll.h>
@@ -271,7 +272,7 @@ static void serve_channel(struct server *server, struct client *client)
     answer_client(server, client, &request, -1, &answer, &gives);
     if (gives >= 0)
         call_close(gives);
-    channel_answer(client->channel, &answer);
+    server->registry.page->awake = channel_answer(client->channel, &answer) ? sched_getcpu() + 1 : 0;
     if (request.op == BIM_OP_INC)
         server->incremented = client->channel;
 }

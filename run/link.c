@@ -215,7 +215,9 @@ static bool gives_none(const struct bim_request *request)
 static int try_to_ask(const struct bim_request *request, int passed, struct bim_answer *answer, int *given)
 {
     if (channel && gives_none(request)) {
-        if (!kept_is_there(&doorbell) || !channel_ask(channel, doorbell.number, request, answer, check))
+        int server = page ? (int)atomic_load_explicit(&page->awake, memory_order_relaxed) - 1 : -1;
+
+        if (!kept_is_there(&doorbell) || !channel_ask(channel, doorbell.number, server, request, answer, check))
             return ENOTCONN;
         if (!answer->gives)
             return answer->error;

@@ -1,4 +1,4 @@
-/* A page that a service shares read-only with its processes. It says whether there ever was a buffer, and caches the
+/* A page that a service shares read-only with its processes. It says whether there ever was a buffer and whether the server is awake, and caches the
  * information of signalled files, which never changes again, so that a process can report them without a request. */
 #ifndef BIM_RUN_PAGE_H
 #define BIM_RUN_PAGE_H
@@ -22,6 +22,7 @@ struct page_slot {
 
 struct bim_page {
     _Atomic uint32_t buffers; /* nonzero once a buffer was made */
+    _Atomic uint32_t awake;   /* 1 plus the processor on which the server looks for requests, or 0 */
     struct page_slot slots[PAGE_SLOTS];
 };
 

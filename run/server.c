@@ -164,11 +164,28 @@ static void handle(struct server *server, int file)
         client_serve(server, file);
 }
 
+/* A client that took its answer on another processor often asks again at once. */
+static int look_for_events(struct server *server, struct epoll_event *events)
+{
+    uint64_t until = registry_now() + CHANNEL_NANOSECONDS_TO_LOOK;
+    int count;
+
+    do
+        count = epoll_wait(server->events, events, EVENTS, 0);
+    while (count == 0 && registry_now() < until);
+    if (count == 0)
+        server->registry.page->awake = 0;
+    return count;
+}
+
 static int wait_for_events(struct server *server, struct epoll_event *events)
 {
+    int count = server->registry.page->awake ? look_for_events(server, events) : 0;
     bool hurries = server->registry.closing || server->is_hurried;
     bool looks = server->lacks_guard || shared->tool.handle < 0;
 
+    if (count > 0)
+        return count;
     return epoll_wait(server->events, events, EVENTS,
                       hurries ? MILLISECONDS_TO_POSTPONE : looks ? MILLISECONDS_BETWEEN_LOOKS : -1);
 }
