@@ -11,14 +11,17 @@ const _: () = prove!(DIGITS == 20);
 pub(crate) fn number(word: &[u8]) -> Option<u64>
     ensures value { result ≡ number_of word.now }
 {
-    // Std's `parse` takes a plus sign too.
-    if word.len() > DIGITS || word.starts_with(b"+") {
+    if word.is_empty() || word.len() > DIGITS {
         return None;
     }
-    match str::from_utf8(word) {
-        Ok(text) => text.parse().ok(),
-        Err(_) => None,
+    let mut value: u64 = 0;
+    for byte in word {
+        if !byte.is_ascii_digit() {
+            return None;
+        }
+        value = value.checked_mul(10)?.checked_add(u64::from(*byte - b'0'))?;
     }
+    Some(value)
 }
 
 /// Whether the word spells a number.
