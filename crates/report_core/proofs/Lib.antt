@@ -1,3 +1,4 @@
+pub mod Answering
 pub mod Digits
 pub mod Fronts
 pub mod Lines

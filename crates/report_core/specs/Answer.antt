@@ -93,3 +93,13 @@ first_line_of number (answer.Info info) = info_line info.name info.status (lengt
 first_line_of number (answer.Show rows) = value_line (length rows)
 first_line_of number (answer.Report tables) = value_line (row_count tables)
 first_line_of number (answer.Refused r) = refusal_text number r
+
+-- its other lines
+abbrev pub rows_of : Answer → List ℕ
+rows_of answer.Done = []
+rows_of (answer.Value n) = []
+rows_of (answer.Raised value fired) = flat_map fired_text fired
+rows_of (answer.Info info) = flat_map fence_text info.fences
+rows_of (answer.Show rows) = rows_text rows
+rows_of (answer.Report tables) = tables_text tables
+rows_of (answer.Refused r) = []

@@ -2,15 +2,16 @@
 ghost use Rattle.std.specs.Prelude.{◌≡◌, ◌+◌, ◌≤◌, ◌∷◌, ◌++◌, [], OnOk, OnErr, Err, codes, decimal, length};
 ghost use Rattle.std.specs.Io.{StartsWith};
 ghost use Rattle.point_core.specs.declared.refusal.Refusal.TheVariants.{Memory};
-ghost use Rattle.report_core.specs.Answer.{line_text, fired_text, raised_text, driver_of, fence_text, info_line, info_text, show_text};
-ghost use Rattle.report_core.specs.Answer.{report_text, refusal_text, details, value_line, text_of, first_line_of};
+ghost use Rattle.std.specs.List.{flat_map};
+ghost use Rattle.report_core.specs.Answer.{line_text, fired_text, driver_of, fence_text, info_line, info_text};
+ghost use Rattle.report_core.specs.Answer.{refusal_text, details, value_line, text_of, first_line_of, rows_of};
 ghost use Rattle.report_core.specs.LineEnd.{line_end};
 
 use crate::line::{TEXT_LINE_BYTES, TextLine};
 use crate::report::{report_text, show_text};
 use crate::rows::{KIND_WIDTH, status_text};
 use crate::table_item::push_each;
-use command_core::{Answer, FenceRow, Info, Maker, Report, ShowRow};
+use command_core::{Answer, FenceRow, Info, Maker};
 use itoa::Buffer;
 use point_core::Refusal;
 
@@ -42,15 +43,42 @@ pub(crate) fn push_answer(line: u32, answer: &Answer, out: &mut Vec<u8>) -> Resu
     ensures ok { OnOk result (out.new.items ≡ out.old.items ++ text_of line answer.now) }
     ensures err { OnErr result ((result ≡ Err Memory) × StartsWith out.new.items out.old.items) }
 {
+    first_line(line, answer).push_to(out)?;
+    push_rows(answer, out)?;
+    Ok(())
+}
+
+/// Appends the lines of an answer that follow its first line.
+fn push_rows(answer: &Answer, out: &mut Vec<u8>) -> Result<(), Refusal>
+    ensures ok { OnOk result (out.new.items ≡ out.old.items ++ rows_of answer.now) }
+    ensures err { OnErr result ((result ≡ Err Memory) × StartsWith out.new.items out.old.items) }
+{
     match answer {
-        Answer::Done => done_line().push_to(out),
-        Answer::Value(value) => value_line(*value).push_to(out),
-        Answer::Raised(value, fired) => push_raised(*value, fired.as_slice(), out),
-        Answer::Info(info) => info_text(info, out),
-        Answer::Show(rows) => push_show(rows.as_slice(), out),
-        Answer::Report(report) => push_report(report, out),
-        Answer::Refused(refusal) => refusal_line(line, *refusal).push_to(out),
+        Answer::Raised(_, fired) => push_fired(fired.as_slice(), out),
+        Answer::Info(info) => push_each(info.fences.as_slice(), out),
+        Answer::Show(rows) => show_text(rows.as_slice(), out),
+        Answer::Report(report) => report_text(report, out),
+        Answer::Done | Answer::Value(_) | Answer::Refused(_) => Ok(()),
     }
+}
+
+/// The first line of the text of an answer of line `line`, with its line feed.
+///
+/// Does not allocate.
+pub fn first_line(line: u32, answer: &Answer) -> TextLine
+    ensures line { result ≡ first_line_of line answer.now }
+    ensures begins { StartsWith (text_of line answer.now) result }
+{
+    let mut text = TextLine::new();
+    match answer {
+        Answer::Done => text.put(b"ok\n"),
+        Answer::Value(value) | Answer::Raised(value, _) => put_numbered(&mut text, b"ok", *value),
+        Answer::Info(info) => put_info(&mut text, info),
+        Answer::Show(rows) => put_numbered(&mut text, b"ok", rows.as_slice().len() as u64),
+        Answer::Report(report) => put_count(&mut text, report.row_count()),
+        Answer::Refused(refusal) => put_refusal(&mut text, line, *refusal),
+    }
+    text
 }
 
 /// The text of an answer that reports nothing but success.
@@ -82,11 +110,18 @@ pub fn refusal_line(line: u32, refusal: Refusal) -> TextLine
     ensures { result ≡ refusal_text line refusal }
 {
     let mut text = TextLine::new();
+    put_refusal(&mut text, line, refusal);
+    text
+}
+
+fn put_refusal(text: &mut TextLine, line: u32, refusal: Refusal)
+    requires empty { text.old ≡ [] }
+    ensures { text.new ≡ refusal_text line refusal }
+{
     text.put(b"err");
     text.put_number(u64::from(refusal.number()));
     text.put_word(refusal.name().as_bytes());
-    put_details(&mut text, line, refusal);
-    text
+    put_details(text, line, refusal);
 }
 
 /// Puts the details of a refusal, which follow its name, and the line feed.
@@ -116,35 +151,18 @@ fn put_numbered(line: &mut TextLine, word: &[u8], number: u64)
     line.put(b"\n");
 }
 
-/// The first line of the text of an answer of line `line`, with its line feed.
-///
-/// Does not allocate.
-pub fn first_line(line: u32, answer: &Answer) -> TextLine
-    ensures line { result ≡ first_line_of line answer.now }
-    ensures begins { StartsWith (text_of line answer.now) result }
-{
-    match answer {
-        Answer::Done => done_line(),
-        Answer::Value(value) | Answer::Raised(value, _) => value_line(*value),
-        Answer::Info(info) => info_line(info),
-        Answer::Show(rows) => value_line(rows.as_slice().len() as u64),
-        Answer::Report(report) => count_line(report.row_count()),
-        Answer::Refused(refusal) => refusal_line(line, *refusal),
-    }
-}
-
-fn push_raised(value: u64, fired: &[u64], out: &mut Vec<u8>) -> Result<(), Refusal>
-    ensures ok { OnOk result (out.new.items ≡ out.old.items ++ raised_text value fired.now) }
+/// Appends a line for each callback that fired.
+fn push_fired(fired: &[u64], out: &mut Vec<u8>) -> Result<(), Refusal>
+    ensures ok { OnOk result (out.new.items ≡ out.old.items ++ flat_map fired_text fired.now) }
     ensures err { OnErr result ((result ≡ Err Memory) × StartsWith out.new.items out.old.items) }
 {
-    value_line(value).push_to(out)?;
     for cookie in fired {
-        push_fired(*cookie, out)?;
+        push_callback(*cookie, out)?;
     }
     Ok(())
 }
 
-fn push_fired(cookie: u64, out: &mut Vec<u8>) -> Result<(), Refusal>
+fn push_callback(cookie: u64, out: &mut Vec<u8>) -> Result<(), Refusal>
     ensures ok { OnOk result (out.new.items ≡ out.old.items ++ fired_text cookie) }
     ensures err { OnErr result ((result ≡ Err Memory) × StartsWith out.new.items out.old.items) }
 {
@@ -165,17 +183,24 @@ pub fn info_text(info: &Info, out: &mut Vec<u8>) -> Result<(), Refusal>
     Ok(())
 }
 
-/// The line of the file: its name, its status and the number of its fences.
 fn info_line(info: &Info) -> TextLine
     ensures { result ≡ info_line info.now.name info.now.status (length info.now.fences) }
 {
     let mut line = TextLine::new();
+    put_info(&mut line, info);
+    line
+}
+
+/// Puts the line of the file: its name, its status and the number of its fences.
+fn put_info(line: &mut TextLine, info: &Info)
+    requires empty { line.old ≡ [] }
+    ensures { line.new ≡ info_line info.now.name info.now.status (length info.now.fences) }
+{
     line.put(b"ok");
     line.put_word(info.name.as_bytes());
     line.put_word(status_text(info.status));
     line.put_number(info.fences.as_slice().len() as u64);
     line.put(b"\n");
-    line
 }
 
 /// Appends the line of a fence to `out`: its timeline, driver, point and status.
@@ -207,31 +232,12 @@ fn put_driver(line: &mut TextLine, driver: Maker)
     }
 }
 
-fn push_show(rows: &[ShowRow], out: &mut Vec<u8>) -> Result<(), Refusal>
-    ensures ok { OnOk result (out.new.items ≡ out.old.items ++ show_text rows.now) }
-    ensures err { OnErr result ((result ≡ Err Memory) × StartsWith out.new.items out.old.items) }
+/// Puts the line with the number of a report's rows, as `put_numbered` does.
+fn put_count(line: &mut TextLine, count: u128)
+    requires empty { line.old ≡ [] }
+    ensures { line.new ≡ value_line count }
 {
-    value_line(rows.len() as u64).push_to(out)?;
-    show_text(rows, out)?;
-    Ok(())
-}
-
-fn push_report(report: &Report, out: &mut Vec<u8>) -> Result<(), Refusal>
-    ensures ok { OnOk result (out.new.items ≡ out.old.items ++ report_text report.now) }
-    ensures err { OnErr result ((result ≡ Err Memory) × StartsWith out.new.items out.old.items) }
-{
-    count_line(report.row_count()).push_to(out)?;
-    report_text(report, out)?;
-    Ok(())
-}
-
-/// The line with the number of a report's rows.
-fn count_line(count: u128) -> TextLine
-    ensures { result ≡ value_line count }
-{
-    let mut line = TextLine::new();
     line.put(b"ok");
     line.put_word(Buffer::new().format(count).as_bytes());
     line.put(b"\n");
-    line
 }
