@@ -68,7 +68,10 @@ fn are_allowed(bytes: &[u8]) -> bool
 fn is_allowed(byte: u8) -> bool
     ensures { result ≡ is_name_byte byte }
 {
-    matches!(byte, b'A'..=b'Z' | b'a'..=b'z' | b'0'..=b'9' | b'_' | b'.' | b'-')
+    byte.is_ascii_lowercase()
+        || byte.is_ascii_digit()
+        || byte.is_ascii_uppercase()
+        || matches!(byte, b'_' | b'.' | b'-')
 }
 
 impl PartialEq for Name {
