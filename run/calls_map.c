@@ -131,8 +131,8 @@ static void *refused_map(void)
     EXPORT void *name(void *at, size_t length, int protection, int flags, int file, off_t from)     \
     {                                                                                               \
         NEXT(name);                                                                                 \
-        void *mapped =                                                                              \
-            !(flags & MAP_ANONYMOUS) && shim_is_device(file) ? refused_map() : next(at, length, protection, flags, file, from); \
+        bool is_device = !(flags & MAP_ANONYMOUS) && shim_is_device(file);                          \
+        void *mapped = is_device ? refused_map() : next(at, length, protection, flags, file, from); \
                                                                                                     \
         if (mapped != MAP_FAILED || errno != ENODEV || flags & MAP_ANONYMOUS)                       \
             return mapped;                                                                          \

@@ -1,5 +1,5 @@
-/* A folder of a run, which contains the socket of its service, or a temporary trace. The folder is locked while the run lasts, so that a
- * later run can recognise and remove the folder of a run that was killed. */
+/* A folder of a run, which contains the socket of its service, or a temporary trace. The folder is locked while the run
+ * lasts, so that a later run can recognise and remove the folder of a run that was killed. */
 #ifndef BIM_RUN_FOLDER_H
 #define BIM_RUN_FOLDER_H
 

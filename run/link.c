@@ -3,9 +3,9 @@
 #include "calls.h"
 #include "channel.h"
 #include "kept.h"
+#include "loss.h"
 #include "numbers.h"
 #include "pass.h"
-#include "loss.h"
 #include "shim.h"
 
 #include <errno.h>

@@ -1,9 +1,9 @@
 /* The service in the process itself (--local). */
 #define _GNU_SOURCE
 #include "calls.h"
-#include "registry.h"
-#include "numbers.h"
 #include "loss.h"
+#include "numbers.h"
+#include "registry.h"
 #include "shim.h"
 
 #include <errno.h>

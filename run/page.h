@@ -1,5 +1,6 @@
-/* A page that a service shares read-only with its processes. It says whether there ever was a buffer and whether the server is awake, and caches the
- * information of signalled files, which never changes again, so that a process can report them without a request. */
+/* A page that a service shares read-only with its processes. It says whether there ever was a buffer and whether the
+ * server is awake, and caches the information of signalled files, which never changes again, so that a process can
+ * report them without a request. */
 #ifndef BIM_RUN_PAGE_H
 #define BIM_RUN_PAGE_H
 
