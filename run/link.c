@@ -236,18 +236,26 @@ static int ask(const struct bim_request *request, int passed, struct bim_answer 
     return error ? error : try_to_ask(request, passed, answer, given);
 }
 
+static int join_apart(void)
+{
+    struct rlimit limit;
+    int socket = join();
+
+    if (socket >= 0 || errno != EMFILE || !numbers_borrow(&limit))
+        return socket;
+    socket = join();
+    numbers_return(&limit);
+    return socket;
+}
+
 /* Uses a connection of its own for this request, since the thread with the lock may be using the process's
  * connection. */
 static int ask_apart(const struct bim_request *request, int passed, struct bim_answer *answer, int *given)
 {
-    struct rlimit limit;
-    bool raised = numbers_borrow(&limit);
-    int socket = join(), error = socket < 0 ? errno : 0;
+    int socket = join_apart(), error;
 
-    if (raised)
-        numbers_return(&limit);
-    if (error)
-        return error;
+    if (socket < 0)
+        return errno;
     error = ask_by_socket(socket, request, passed, answer, given);
     call_close(socket);
     return error;
@@ -265,17 +273,14 @@ static bool lives(void)
     char path[sizeof((struct sockaddr_un *)NULL)->sun_path];
     const char *socket = shim_service(), *name = strrchr(socket, '/');
     struct flock found = { .l_type = F_WRLCK, .l_whence = SEEK_SET };
-    struct rlimit limit;
-    bool raised = numbers_borrow(&limit), is_held;
+    bool is_held;
     int folder;
 
     snprintf(path, sizeof path, "%.*s", name ? (int)(name - socket) : 0, socket);
-    folder = syscall(SYS_openat, AT_FDCWD, path, O_RDONLY | O_DIRECTORY | O_CLOEXEC, 0);
+    folder = numbers_open(path);
     is_held = folder >= 0 && syscall(SYS_fcntl, folder, F_GETLK, &found) == 0 && found.l_type != F_UNLCK;
     if (folder >= 0)
         call_close(folder);
-    if (raised)
-        numbers_return(&limit);
     return is_held;
 }
 

@@ -94,14 +94,11 @@ static bool all_show_another(int list)
 static bool lists_others_only(int set)
 {
     char path[64];
-    struct rlimit limit;
-    bool raised = numbers_borrow(&limit), is_innocent;
+    bool is_innocent;
     int list;
 
     snprintf(path, sizeof path, "/proc/self/fdinfo/%d", set);
-    list = syscall(SYS_openat, AT_FDCWD, path, O_RDONLY | O_CLOEXEC, 0);
-    if (raised)
-        numbers_return(&limit);
+    list = numbers_open(path);
     is_innocent = list >= 0 && all_show_another(list);
     if (list >= 0)
         call_close(list);

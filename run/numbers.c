@@ -57,6 +57,18 @@ void numbers_return(const struct rlimit *was)
         setrlimit(RLIMIT_NOFILE, &found);
 }
 
+int numbers_open(const char *path)
+{
+    struct rlimit limit;
+    int file = syscall(SYS_openat, AT_FDCWD, path, O_RDONLY | O_CLOEXEC, 0);
+
+    if (file >= 0 || errno != EMFILE || !numbers_borrow(&limit))
+        return file;
+    file = syscall(SYS_openat, AT_FDCWD, path, O_RDONLY | O_CLOEXEC, 0);
+    numbers_return(&limit);
+    return file;
+}
+
 int numbers_move(int file, struct numbers to, int how)
 {
     int moved = to.from <= INT32_MAX ? syscall(SYS_fcntl, file, how, (int)to.from) : -1;

@@ -26,6 +26,9 @@ bool numbers_borrow(struct rlimit *was);
 /* Restores the limit, unless another thread has changed it since. */
 void numbers_return(const struct rlimit *was);
 
+/* Opens a file for reading, if no other number is free by one above the soft limit. Returns -1 with errno on failure. */
+int numbers_open(const char *path);
+
 /* Moves a descriptor there; or, if no such number is free, out of the way of 0, 1 and 2. Returns the new number, or -1
  * with errno if there is none, and then `file` stays. `how` is F_DUPFD or F_DUPFD_CLOEXEC. */
 int numbers_move(int file, struct numbers to, int how);
