@@ -26,17 +26,24 @@ static int give_up(int memory)
     return -1;
 }
 
-/* Makes memory of `size` bytes. Returns -1 with errno on failure. Read-only memory is sealed, so that it can't be
- * mapped writable later. */
+/* Headers older than Linux 5.1 lack this seal. */
+#ifndef F_SEAL_FUTURE_WRITE
+#define F_SEAL_FUTURE_WRITE 0x0010
+#endif
+
+/* Makes memory of `size` bytes. Returns -1 with errno on failure. Read-only memory is sealed, or opened read-only, which
+ * needs /proc, so that it can't be mapped writable later. */
 static int new_memory(uint64_t size, uint32_t flags)
 {
-    int memory = memfd_create("dmabuf", MFD_CLOEXEC), fixed;
+    int memory = memfd_create("dmabuf", MFD_CLOEXEC | (flags == O_RDONLY ? MFD_ALLOW_SEALING : 0)), fixed;
 
     if (memory < 0)
         return -1;
     if (is_too_large(size) || ftruncate(memory, size) || syscall(SYS_fchmod, memory, BIM_MEMORY_MARK & ~S_IFMT))
         return give_up(memory);
-    fixed = flags == O_RDONLY ? call_open_again(memory) : -1;
+    if (flags != O_RDONLY || syscall(SYS_fcntl, memory, F_ADD_SEALS, F_SEAL_FUTURE_WRITE | F_SEAL_SEAL) == 0)
+        return memory;
+    fixed = call_open_again(memory);
     if (fixed < 0)
         return memory;
     call_close(memory);
