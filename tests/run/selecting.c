@@ -63,9 +63,10 @@ static void counts(int full, int empty)
         expect_readable(all[i], FD_SETSIZE, full, 1);
         expect_readable(all[i], FD_SETSIZE, empty, 0);
     }
+    if (most_count < INT_MAX)
+        return;
     FAILS(select(-1, bounded(FD_SETSIZE), NULL, NULL, &none), EINVAL);
-    if (most_count == INT_MAX)
-        FAILS(select(1, (fd_set *)(void *)((char *)bounded(64) + 8), NULL, NULL, &none), EFAULT);
+    FAILS(select(1, (fd_set *)(void *)((char *)bounded(64) + 8), NULL, NULL, &none), EFAULT);
 }
 
 /* Sets with more bits, for descriptors above FD_SETSIZE. */
