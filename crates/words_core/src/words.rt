@@ -77,8 +77,7 @@ impl Model for Words {
 
 impl Words {
     /// A set of words that are all 0, and its first seat, which has all parts. The words take 64 bytes for each context and buffer (as
-    /// for one buffer if there is none), and 8 for each flag. The call for C programs, `bim_words_open`, has the sizes in
-    /// another order: contexts, flags, buffers.
+    /// for one buffer if there is none), and 8 for each flag.
     ///
     /// Fails, in this order, with `Limit(Timelines)` if the contexts are not 1 to `CONTEXTS`, with `Limit(Buffers)` if
     /// there are more than `BUFFERS` buffers, with `Limit(Flags)` if there are more than `FLAGS` flags, and with
