@@ -8,7 +8,7 @@ use Rattle.std.proofs.lemmas.Bool.{cases_Bool, false≢true, and_parts}
 use Rattle.std.proofs.lemmas.List.Sums.{sum_by_push}
 use Rattle.point_core.specs.declared.entry.Entry.{Entry}
 use Rattle.point_core.specs.declared.refusal.Refusal.TheVariants.{NoEntry, Flags}
-use Rattle.point_core.specs.Agreement.{AgreesAbove, as_entry, point_of, listing}
+use Rattle.point_core.specs.Agreement.{AgreesAbove, as_entry, point_of}
 use Rattle.point_core.specs.Named.{is_named, same_name}
 use Rattle.point_core.proofs.Agreement.{AgreesAbove-refl, AgreesAbove-trans, AgreesAbove-same, AgreesAbove-append, AgreesAbove-comm}
 use Rattle.point_core.proofs.Named.{has_named-same_names}
@@ -22,8 +22,9 @@ use Rattle.desk_core.specs.theorem.Answer.{answer_to, causes, cause, first_of, i
 use Rattle.desk_core.proofs.Buffers.{names-put_into, buffer_put_set-put, buffer_put_set-other}
 use Rattle.desk_core.proofs.Sound.{first_of-none, not-false, causes-accepted}
 use Rattle.explore_core.specs.Alike.{AreAlike, IsSameWatch, after_answer}
-use Rattle.explore_core.specs.Independence.{reads_file, LeavesAlone, IsNarrow, AreIndependent, Passes, IsRoomy, Commute}
+use Rattle.explore_core.specs.Independence.{Bounds, IsWithin, reads_file, LeavesAlone, IsNarrow, AreIndependent, Passes, IsRoomy, Commute}
 use Rattle.explore_core.proofs.Leaving.{itself, turned, or_true, or_first, FindsSame, finds-itself, finds-after, same-answer, same-context, same-put_set, buffer_names-after, watches-after}
+use Rattle.explore_core.proofs.Reaching.{same-listing, exported-seen}
 use Rattle.explore_core.proofs.Naming.{named-push, named-without_named, count_by-without_named, length-without_named}
 
 abbrev name_of : MadeFile → List ℕ
@@ -72,14 +73,14 @@ module _ (r s : Rise) (keeps : (t : Timeline) → (r.1 t).name ≡ t.name) (keep
       ap (λ u. u ∷ map (risen_one r) (map (risen_one s) ts)) (risen-by (same_name t.name r.0) (same_name t.name s.0) t refl refl)
       ∙ ap (λ us. risen_one s (risen_one r t) ∷ us) (risen-both ts)
 
-timelines-commute : (asked : List ℕ → Bool) (c d : Command) → LeavesAlone asked c d → (ts : List Timeline) → risen (rise_of c) (risen (rise_of d) ts) ≡ risen (rise_of d) (risen (rise_of c) ts)
-timelines-commute asked (command.Inc x n) (command.Inc y m) leaves ts = risen-both (x, raised_by n) (y, raised_by m) (λ t. refl) (λ t. refl) (turned y x leaves.0) ts
-timelines-commute asked (command.Inc x n) (command.Shut y) leaves ts = risen-both (x, raised_by n) (y, closed_timeline) (λ t. refl) (λ t. refl) (turned y x leaves.0) ts
-timelines-commute asked (command.Shut x) (command.Inc y m) leaves ts = risen-both (x, closed_timeline) (y, raised_by m) (λ t. refl) (λ t. refl) (turned y x leaves.0) ts
-timelines-commute asked (command.Shut x) (command.Shut y) leaves ts = risen-both (x, closed_timeline) (y, closed_timeline) (λ t. refl) (λ t. refl) (turned y x leaves.0) ts
-timelines-commute asked (command.Inc x n) _ leaves ts = refl
-timelines-commute asked (command.Shut x) _ leaves ts = refl
-timelines-commute asked _ d leaves ts = refl
+timelines-commute : (asked : List ℕ → Bool) (bounds : Bounds) (c d : Command) → LeavesAlone asked bounds c d → (ts : List Timeline) → risen (rise_of c) (risen (rise_of d) ts) ≡ risen (rise_of d) (risen (rise_of c) ts)
+timelines-commute asked bounds (command.Inc x n) (command.Inc y m) leaves ts = risen-both (x, raised_by n) (y, raised_by m) (λ t. refl) (λ t. refl) (turned y x leaves.0) ts
+timelines-commute asked bounds (command.Inc x n) (command.Shut y) leaves ts = risen-both (x, raised_by n) (y, closed_timeline) (λ t. refl) (λ t. refl) (turned y x leaves.0) ts
+timelines-commute asked bounds (command.Shut x) (command.Inc y m) leaves ts = risen-both (x, closed_timeline) (y, raised_by m) (λ t. refl) (λ t. refl) (turned y x leaves.0) ts
+timelines-commute asked bounds (command.Shut x) (command.Shut y) leaves ts = risen-both (x, closed_timeline) (y, closed_timeline) (λ t. refl) (λ t. refl) (turned y x leaves.0) ts
+timelines-commute asked bounds (command.Inc x n) _ leaves ts = refl
+timelines-commute asked bounds (command.Shut x) _ leaves ts = refl
+timelines-commute asked bounds _ d leaves ts = refl
 
 -- files
 
@@ -174,7 +175,7 @@ length-changed reach Keeps fs = omega arith
 -- a file that is made sooner or later has the same points, and lists the same if it is one that `info` may query
 
 abbrev AreListedSame : (List ℕ → Bool) → List ℕ → List ℕ → FileChange → Type 0
-AreListedSame asked reach later (Makes f put one) = asked f ≡ true → one ≡ false → reach ≡ later
+AreListedSame asked reach later (Makes f put one) = asked f ≡ true → listed_points (file_made f put one reach) ≡ listed_points (file_made f put one later)
 AreListedSame asked reach later _ = ⊤
 
 put-found : (reach later : List ℕ) (c : FileChange) (name : List ℕ) (o : Option MadeFile) → put_in (found reach c name o) ≡ put_in (found later c name o)
@@ -187,10 +188,6 @@ put-found reach later (Makes f put one) name o = by o (same_name f name)
 put-found reach later (Closes f) name o = refl
 put-found reach later Keeps name o = refl
 
-one-listed : (f : List ℕ) (put : List Entry) (one : Bool) (reach later : List ℕ) → (one ≡ false → reach ≡ later) → listed_points (file_made f put one reach) ≡ listed_points (file_made f put one later)
-one-listed f put true reach later same = refl
-one-listed f put false reach later same = ap (listing put 0) (same refl)
-
 list-found : (asked : List ℕ → Bool) (reach later : List ℕ) (c : FileChange) (name : List ℕ) (o : Option MadeFile) → AreListedSame asked reach later c → asked name ≡ true
     → option_map listed_points (found reach c name o) ≡ option_map listed_points (found later c name o)
 list-found asked reach later (Makes f put one) name o same is = by o (same_name f name) refl
@@ -198,7 +195,7 @@ list-found asked reach later (Makes f put one) name o same is = by o (same_name 
     by : (o : Option MadeFile) (b : Bool) → same_name f name ≡ b
         → option_map listed_points (option_or o (cond b (Some (file_made f put one reach)) None)) ≡ option_map listed_points (option_or o (cond b (Some (file_made f put one later)) None))
     by (Some g) b is' = refl
-    by None true is' = ap Some (one-listed f put one reach later (same (ap asked (same_text f name (sym is')) ∙ is)))
+    by None true is' = ap Some (same (ap asked (same_text f name (sym is')) ∙ is))
     by None false is' = refl
 list-found asked reach later (Closes f) name o same is = refl
 list-found asked reach later Keeps name o same is = refl
@@ -383,9 +380,9 @@ same-put (command.Import b f flags) s = rw (same-put_set s f (itself f)) refl
 same-put _ s = refl
 
 same-list : {asked : List ℕ → Bool} (c : Command) {w v : World} → FindsSame asked c w v → AreListedSame asked (reach_of v.timelines) (reach_of w.timelines) (file_change w c)
-same-list (command.Fence f t p) s = λ is one. absurd (false≢true (sym one))
-same-list (command.Merge f a b) s = λ is one. ap reach_of (sym (s.reach is))
-same-list (command.Export f b flags) s = λ is one. ap reach_of (sym (s.reach is))
+same-list (command.Fence f t p) s = λ is. refl
+same-list (command.Merge f a b) {w} {v} s = λ is. sym (same-listing w.timelines v.timelines (put_set w.files a ++ put_set w.files b) 0 (s.seen is))
+same-list (command.Export f b flags) {w} {v} s = λ is. sym (same-listing w.timelines v.timelines (exported flags (buffer_put_set w.buffers b)) 0 (exported-seen w.timelines v.timelines flags (buffer_put_set w.buffers b) (s.seen is)))
 same-list _ s = tt
 
 -- the file that a command makes or closes is one that it depends on
@@ -396,25 +393,25 @@ touches-reads w (command.Export f b flags) name is = is
 touches-reads w (command.Close f) name is = is
 touches-reads w _ name is = absurd (false≢true is)
 
-touches-leaves : (asked : List ℕ → Bool) (w : World) (c d : Command) (name : List ℕ) → LeavesAlone asked c d → touches (file_change w c) name ≡ true → reads_file d name ≡ false
-touches-leaves asked w (command.Fence f t p) d name leaves is = ap (reads_file d) (sym (same_text f name (sym is))) ∙ leaves
-touches-leaves asked w (command.Merge f a b) d name leaves is = ap (reads_file d) (sym (same_text f name (sym is))) ∙ leaves
-touches-leaves asked w (command.Export f b flags) d name leaves is = ap (reads_file d) (sym (same_text f name (sym is))) ∙ leaves
-touches-leaves asked w (command.Close f) d name leaves is = ap (reads_file d) (sym (same_text f name (sym is))) ∙ leaves
-touches-leaves asked w _ d name leaves is = absurd (false≢true is)
+touches-leaves : (asked : List ℕ → Bool) (bounds : Bounds) (w : World) (c d : Command) (name : List ℕ) → LeavesAlone asked bounds c d → touches (file_change w c) name ≡ true → reads_file d name ≡ false
+touches-leaves asked bounds w (command.Fence f t p) d name leaves is = ap (reads_file d) (sym (same_text f name (sym is))) ∙ leaves
+touches-leaves asked bounds w (command.Merge f a b) d name leaves is = ap (reads_file d) (sym (same_text f name (sym is))) ∙ leaves
+touches-leaves asked bounds w (command.Export f b flags) d name leaves is = ap (reads_file d) (sym (same_text f name (sym is))) ∙ leaves
+touches-leaves asked bounds w (command.Close f) d name leaves is = ap (reads_file d) (sym (same_text f name (sym is))) ∙ leaves
+touches-leaves asked bounds w _ d name leaves is = absurd (false≢true is)
 
-separate-changes : (asked : List ℕ → Bool) (w : World) (c d : Command) → LeavesAlone asked c d → (name : List ℕ) → touches (file_change w c) name ≡ true → touches (file_change w d) name ≡ false
-separate-changes asked w c d leaves name is = elim (cases_Bool (touches (file_change w d) name)) [
-  | inl is' ↦ absurd (false≢true (sym (touches-leaves asked w c d name leaves is) ∙ touches-reads w d name is'))
+separate-changes : (asked : List ℕ → Bool) (bounds : Bounds) (w : World) (c d : Command) → LeavesAlone asked bounds c d → (name : List ℕ) → touches (file_change w c) name ≡ true → touches (file_change w d) name ≡ false
+separate-changes asked bounds w c d leaves name is = elim (cases_Bool (touches (file_change w d) name)) [
+  | inl is' ↦ absurd (false≢true (sym (touches-leaves asked bounds w c d name leaves is) ∙ touches-reads w d name is'))
   | inr isnt ↦ isnt
 ]
 
-module _ (asked : List ℕ → Bool) (w : World) (c d : Command) (roomy : IsRoomy w) (i : AreIndependent asked c d) where
+module _ (asked : List ℕ → Bool) (bounds : Bounds) (w : World) (c d : Command) (roomy : IsRoomy w) (within : IsWithin bounds w) (i : AreIndependent asked bounds c d) (made : first_of (causes w c) ≡ None) (made' : first_of (causes w d) ≡ None) where
   finds-c : FindsSame asked c w (after w d)
-  finds-c = finds-after w asked c d i.second i.backward roomy
+  finds-c = finds-after w asked bounds c roomy within d i.second i.backward made'
 
   finds-d : FindsSame asked d w (after w c)
-  finds-d = finds-after w asked d c i.first i.forward roomy
+  finds-d = finds-after w asked bounds d roomy within c i.first i.forward made
 
   timelines-there : (after (after w d) c).timelines ≡ risen (rise_of c) (risen (rise_of d) w.timelines)
   timelines-there = timelines-after (after w d) c i.first ∙ ap (risen (rise_of c)) (timelines-after w d i.second)
@@ -452,17 +449,17 @@ module _ (asked : List ℕ → Bool) (w : World) (c d : Command) (roomy : IsRoom
   files-seen see same = ap see files-there ∙ same ∙ ap see (sym files-here)
 
   separate : (name : List ℕ) → touches (file_change w c) name ≡ true → touches (file_change w d) name ≡ false
-  separate = separate-changes asked w c d i.forward
+  separate = separate-changes asked bounds w c d i.forward
 
-  worlds-commute : first_of (causes w c) ≡ None → first_of (causes w d) ≡ None → AreAlike asked (after (after w d) c) (after (after w c) d)
-  worlds-commute is is' =
+  worlds-commute : AreAlike asked (after (after w d) c) (after (after w c) d)
+  worlds-commute =
       let C = file_change w c in
       let D = file_change w d in
       let now = reach_of w.timelines in
       let past-d = reach_of (after w d).timelines in
       let past-c = reach_of (after w c).timelines in
       record {
-        timelines = timelines-there ∙ timelines-commute asked c d i.forward w.timelines ∙ sym timelines-here;
+        timelines = timelines-there ∙ timelines-commute asked bounds c d i.forward w.timelines ∙ sym timelines-here;
         file_counts = λ n. files-seen (λ fs. count_of fs n) (counts-commute C D separate past-d now now past-c w.files n);
         files_made = files-seen length (lengths-commute C D separate past-d now now past-c w.files);
         files = λ n. AgreesAbove-same (reach_of (after (after w d) c).timelines)
@@ -475,7 +472,7 @@ module _ (asked : List ℕ → Bool) (w : World) (c d : Command) (roomy : IsRoom
         buffer_names = sym (buffer_names-after (after w d) c i.first) ∙ sym (buffer_names-after w d i.second) ∙ buffer_names-after w c i.first ∙ buffer_names-after (after w c) d i.second;
         buffers = λ n.
             rw (buffers-there, buffers-here)
-            (puts-commute (reach_of (after (after w d) c).timelines) (put_by w c) (put_by w d) w.buffers n (fits-accepted w c is) (fits-accepted w d is'));
+            (puts-commute (reach_of (after (after w d) c).timelines) (put_by w c) (put_by w d) w.buffers n (fits-accepted w c made) (fits-accepted w d made'));
         watches = rw (watches-after (after w d) c i.first (watches-after w d i.second roomy.watches), watches-after (after w c) d i.second (watches-after w c i.first roomy.watches)) tt;
         watches_made =
             watches_made-after (after w d) c i.first ∙ watches_made-after w d i.second ∙ sym (watches_made-after (after w c) d i.second ∙ watches_made-after w c i.first);
@@ -483,26 +480,26 @@ module _ (asked : List ℕ → Bool) (w : World) (c d : Command) (roomy : IsRoom
 
 -- refused or not
 
-finds-answered : (asked : List ℕ → Bool) (w : World) (c d : Command) → IsRoomy w → IsNarrow d → LeavesAlone asked d c → FindsSame asked c w (after_answer w d)
-finds-answered asked w c d roomy narrow leaves = by (is_refused (answer_to w d))
+finds-answered : (asked : List ℕ → Bool) (bounds : Bounds) (w : World) (c d : Command) → IsRoomy w → IsWithin bounds w → IsNarrow d → LeavesAlone asked bounds d c → FindsSame asked c w (after_answer w d)
+finds-answered asked bounds w c d roomy within narrow leaves = by (is_refused (answer_to w d)) refl
   where
-    by : (r : Bool) → FindsSame asked c w (if r then w else after w d)
-    by true = finds-itself asked c w roomy.watches
-    by false = finds-after w asked c d narrow leaves roomy
+    by : (r : Bool) → is_refused (answer_to w d) ≡ r → FindsSame asked c w (if r then w else after w d)
+    by true is = finds-itself asked c w roomy.watches
+    by false is = finds-after w asked bounds c roomy within d narrow leaves (causes-accepted w d is)
 
-module _ (asked : List ℕ → Bool) (w : World) (c d : Command) (roomy : IsRoomy w) (i : AreIndependent asked c d) (passes : Passes w c) (passes' : Passes w d) where
+module _ (asked : List ℕ → Bool) (bounds : Bounds) (w : World) (c d : Command) (roomy : IsRoomy w) (within : IsWithin bounds w) (i : AreIndependent asked bounds c d) (passes : Passes w c) (passes' : Passes w d) where
   first-same : answer_to w c ≡ answer_to (after_answer w d) c
-  first-same = same-answer c i.first passes (finds-answered asked w c d roomy i.second i.backward)
+  first-same = same-answer c i.first passes (finds-answered asked bounds w c d roomy within i.second i.backward)
 
   second-same : answer_to w d ≡ answer_to (after_answer w c) d
-  second-same = same-answer d i.second passes' (finds-answered asked w d c roomy i.first i.forward)
+  second-same = same-answer d i.second passes' (finds-answered asked bounds w d c roomy within i.first i.forward)
 
   alike-by : (r s : Bool) → is_refused (answer_to w c) ≡ r → is_refused (answer_to w d) ≡ s
       → AreAlike asked (if r then (if s then w else after w d) else after (if s then w else after w d) c) (if s then (if r then w else after w c) else after (if r then w else after w c) d)
   alike-by true true is is' = alike-itself asked w
   alike-by true false is is' = alike-itself asked (after w d)
   alike-by false true is is' = alike-itself asked (after w c)
-  alike-by false false is is' = worlds-commute asked w c d roomy i (causes-accepted w c is) (causes-accepted w d is')
+  alike-by false false is is' = worlds-commute asked bounds w c d roomy within i (causes-accepted w c is) (causes-accepted w d is')
 
   pub commute : Commute asked w c d
   commute = record {

@@ -17,6 +17,7 @@ pub mod Replaying
 pub mod Parting
 pub mod Recording
 pub mod Counting
+pub mod Reaching
 pub mod Leaving
 pub mod Commuting
 pub mod Moving

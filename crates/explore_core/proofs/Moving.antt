@@ -12,7 +12,7 @@ use Rattle.desk_core.specs.Sound.{IsSound}
 use Rattle.explore_core.specs.declared.plan.Step.{Step}
 use Rattle.explore_core.specs.Alike.{AreAlike, after_answer}
 use Rattle.explore_core.specs.Covering.{MayAsk, GoOnAlike}
-use Rattle.explore_core.specs.Independence.{Passes, Commute}
+use Rattle.explore_core.specs.Independence.{Bounds, Commute, Passes}
 use Rattle.explore_core.specs.Moving.{answer_of, answers_of, IsPatient, AllGoBeside, MayGoFirst}
 use Rattle.explore_core.specs.Schedule.{Lines, Standing, Schedule, answer_now, history_with, lines_of, made_by, next_line, can_be_made, place_after, after_line, made_line, after_one, Leads}
 use Rattle.explore_core.specs.Search.{standing_after}
@@ -191,18 +191,18 @@ module _ {asked : List ℕ → Bool} {plan : Lines} (may : MayAsk asked plan) (c
         alike = go-on-trans rest.alike a.alike;
       }
 
-  pub go-first : (others : Schedule) (now later : Standing) → next_line plan now client ≡ Some step → can_be_made now step ≡ true → IsSound (world_of now.history)
-      → AllGoBeside asked plan client step.command now others → Leads plan now others later → MayGoFirst asked plan client step now others later
-  go-first [] now later next can sound beside leads = subst (λ (s : Standing). MayGoFirst asked plan client step now [] s) leads (go-nowhere now next)
-  go-first (other ∷ others) now later next can sound beside leads =
+  pub go-first : (bounds : Bounds) (others : Schedule) (now later : Standing) → next_line plan now client ≡ Some step → can_be_made now step ≡ true → IsSound (world_of now.history)
+      → AllGoBeside asked bounds plan client step.command now others → Leads plan now others later → MayGoFirst asked plan client step now others later
+  go-first bounds [] now later next can sound beside leads = subst (λ (s : Standing). MayGoFirst asked plan client step now [] s) leads (go-nowhere now next)
+  go-first bounds (other ∷ others) now later next can sound beside leads =
       let l = line-made now other (next_line plan now other) leads.0 leads.1 in
       let one = beside.0 in
       let passes = passes-made (world_of now.history) step.command step.waits patient can in
       let passes' = passes-made (world_of now.history) l.line.command l.line.waits (one.patient l.line l.is) l.can in
       let s = swapped asked plan now client step other l.line next l.is one.apart
-      (commute asked (world_of now.history) step.command l.line.command one.roomy (one.independent l.line l.is) passes passes') in
-      let rest = go-first others (after_line now other l.line) later s.next (ap (λ given. not (step.waits && is_refused given)) s.answer ∙ can)
+      (commute asked bounds (world_of now.history) step.command l.line.command one.roomy one.within (one.independent l.line l.is) passes passes') in
+      let rest = go-first bounds others (after_line now other l.line) later s.next (ap (λ given. not (step.waits && is_refused given)) s.answer ∙ can)
       (sound-with now.history l.line.command sound)
-      (subst (λ (n : Standing). AllGoBeside asked plan client step.command n others) (after-is plan now other leads.0 leads.1 ∙ sym l.after) beside.1)
+      (subst (λ (n : Standing). AllGoBeside asked bounds plan client step.command n others) (after-is plan now other leads.0 leads.1 ∙ sym l.after) beside.1)
       (subst (λ (n : Standing). Leads plan n others later) (sym l.after) leads.2) in
       go-before now other l.line others later one.apart l.can l.is sound s rest

@@ -15,7 +15,7 @@ ghost use Rattle.explore_core.specs.Moving.{IsPatient, AllGoBeside, MayGoFirst};
 ghost use Rattle.explore_core.specs.Schedule.{Lines, Standing, Schedule, Leads, ComesTo, IsStuck, IsAnswered, can_be_made, next_line};
 ghost use Rattle.explore_core.specs.Covering.{MayAsk, AreEnough, HasAlike, AnswersThere, IsStuckThere};
 ghost use Rattle.explore_core.specs.Alike.{AsksOnly, AreAlike, after_answer, answers_along};
-ghost use Rattle.explore_core.specs.Independence.{AreIndependent, Commute, IsRoomy, Passes};
+ghost use Rattle.explore_core.specs.Independence.{AreIndependent, Bounds, Commute, IsRoomy, IsWithin, Passes};
 
 /// No command distinguishes alike worlds, and after it they are alike again: so they answer alike forever.
 pub fn alike_worlds_answer_alike()
@@ -41,17 +41,17 @@ pub fn desks_that_look_alike_answer_alike()
 /// Independent commands commute: whichever is made first, both are answered alike, and the worlds after both are alike. So two
 /// schedules that differ only in the order of two such lines give the same answers forever.
 pub fn independent_commands_commute()
-    ensures { (asked : List ℕ → Bool) (w : World) (c d : Command) →
-        IsRoomy w → AreIndependent asked c d → Passes w c → Passes w d → Commute asked w c d }
+    ensures { (asked : List ℕ → Bool) (bounds : Bounds) (w : World) (c d : Command) →
+        IsRoomy w → IsWithin bounds w → AreIndependent asked bounds c d → Passes w c → Passes w d → Commute asked w c d }
 {}
 
 /// A line that can be made, and is independent of the lines that other clients make along a schedule, may be made before them: each
 /// line is answered as it was, and the standings at the end are alike.
 pub fn an_independent_line_may_go_first()
-    ensures { (asked : List ℕ → Bool) (plan : Lines) (client : ℕ) (step : Step) (others : Schedule) (now later : Standing) →
+    ensures { (asked : List ℕ → Bool) (bounds : Bounds) (plan : Lines) (client : ℕ) (step : Step) (others : Schedule) (now later : Standing) →
         MayAsk asked plan → IsSound (world_of now.history) → IsPatient step.command step.waits →
         next_line plan now client ≡ Some step → can_be_made now step ≡ true →
-        AllGoBeside asked plan client step.command now others → Leads plan now others later →
+        AllGoBeside asked bounds plan client step.command now others → Leads plan now others later →
         MayGoFirst asked plan client step now others later }
 {}
 
