@@ -35,9 +35,9 @@ bool channel_is_answered(const struct channel *channel);
 
 /* The process's side, which children don't inherit. */
 struct channel *channel_open(int memory);
-/* Sends a request and waits for its answer. `server` is the processor on which
- * the server looks for requests, or -1. `check` is called from time to time, and doesn't return if the server is
- * lost. Returns false if `doorbell` isn't open. */
+/* Sends a request and waits for its answer. `server` is the processor on which the server looks for requests, or -1.
+ * `check` is called from time to time, and doesn't return if the server is lost. Returns false if `doorbell` isn't
+ * open. */
 bool channel_ask(struct channel *channel, int doorbell, int server, const struct bim_request *request,
                  struct bim_answer *answer, void (*check)(void));
 
