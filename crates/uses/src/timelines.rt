@@ -61,17 +61,21 @@ fn shut(rt: &HostRuntime, calls: &mut Calls, timelines: &mut Timelines, timeline
 /// The status of a point of the first timeline before and after its clock closes, and the joined reach of that closed
 /// context and of both timelines.
 fn copies(rt: &HostRuntime, calls: &mut Calls, timelines: &Timelines) {
-    let late = Point {
-        ctx: Context::at(0),
-        value: 7,
-    };
+    let ctx = Context::at(0);
     let clocks = timelines.clocks();
-    calls.tell(rt, "clocks", &clocks.status(late));
-    calls.tell(rt, "Clocks::shut", &clocks.shut(late.ctx).status(late));
-    let closed = Reach::zero().shut(late.ctx);
+    let open = clocks.status(late_point(ctx));
+    calls.tell(rt, "clocks", &open);
+    let shut = clocks.shut(ctx).status(late_point(ctx));
+    calls.tell(rt, "Clocks::shut", &shut);
+    let closed = Reach::zero().shut(ctx);
     calls.tell(rt, "Reach::shut", &[closed.at(0), closed.at(1)]);
     let joined = closed.joined(&timelines.reach());
     calls.tell(rt, "joined", &[joined.at(0), joined.at(1)]);
+}
+
+/// A point that its timeline has not reached.
+fn late_point(ctx: Context) -> Point {
+    Point { ctx, value: 7 }
 }
 
 fn raised(rt: &HostRuntime, calls: &mut Calls, timelines: &Timelines, timeline: &Name) {
