@@ -1,3 +1,4 @@
+/* SPDX-License-Identifier: MIT OR Apache-2.0 */
 /* libbimphlai: GPU fences without a GPU, for C and C++ programs.
  *
  * Timelines, sync files and the fences of shared buffers, as in Linux's sw_sync, sync_file and dma_resv. There are
