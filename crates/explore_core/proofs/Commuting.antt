@@ -57,7 +57,7 @@ timelines-after w (command.Inc t n) narrow = refl
 timelines-after w (command.Shut t) narrow = refl
 timelines-after w _ narrow = refl
 
--- of two timelines, each changes
+-- two timelines change
 module _ (r s : Rise) (keeps : (t : Timeline) → (r.1 t).name ≡ t.name) (keeps' : (t : Timeline) → (s.1 t).name ≡ t.name) (other : same_name r.0 s.0 ≡ false) where
   risen-by : (a b : Bool) (t : Timeline) → same_name t.name r.0 ≡ a → same_name t.name s.0 ≡ b → risen_one r (if b then s.1 t else t) ≡ risen_one s (if a then r.1 t else t)
   risen-by true true t is is' = absurd (false≢true (sym other ∙ ap (λ n. same_name n s.0) (sym (same_text t.name r.0 (sym is))) ∙ is'))
@@ -311,7 +311,7 @@ fits-with None q bs fits = tt
 fits-with (Some p) q bs fits =
     has_named-same_names (λ (b : MadeBuffer). b.name) (λ (b : MadeBuffer). b.name) (with_this q bs) bs p.0 (names-with q bs) ∙ fits
 
--- of that, what is put into the buffer of a name
+-- what is put into the buffer of a name
 abbrev part : Option Put → List ℕ → List Entry
 part None name = []
 part (Some p) name = if same_name name p.0 then p.1 else []

@@ -53,7 +53,7 @@ apart test a b isnt is = elim (cases_Bool (same_name a b)) [
 pub turned : (a b : List ℕ) → same_name a b ≡ false → same_name b a ≡ false
 turned a b isnt = nat_list_eq_equiv.symm b a ∙ isnt
 
--- timelines, of which one changes
+-- one timeline changes
 
 module _ {X : Type 0} (name_of : X → List ℕ) (f : X → X) (keeps : (x : X) → name_of (f x) ≡ name_of x) where
   found-map : (b : Bool) (x : X) (o p : Option X) → p ≡ option_map f o → cond b (Some (f x)) p ≡ option_map f (cond b (Some x) o)
@@ -66,10 +66,10 @@ module _ {X : Type 0} (name_of : X → List ℕ) (f : X → X) (keeps : (x : X) 
       ap (λ n. cond (same_name n name) (Some (f x)) (named name_of (map f xs) name)) (keeps x)
       ∙ found-map (same_name (name_of x) name) x (named name_of xs name) (named name_of (map f xs) name) (named-map xs name)
 
-has-same : (ts us : List Timeline) → names_of ts ≡ names_of us → (name : List ℕ) → has_timeline ts name ≡ has_timeline us name
+pub has-same : (ts us : List Timeline) → names_of ts ≡ names_of us → (name : List ℕ) → has_timeline ts name ≡ has_timeline us name
 has-same ts us names name = has_named-same_names (λ (t : Timeline). t.name) (λ (t : Timeline). t.name) ts us name names
 
-context-same : (ts us : List Timeline) → names_of ts ≡ names_of us → (name : List ℕ) → context_of ts name ≡ context_of us name
+pub context-same : (ts us : List Timeline) → names_of ts ≡ names_of us → (name : List ℕ) → context_of ts name ≡ context_of us name
 context-same ts us names name =
     ap (λ o. unwrap_or o 0) (sym (position_from-names_of ts name 1) ∙ ap (position_from (same_name name) 1) names ∙ position_from-names_of us name 1)
 
@@ -94,15 +94,15 @@ clock-changed f keeps ts names name has =
     ∙ named-map (λ (t : Timeline). t.name) f keeps ts name
     ∙ ap (option_map f) (timeline_at-clock_named ts name has))
 
-abbrev own : List Timeline → List ℕ → Timeline
+abbrev pub own : List Timeline → List ℕ → Timeline
 own ts name = timeline_of name (clock_named ts name)
 
 module _ (ts : List Timeline) (name other : List ℕ) where
-  clock-raised : (n : ℕ) → has_timeline ts other ≡ true → own (raised ts name n) other ≡ (if same_name other name then raised_by n (own ts other) else own ts other)
+  pub clock-raised : (n : ℕ) → has_timeline ts other ≡ true → own (raised ts name n) other ≡ (if same_name other name then raised_by n (own ts other) else own ts other)
   clock-raised n has =
       clock-changed (λ t. if is_named name t then raised_by n t else t) (λ t. name-if (is_named name t) t (raised_by n t) refl) ts (names_of-raised ts name n) other has
 
-  clock-shut : has_timeline ts other ≡ true → own (shut ts name) other ≡ (if same_name other name then closed_timeline (own ts other) else own ts other)
+  pub clock-shut : has_timeline ts other ≡ true → own (shut ts name) other ≡ (if same_name other name then closed_timeline (own ts other) else own ts other)
   clock-shut has =
       clock-changed (λ t. if is_named name t then closed_timeline t else t) (λ t. name-if (is_named name t) t (closed_timeline t) refl) ts (names_of-shut ts name) other has
 
@@ -296,11 +296,11 @@ or-none : (o : Option MadeFile) → option_or o None ≡ o
 or-none None = refl
 or-none (Some f) = refl
 
-file-made : (fs : List MadeFile) (g : MadeFile) (name : List ℕ) → same_name g.name name ≡ false → file_named fs name ≡ file_named (fs ++ g ∷ []) name
+pub file-made : (fs : List MadeFile) (g : MadeFile) (name : List ℕ) → same_name g.name name ≡ false → file_named fs name ≡ file_named (fs ++ g ∷ []) name
 file-made fs g name isnt =
     sym (or-none (file_named fs name)) ∙ ap (λ b. option_or (file_named fs name) (cond b (Some g) None)) (sym isnt) ∙ sym (named-push name_of fs g name)
 
-file-closed : (fs : List MadeFile) (f name : List ℕ) → same_name f name ≡ false → file_named fs name ≡ file_named (files_without fs f) name
+pub file-closed : (fs : List MadeFile) (f name : List ℕ) → same_name f name ≡ false → file_named fs name ≡ file_named (files_without fs f) name
 file-closed fs f name isnt = ap (λ b. cond b None (file_named fs name)) (sym isnt) ∙ sym (named-without_named name_of fs f name)
 
 put-elsewhere : (bs : List MadeBuffer) (b other : List ℕ) (es : List Entry) → same_name b other ≡ false → buffer_put_set bs other ≡ buffer_put_set (put_into bs b es) other

@@ -21,3 +21,4 @@ pub mod Reaching
 pub mod Leaving
 pub mod Commuting
 pub mod Moving
+pub mod Persistent

@@ -33,13 +33,13 @@ set-set (z ∷ xs) (suc i) (suc j) x y apart = ap (λ zs. z ∷ zs) (set-set xs 
 
 -- a line that was made
 
-record IsLine (now : Standing) (client : ℕ) (o : Option Step) (next : Standing) : Type 0 where
-  line : Step
-  is : o ≡ Some line
-  can : can_be_made now line ≡ true
-  after : after_line now client line ≡ next
+pub record IsLine (now : Standing) (client : ℕ) (o : Option Step) (next : Standing) : Type 0 where
+  pub line : Step
+  pub is : o ≡ Some line
+  pub can : can_be_made now line ≡ true
+  pub after : after_line now client line ≡ next
 
-line-made : (now : Standing) (client : ℕ) (o : Option Step) (next : Standing) → made_line now client o ≡ Some next → IsLine now client o next
+pub line-made : (now : Standing) (client : ℕ) (o : Option Step) (next : Standing) → made_line now client o ≡ Some next → IsLine now client o next
 line-made now client None next goes = absurd (cc)
 line-made now client (Some step) next goes = by (can_be_made now step) refl goes
   where
@@ -65,7 +65,7 @@ record LeadsAlike (asked : List ℕ → Bool) (plan : Lines) (from other : Stand
   answers : answers_of plan other clients ≡ answers_of plan from clients
   alike : GoOnAlike asked to last
 
-after-is : (plan : Lines) (now : Standing) (client : ℕ) (next : Standing) → after_one plan now client ≡ Some next → standing_after plan now client ≡ next
+pub after-is : (plan : Lines) (now : Standing) (client : ℕ) (next : Standing) → after_one plan now client ≡ Some next → standing_after plan now client ≡ next
 after-is plan now client next goes = ap (λ o. unwrap_or o now) goes
 
 module _ {asked : List ℕ → Bool} {plan : Lines} (may : MayAsk asked plan) where

@@ -96,7 +96,7 @@ Passes w _ = ⊤
 abbrev pub AreReached : List ℕ → List Entry → ℕ → Type 0
 AreReached reach es ctx = (e : Entry) → Contains es e → e.point.ctx ≡ ctx → e.point.value ≤ value_at reach ctx
 
--- points of no other timelines are pending in files and buffers
+-- in each file and each buffer only points of these timelines are pending
 pub record IsWithin (bounds : Bounds) (w : World) : Type 0 where
   pub files : (file name : List ℕ) → bounds.file file name ≡ false →
       AreReached (reach_of w.timelines) (put_set w.files file) (context_of w.timelines name)

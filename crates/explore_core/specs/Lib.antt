@@ -5,5 +5,6 @@ pub mod Found
 pub mod Independence
 pub mod Looks
 pub mod Moving
+pub mod Persistent
 pub mod Schedule
 pub mod Search

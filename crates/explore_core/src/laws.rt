@@ -1,6 +1,6 @@
 //! Theorems about alike worlds, desks that look alike, and standings that cover all schedules. Each is the contract of a function
 //! with an empty body, which no caller runs.
-ghost use Rattle.std.specs.Prelude.{◌≡◌, ℕ, Bool, true, List, Some, All};
+ghost use Rattle.std.specs.Prelude.{◌≡◌, ℕ, Bool, true, false, List, Some, All};
 ghost use Rattle.command_core.specs.declared.command.Command.{Command};
 ghost use Rattle.desk_core.specs.theorem.World.{World};
 ghost use Rattle.desk_core.specs.theorem.Answer.{answer_to};
@@ -12,6 +12,7 @@ ghost use Rattle.explore_core.specs.Looks.{LooksAlike};
 ghost use Rattle.command_core.specs.declared.answer.Answer.{Answer};
 ghost use Rattle.explore_core.specs.declared.plan.Step.{Step};
 ghost use Rattle.explore_core.specs.Moving.{IsPatient, AllGoBeside, MayGoFirst};
+ghost use Rattle.explore_core.specs.Persistent.{Choice, ChosenStandStill, IsCalm, StopsOthers};
 ghost use Rattle.explore_core.specs.Schedule.{Lines, Standing, Schedule, Leads, ComesTo, IsStuck, IsAnswered, can_be_made, next_line};
 ghost use Rattle.explore_core.specs.Covering.{MayAsk, AreEnough, HasAlike, AnswersThere, IsStuckThere};
 ghost use Rattle.explore_core.specs.Alike.{AsksOnly, AreAlike, after_answer, answers_along};
@@ -53,6 +54,15 @@ pub fn an_independent_line_may_go_first()
         next_line plan now client ≡ Some step → can_be_made now step ≡ true →
         AllGoBeside asked bounds plan client step.command now others → Leads plan now others later →
         MayGoFirst asked plan client step now others later }
+{}
+
+/// Some clients are chosen, and no other passes its limit before one of them goes. Along a schedule of the others, each chosen
+/// client that is free may go first, and no held one can go.
+pub fn chosen_clients_may_go_first()
+    ensures { (asked : List ℕ → Bool) (bounds : Bounds) (plan : Lines) (now later : Standing) (choice : Choice) (others : Schedule) →
+        MayAsk asked plan → IsCalm bounds plan now → StopsOthers plan now choice →
+        All (λ client. choice.chosen client ≡ false) others → Leads plan now others later →
+        ChosenStandStill asked bounds plan now choice others later }
 {}
 
 /// A search that has visited enough standings (`AreEnough`) has seen every schedule: where it leads, how its lines are answered,
