@@ -112,7 +112,7 @@ module _ {asked : List ℕ → Bool} {plan : Lines} (may : MayAsk asked plan) {s
       let there = made-alike client (next_line plan s client) next refl goes in
       (there.0, ap (made_line t client) (sym (next-same client)) ∙ there.1, there.2)
 
-  none-made : (client : ℕ) (o : Option Step) → next_line plan s client ≡ o → made_line s client o ≡ None → made_line t client o ≡ None
+  pub none-made : (client : ℕ) (o : Option Step) → next_line plan s client ≡ o → made_line s client o ≡ None → made_line t client o ≡ None
   none-made client None is none = refl
   none-made client (Some step) is none = by (can_be_made s step) (can_be_made t step) (can-same step (asks-next client step is)) none
     where

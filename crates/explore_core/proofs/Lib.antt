@@ -22,3 +22,4 @@ pub mod Leaving
 pub mod Commuting
 pub mod Moving
 pub mod Persistent
+pub mod Choosing

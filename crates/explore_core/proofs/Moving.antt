@@ -59,11 +59,11 @@ passes-made w _ waits patient can = tt
 
 -- alike standings answer alike along a schedule
 
-record LeadsAlike (asked : List ℕ → Bool) (plan : Lines) (from other : Standing) (clients : Schedule) (to : Standing) : Type 0 where
-  last : Standing
-  leads : Leads plan other clients last
-  answers : answers_of plan other clients ≡ answers_of plan from clients
-  alike : GoOnAlike asked to last
+pub record LeadsAlike (asked : List ℕ → Bool) (plan : Lines) (from other : Standing) (clients : Schedule) (to : Standing) : Type 0 where
+  pub last : Standing
+  pub leads : Leads plan other clients last
+  pub answers : answers_of plan other clients ≡ answers_of plan from clients
+  pub alike : GoOnAlike asked to last
 
 pub after-is : (plan : Lines) (now : Standing) (client : ℕ) (next : Standing) → after_one plan now client ≡ Some next → standing_after plan now client ≡ next
 after-is plan now client next goes = ap (λ o. unwrap_or o now) goes
@@ -78,7 +78,7 @@ module _ {asked : List ℕ → Bool} {plan : Lines} (may : MayAsk asked plan) wh
       ∙ ap (λ given. record { client = client; place = made_by from client; answer = given } ∷ []) (sym (answer-same may g sound l.line (asks-next may g sound client l.line l.is)))
       ∙ ap (answer_of from client) (sym l.is)
 
-  leads-alike : (clients : Schedule) (from other to : Standing) → IsSound (world_of from.history) → GoOnAlike asked from other → Leads plan from clients to → LeadsAlike asked plan from other clients to
+  pub leads-alike : (clients : Schedule) (from other to : Standing) → IsSound (world_of from.history) → GoOnAlike asked from other → Leads plan from clients to → LeadsAlike asked plan from other clients to
   leads-alike [] from other to sound g leads = subst (λ (s : Standing). LeadsAlike asked plan from other [] s) leads (record { last = other; leads = refl; answers = refl; alike = g })
   leads-alike (client ∷ clients) from other to sound g leads =
       let there = one-alike may g sound client leads.0 leads.1 in

@@ -262,6 +262,7 @@ stand-still {asked} {bounds} {plan} {now} {choice} may calm stops others later u
       free = λ client line chosen is free.
           go-first may client line free.patient bounds others now later is free.can sound
           (go-beside plan now choice sound stops asked bounds calm others [] now later refl (stays-first plan now choice sound stops) unchosen leads client line chosen free) leads;
+      still = λ client chosen. (stay-along plan now choice sound stops others now later (stays-first plan now choice sound stops) unchosen leads).still client chosen;
       held = λ client line chosen is held.
           let s = stay-along plan now choice sound stops others now later (stays-first plan now choice sound stops) unchosen leads in
           not-made plan later client line (still-next plan now choice later client s chosen ∙ is) (stays-held plan now choice sound later s line held);

@@ -51,7 +51,7 @@ comes-before plan schedule now n comes =
 
 -- each schedule leads to a sound world
 
-sound-leads : (plan : Lines) (from : Standing) (schedule : Schedule) (to : Standing) → Leads plan from schedule to → IsSound (world_of from.history) → IsSound (world_of to.history)
+pub sound-leads : (plan : Lines) (from : Standing) (schedule : Schedule) (to : Standing) → Leads plan from schedule to → IsSound (world_of from.history) → IsSound (world_of to.history)
 sound-leads plan from [] to leads sound = subst (λ (s : Standing). IsSound (world_of s.history)) leads sound
 sound-leads plan from (client ∷ schedule) to leads sound =
     sound-leads plan leads.0 schedule to leads.2 (sound-made from client (next_line plan from client) leads.0 leads.1 sound)

@@ -48,14 +48,16 @@ pub record IsPendingFor (plan : Lines) (now : Standing) (choice : Choice) (file 
   pub has : has_timeline (world_of now.history).timelines timeline ≡ true
   pub of : entry.point.ctx ≡ context_of (world_of now.history).timelines timeline
   pub pending : value_at (reach_of (world_of now.history).timelines) entry.point.ctx < entry.point.value
-  pub kept : (client place : ℕ) (line : Step) → IsAhead plan now choice client place line → changes_timeline line.command timeline ≡ false
+  pub kept : (client place : ℕ) (line : Step) → IsAhead plan now choice client place line →
+      changes_timeline line.command timeline ≡ false
 
 -- The client waits for a file that is missing or pending, and stays so.
 pub record IsHeld (plan : Lines) (now : Standing) (choice : Choice) (line : Step) : Type 0 where
   pub waits : line.waits ≡ true
   pub file : List ℕ
   pub is : line.command ≡ command.Wait file
-  pub kept : (client place : ℕ) (ahead : Step) → IsAhead plan now choice client place ahead → changes_file ahead.command file ≡ false
+  pub kept : (client place : ℕ) (ahead : Step) → IsAhead plan now choice client place ahead →
+      changes_file ahead.command file ≡ false
   pub unsignalled : (has_file (world_of now.history).files file ≡ false) ⊎ IsPendingFor plan now choice file
 
 -- while the chosen clients stand still, each other is stopped by its limit
@@ -69,7 +71,8 @@ pub record StopsOthers (plan : Lines) (now : Standing) (choice : Choice) : Type 
   pub patient : (client place : ℕ) (line : Step) → IsAhead plan now choice client place line → IsPatient line.command line.waits
 
 -- the line can be made, and is independent of all lines ahead
-pub record IsFree (asked : List ℕ → Bool) (bounds : Bounds) (plan : Lines) (now : Standing) (choice : Choice) (line : Step) : Type 0 where
+pub record IsFree (asked : List ℕ → Bool) (bounds : Bounds) (plan : Lines) (now : Standing) (choice : Choice)
+    (line : Step) : Type 0 where
   pub can : can_be_made now line ≡ true
   pub patient : IsPatient line.command line.waits
   pub independent : (client place : ℕ) (ahead : Step) → IsAhead plan now choice client place ahead →
@@ -93,5 +96,6 @@ pub record ChosenStandStill (asked : List ℕ → Bool) (bounds : Bounds) (plan 
     (others : Schedule) (later : Standing) : Type 0 where
   pub free : (client : ℕ) (line : Step) → choice.chosen client ≡ true → next_line plan now client ≡ Some line →
       IsFree asked bounds plan now choice line → MayGoFirst asked plan client line now others later
+  pub still : (client : ℕ) → choice.chosen client ≡ true → made_by later client ≡ made_by now client
   pub held : (client : ℕ) (line : Step) → choice.chosen client ≡ true → next_line plan now client ≡ Some line →
       IsHeld plan now choice line → after_one plan later client ≡ None

@@ -12,8 +12,9 @@ ghost use Rattle.explore_core.specs.Looks.{LooksAlike};
 ghost use Rattle.command_core.specs.declared.answer.Answer.{Answer};
 ghost use Rattle.explore_core.specs.declared.plan.Step.{Step};
 ghost use Rattle.explore_core.specs.Moving.{IsPatient, AllGoBeside, MayGoFirst};
+ghost use Rattle.explore_core.specs.Choosing.{AreEnoughByChoice, IsCoveredBy, IsLast};
 ghost use Rattle.explore_core.specs.Persistent.{Choice, ChosenStandStill, IsCalm, StopsOthers};
-ghost use Rattle.explore_core.specs.Schedule.{Lines, Standing, Schedule, Leads, ComesTo, IsStuck, IsAnswered, can_be_made, next_line};
+ghost use Rattle.explore_core.specs.Schedule.{Lines, Standing, Schedule, Leads, ComesTo, IsStuck, IsAnswered, beginning, can_be_made, next_line};
 ghost use Rattle.explore_core.specs.Covering.{MayAsk, AreEnough, HasAlike, AnswersThere, IsStuckThere};
 ghost use Rattle.explore_core.specs.Alike.{AsksOnly, AreAlike, after_answer, answers_along};
 ghost use Rattle.explore_core.specs.Independence.{AreIndependent, Bounds, Commute, IsRoomy, IsWithin, Passes};
@@ -49,7 +50,8 @@ pub fn independent_commands_commute()
 /// A line that can be made, and is independent of the lines that other clients make along a schedule, may be made before them: each
 /// line is answered as it was, and the standings at the end are alike.
 pub fn an_independent_line_may_go_first()
-    ensures { (asked : List ℕ → Bool) (bounds : Bounds) (plan : Lines) (client : ℕ) (step : Step) (others : Schedule) (now later : Standing) →
+    ensures { (asked : List ℕ → Bool) (bounds : Bounds) (plan : Lines) (client : ℕ) (step : Step) (others : Schedule)
+        (now later : Standing) →
         MayAsk asked plan → IsSound (world_of now.history) → IsPatient step.command step.waits →
         next_line plan now client ≡ Some step → can_be_made now step ≡ true →
         AllGoBeside asked bounds plan client step.command now others → Leads plan now others later →
@@ -63,6 +65,15 @@ pub fn chosen_clients_may_go_first()
         MayAsk asked plan → IsCalm bounds plan now → StopsOthers plan now choice →
         All (λ client. choice.chosen client ≡ false) others → Leads plan now others later →
         ChosenStandStill asked bounds plan now choice others later }
+{}
+
+/// A search that follows a persistent choice of clients at each standing has seen every schedule that no client can lengthen: how its
+/// lines are answered, and where it ends.
+pub fn chosen_clients_cover_every_schedule()
+    ensures { (asked : List ℕ → Bool) (bounds : Bounds) (plan : Lines) (kept : List Standing) →
+        MayAsk asked plan → AreEnoughByChoice asked bounds plan kept →
+        (schedule : Schedule) (last : Standing) → ComesTo plan schedule last → IsLast plan last →
+        IsCoveredBy asked plan kept (beginning plan) schedule last }
 {}
 
 /// A search that has visited enough standings (`AreEnough`) has seen every schedule: where it leads, how its lines are answered,
