@@ -11,7 +11,8 @@ pub record IsFollowedByChoice (asked : List ℕ → Bool) (bounds : Bounds) (pla
     (now : Standing) : Type 0 where
   pub choice : Choice
   pub persistent : IsPersistent asked bounds plan now choice
-  pub goes_on : (client : ℕ) (next : Standing) → choice.chosen client ≡ true → after_one plan now client ≡ Some next → HasAlike asked kept next
+  pub goes_on : (client : ℕ) (next : Standing) → choice.chosen client ≡ true →
+      after_one plan now client ≡ Some next → HasAlike asked kept next
 
 -- The beginning is alike to a kept standing. At each kept standing where a client can go, chosen clients lead to kept standings.
 pub record AreEnoughByChoice (asked : List ℕ → Bool) (bounds : Bounds) (plan : Lines) (kept : List Standing) : Type 0 where
