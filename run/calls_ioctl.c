@@ -1,6 +1,7 @@
 /* ioctl(2) on our descriptors: the calls of Linux's sw_sync, sync files, dma-bufs and heaps. */
 #define _GNU_SOURCE
 #include "calls.h"
+#include "check.h"
 #include "ioctls.h"
 #include "loss.h"
 #include "shim.h"
@@ -197,6 +198,25 @@ static int wait_for(int buffer, short event, struct bim_request *request)
     return error;
 }
 
+/* Returns whether a fence is pending for which an access has to wait. A poll shows a signal microseconds later than the service
+ * knows it, so a file of the pending fences is asked. */
+static bool is_pending(int buffer, short event, struct bim_request *request)
+{
+    struct bim_request question = { .op = BIM_OP_INFO };
+    struct bim_answer answer = { .status = 0 };
+    int file;
+
+    if (poll_buffer(buffer, event, 0) != EAGAIN)
+        return false;
+    file = shim_ask_for_file(request);
+    if (file < 0)
+        return true;
+    if (shim_mark(file, &question.a) == BIM_FILE_MARK && !shim_recall(question.a, &answer))
+        shim_ask(&question, -1, &answer, NULL);
+    shim_close(file);
+    return answer.status == 0;
+}
+
 static int access_buffer(int file, uint64_t buffer, void *arg)
 {
     struct bim_request request = { .op = BIM_OP_EXPORT, .a = buffer };
@@ -210,7 +230,12 @@ static int access_buffer(int file, uint64_t buffer, void *arg)
     if (data.flags & ~(uint64_t)DMA_BUF_SYNC_VALID_FLAGS_MASK || !request.flags)
         return EINVAL;
     event = request.flags & DMA_BUF_SYNC_WRITE ? POLLOUT : POLLIN;
-    if (data.flags & DMA_BUF_SYNC_END || poll_buffer(file, event, 0) == 0)
+    if (data.flags & DMA_BUF_SYNC_END) {
+        if (check_is_on() && is_pending(file, event, &request))
+            check_note(request.flags & DMA_BUF_SYNC_WRITE);
+        return 0;
+    }
+    if (poll_buffer(file, event, 0) == 0)
         return 0;
     return wait_for(file, event, &request);
 }

@@ -27,6 +27,7 @@ static void remove_entries(int in, const char *name, int folder)
 {
     unlinkat(folder, FOLDER_SOCKET, 0);
     unlinkat(folder, FOLDER_TRACE, 0);
+    unlinkat(folder, FOLDER_CHECK, 0);
     unlinkat(in, name, AT_REMOVEDIR);
 }
 
@@ -128,5 +129,6 @@ void folder_remove(const char *path)
         return;
     remove_in(path, FOLDER_SOCKET);
     remove_in(path, FOLDER_TRACE);
+    remove_in(path, FOLDER_CHECK);
     rmdir(path);
 }

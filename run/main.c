@@ -28,7 +28,7 @@ static int begin_trace(const struct options *options, char *path)
             error = errno;
         return error ? fault(options->trace, error) : 0;
     }
-    if (!options->reports && !options->requires)
+    if (!options_trace(options))
         return 0;
     error = report_temporary(path);
     return error ? fault("a file for the trace", error) : 0;
@@ -41,9 +41,17 @@ static int set_variable(const char *name, const char *value)
     return (value ? setenv(name, value, 1) : unsetenv(name)) ? fault("the environment", errno) : 0;
 }
 
+static int begin_check(const struct options *options)
+{
+    char path[PATH_MAX];
+    int error = options->checks ? report_findings(path) : 0;
+
+    return error ? fault("a file for what is found", error) : set_variable(BIM_CHECK, options->checks ? path : NULL);
+}
+
 static int run(const struct options *options, const char *trace)
 {
-    if (options->is_local && !options->reports && !options->requires) {
+    if (options->is_local && !options_report(options)) {
         int status = launch_prepare(BIM_LOCAL, trace);
 
         return status ? status : launch_become(options->program);
@@ -78,9 +86,10 @@ int main(int count, char **words)
         status = set_variable(BIM_DIRECT, options.is_direct ? "1" : NULL);
     if (!status)
         status = begin_trace(&options, path);
-    if (status)
-        return status;
-    status = run(&options, path[0] ? path : NULL);
+    if (!status)
+        status = begin_check(&options);
+    if (!status)
+        status = run(&options, path[0] ? path : NULL);
     report_remove_temporary();
     return status;
 }

@@ -1,5 +1,7 @@
 #include "options.h"
 
+#include "say.h"
+
 #include <bimphlai.h>
 #include <getopt.h>
 #include <stdio.h>
@@ -16,24 +18,34 @@ static const char HELP[] =
     "  --direct      also serves system calls that bypass the C library\n"
     "  --trace FILE  writes what happens to fences to FILE, for `fencectl trace`\n"
     "  --report      reports at the end what hangs and who waits, on standard error\n"
-    "  --require     ends with 1 if a fence hangs or a rule was broken\n"
+    "  --check       finds accesses of buffers that end while a fence is pending\n"
+    "  --require     ends with 1 if a fence hangs, a rule was broken, or --check finds an access\n"
+    "  --require-fences\n"
+    "                ends with 1 if the program made no fence\n"
     "  --shuffle SEED\n"
     "                delays threads at moments that the number SEED decides, to find what relies on luck\n"
     "  --verbose     says where the service is, and what was left at the end\n"
-    "  --help, --version\n"
+    "  -h, --help, --version\n"
     "\n"
     "The status is the program's; 2 for options that don't fit, 123 if the service was lost, 125 if it can't\n"
     "start, 126 if the program can't be run with it, and 127 if there is no such program.\n";
 
-enum word { LOCAL = 256, DIRECT, TRACE, REPORT, REQUIRE, SHUFFLE, VERBOSE, HELP_, VERSION };
+enum word { LOCAL = 256, DIRECT, TRACE, REPORT, REQUIRE, REQUIRE_FENCES, CHECK, SHUFFLE, VERBOSE, VERSION };
 enum { SEED_DIGITS = 19 }; /* fit into 64 bits */
 
 static const struct option WORDS[] = {
-    { "local", no_argument, NULL, LOCAL },     { "direct", no_argument, NULL, DIRECT },
-    { "report", no_argument, NULL, REPORT },   { "require", no_argument, NULL, REQUIRE },
-    { "verbose", no_argument, NULL, VERBOSE }, { "trace", required_argument, NULL, TRACE },
-    { "help", no_argument, NULL, HELP_ },      { "shuffle", required_argument, NULL, SHUFFLE },
-    { "version", no_argument, NULL, VERSION }, { NULL, 0, NULL, 0 },
+    { "local", no_argument, NULL, LOCAL },
+    { "direct", no_argument, NULL, DIRECT },
+    { "trace", required_argument, NULL, TRACE },
+    { "report", no_argument, NULL, REPORT },
+    { "require", no_argument, NULL, REQUIRE },
+    { "require-fences", no_argument, NULL, REQUIRE_FENCES },
+    { "check", no_argument, NULL, CHECK },
+    { "shuffle", required_argument, NULL, SHUFFLE },
+    { "verbose", no_argument, NULL, VERBOSE },
+    { "help", no_argument, NULL, 'h' },
+    { "version", no_argument, NULL, VERSION },
+    { NULL, 0, NULL, 0 },
 };
 
 static int tell_usage(void)
@@ -42,36 +54,101 @@ static int tell_usage(void)
     return STATUS_OPTIONS;
 }
 
+/* Returns the edit distance between two words, or FAR if the first is longer than any option may be. */
+enum { LONGEST = 30, FAR = LONGEST + 1 };
+static size_t distance(const char *word, const char *option)
+{
+    size_t row[LONGEST + 1], length = strlen(word);
+
+    if (length > LONGEST)
+        return FAR;
+    for (size_t i = 0; i <= length; i++)
+        row[i] = i;
+    for (size_t j = 0; option[j]; j++) {
+        size_t corner = row[0]++;
+
+        for (size_t i = 0; i < length; i++) {
+            size_t changed = corner + (word[i] != option[j]), shorter = row[i] < row[i + 1] ? row[i] : row[i + 1];
+
+            corner = row[i + 1];
+            row[i + 1] = changed <= shorter ? changed : shorter + 1;
+        }
+    }
+    return row[length];
+}
+
+/* Says that a word is no option, and which option is at most two letters away. */
+static int tell_unknown(const char *word)
+{
+    enum { NEAR = 2 };
+    size_t least = NEAR + 1;
+    const char *nearest = NULL, *name = word + strspn(word, "-");
+
+    for (const struct option *option = WORDS; option->name; option++)
+        if (distance(name, option->name) < least) {
+            least = distance(name, option->name);
+            nearest = option->name;
+        }
+    if (nearest)
+        say("there is no option '%s'; did you mean '--%s'?", word, nearest);
+    else
+        say("there is no option '%s'", word);
+    return tell_usage();
+}
+
 /* Prints a text. Returns the exit status: 125 if standard output can't be written. */
 static int print(const char *text, const char *more)
 {
     return fputs(text, stdout) < 0 || fputs(more, stdout) < 0 || fflush(stdout) ? 125 : 0;
 }
 
-static bool is_seed(const char *text)
+static int take_trace(struct options *options)
 {
-    size_t length = strlen(text);
-
-    return length > 0 && length <= SEED_DIGITS && strspn(text, "0123456789") == length;
+    options->trace = optarg;
+    if (*optarg && strcmp(optarg, "-") != 0)
+        return -1;
+    say("--trace takes the name of a file, but '%s' is none", optarg);
+    return tell_usage();
 }
 
-static int take(struct options *options, int word)
+static int take_seed(struct options *options)
+{
+    size_t length = strlen(optarg);
+
+    options->seed = optarg;
+    if (length > 0 && length <= SEED_DIGITS && strspn(optarg, "0123456789") == length)
+        return -1;
+    say("--shuffle takes a number of at most %d digits, but '%s' is none", SEED_DIGITS, optarg);
+    return tell_usage();
+}
+
+static int take(struct options *options, int word, char **words)
 {
     switch (word) {
     case LOCAL: options->is_local = true; return -1;
     case DIRECT: options->is_direct = true; return -1;
-    case TRACE: options->trace = optarg; return *optarg ? -1 : tell_usage();
+    case TRACE: return take_trace(options);
     case REPORT: options->reports = true; return -1;
-    case REQUIRE:
-        options->requires
-        = true;
-        return -1;
-    case SHUFFLE: options->seed = optarg; return is_seed(optarg) ? -1 : tell_usage();
+    case REQUIRE: options->requires = true; return -1;
+    case REQUIRE_FENCES: options->requires_fences = true; return -1;
+    case CHECK: options->checks = true; return -1;
+    case SHUFFLE: return take_seed(options);
     case VERBOSE: options->is_verbose = true; return -1;
-    case HELP_: return print(USAGE, HELP);
+    case 'h': return print(USAGE, HELP);
     case VERSION: return print("bimphlai-run " BIM_VERSION, "\n");
-    default: return tell_usage();
+    case ':': say("%s takes a word behind it", words[optind - 1]); return tell_usage();
+    default: return tell_unknown(words[optind - 1]);
     }
+}
+
+bool options_trace(const struct options *options)
+{
+    return options->reports || options->requires || options->requires_fences;
+}
+
+bool options_report(const struct options *options)
+{
+    return options_trace(options) || options->checks;
 }
 
 int options_read(struct options *options, int count, char **words)
@@ -79,9 +156,8 @@ int options_read(struct options *options, int count, char **words)
     int word, status = -1;
 
     *options = (struct options){ .program = NULL };
-    words[0] = "bimphlai-run"; /* getopt_long prints this name in its messages */
-    while (status < 0 && (word = getopt_long(count, words, "+", WORDS, NULL)) >= 0)
-        status = take(options, word);
+    while (status < 0 && (word = getopt_long(count, words, "+:h", WORDS, NULL)) >= 0)
+        status = take(options, word, words);
     options->program = words + optind;
     return status < 0 && !options->program[0] ? tell_usage() : status;
 }

@@ -7,7 +7,7 @@
 enum { STATUS_OPTIONS = 2 };
 
 struct options {
-    bool is_local, is_direct, reports, requires, is_verbose;
+    bool is_local, is_direct, reports, requires, requires_fences, checks, is_verbose;
     const char *trace; /* a file name, or NULL */
     const char *seed;  /* decimal digits, or NULL */
     char **program;    /* with its arguments */
@@ -15,5 +15,9 @@ struct options {
 
 /* Returns -1, or the exit status if bimphlai-run is to end: after it has printed help, the version or a usage error. */
 int options_read(struct options *options, int count, char **words);
+/* Returns whether the trace is read at the end of the run. */
+bool options_trace(const struct options *options);
+/* Returns whether anything is told at the end of the run. */
+bool options_report(const struct options *options);
 
 #endif

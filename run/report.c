@@ -1,6 +1,7 @@
 #define _GNU_SOURCE
 #include "report.h"
 
+#include "findings.h"
 #include "folder.h"
 #include "launch.h"
 #include "say.h"
@@ -16,19 +17,36 @@
 #include <sys/wait.h>
 #include <unistd.h>
 
-enum { HANGS = 1 };
+enum { FAILED = 1 };
 
 static char folder[64];
 
-/* If this process is killed, the next run removes the folder. */
+/* Makes the folder of the temporary files. If this process is killed, the next run removes it. Returns 0 or an errno. */
+static int make_folder(void)
+{
+    int lock;
+
+    return folder[0] ? 0 : folder_make(folder, sizeof folder, &lock);
+}
+
 int report_temporary(char *path)
 {
-    int lock, error = folder_make(folder, sizeof folder, &lock);
+    int error = make_folder();
 
     if (error)
         return error;
     snprintf(path, PATH_MAX, "%s/" FOLDER_TRACE, folder);
     return trace_begin(path);
+}
+
+int report_findings(char *path)
+{
+    int error = make_folder();
+
+    if (error)
+        return error;
+    snprintf(path, PATH_MAX, "%s/" FOLDER_CHECK, folder);
+    return findings_begin(path);
 }
 
 void report_remove_temporary(void)
@@ -89,18 +107,32 @@ static int status_of_fencectl(const char *trace, bool reports)
     return child < 0 ? fault("fork", errno) : launch_status(waited);
 }
 
-int report(const struct options *options, const char *trace, int status)
+/* Returns whether --check found anything. */
+static bool has_findings(void)
+{
+    char path[PATH_MAX];
+
+    snprintf(path, sizeof path, "%s/" FOLDER_CHECK, folder);
+    return findings_tell(path);
+}
+
+/* Returns whether the run fails by its trace, or STATUS_FAULT. */
+static int look_at_trace(const struct options *options, const char *trace)
 {
     int found;
 
-    if (!options->reports && !options->requires)
-        return status;
     if (!has_events(trace)) {
         say("the program made no fence");
-        return status;
+        return options->requires_fences ? FAILED : 0;
     }
     found = status_of_fencectl(trace, options->reports);
-    if (found > HANGS && status == 0)
-        return STATUS_FAULT;
-    return options->requires && found == HANGS && status == 0 ? HANGS : status;
+    return found > FAILED ? STATUS_FAULT : options->requires ? found : 0;
+}
+
+int report(const struct options *options, const char *trace, int status)
+{
+    int found = options->checks && has_findings() && options->requires ? FAILED : 0;
+    int of_trace = options_trace(options) ? look_at_trace(options, trace) : 0;
+
+    return status ? status : of_trace ? of_trace : found;
 }

@@ -6,10 +6,13 @@
 
 /* Makes an empty temporary file for a trace that isn't to be kept. Returns 0 or an errno. */
 int report_temporary(char *path);
-/* Removes that file, if it was made. */
+/* Makes an empty temporary file for what --check finds. Returns 0 or an errno. */
+int report_findings(char *path);
+/* Removes these files, if they were made. */
 void report_remove_temporary(void);
-/* Prints the report on standard error under --report. Returns the exit status: the program's, but 1 under --require if
- * the program ended with 0 and a fence hangs or a rule was broken. */
+/* Says on standard error what --check found, and prints the report under --report. Returns the exit status: the program's, but 1
+ * if that is 0 and, under --require, a fence hangs, a rule was broken or --check found an access, or, under --require-fences, no
+ * fence was made. */
 int report(const struct options *options, const char *trace, int status);
 
 #endif

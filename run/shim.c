@@ -2,6 +2,7 @@
 #include "shim.h"
 
 #include "calls.h"
+#include "check.h"
 #include "direct.h"
 #include "loss.h"
 #include "numbers.h"
@@ -124,6 +125,7 @@ static void choose_way(void)
     is_traced = getenv(BIM_TRACE) != NULL;
     make_own();
     shuffle_begin();
+    check_begin();
     way = strcmp(service, BIM_LOCAL) == 0 ? &LOCAL : &LINK;
 }
 

@@ -7,11 +7,13 @@
 #include <stdint.h>
 #include <sys/stat.h>
 
-/* Environment variables of a program: where its service is, and, if given, the trace file and the seed of --shuffle. */
+/* Environment variables of a program: where its service is, and, if given, the trace file, the seed of --shuffle, and the file of
+ * --check. */
 #define BIM_SERVICE "BIMPHLAI_RUN"
 #define BIM_TRACE   "BIMPHLAI_RUN_TRACE"
 #define BIM_SHUFFLE "BIMPHLAI_RUN_SHUFFLE"
 #define BIM_DIRECT  "BIMPHLAI_RUN_DIRECT"
+#define BIM_CHECK   "BIMPHLAI_RUN_CHECK"
 #define BIM_LOCAL   "local"
 
 /* The exit status of a process whose service is gone, or belongs to another process. */
