@@ -5,7 +5,7 @@ ghost use Rattle.command_core.specs.declared.command.Command.{Command};
 
 use crate::info::fence_rows;
 use crate::report;
-use command_core::{Answer, Command, Info, Report, ShowRow};
+use command_core::{Answer, Command, Info, Report};
 use dmabuf_core::Buffers;
 use fence_core::Watches;
 use point_core::{Context, Items, Name, Point, Refusal, Status, TimelineRow, TopRow, Usage};
@@ -86,66 +86,41 @@ impl Desk {
             HasHistory self.old history → HasHistory self.new (history_after history command result) }
         ensures unchanged { OnRefused result (self.new ≡ self.old) }
     {
-        match self.outcome(command) {
+        match self.outcome(&command) {
             Ok(answer) => answer,
             Err(refusal) => Answer::Refused(refusal),
         }
     }
 
+    // Inlined into each caller, as `step` is: a caller that makes a known command, as the calls for C do, keeps one arm of it.
     #[inline(always)]
-    fn outcome(&mut self, command: Command) -> Result<Answer, Refusal>
-        ensures refused { IsRefusedFor (cause_of self.old command) result }
-        ensures sure { takes_memory (fires_kept self.old) command ≡ false → IfErr result (λ e. e ≢ Refusal.Memory) }
-        ensures done { IfOk result (λ given. IsDone self.old command given self.new) }
+    fn outcome(&mut self, command: &Command) -> Result<Answer, Refusal>
+        ensures refused { IsRefusedFor (cause_of self.old command.now) result }
+        ensures sure { takes_memory (fires_kept self.old) command.now ≡ false → IfErr result (λ e. e ≢ Refusal.Memory) }
+        ensures done { IfOk result (λ given. IsDone self.old command.now given self.new) }
         ensures unchanged { OnErr result (self.new ≡ self.old) }
     {
-        // Frequent commands take copies of their names: were these lent as parts of the command, the whole command would be stored,
-        // with zeros in the bytes that its variant leaves.
-        match &command {
-            Command::Timeline(name) => return Ok(Answer::Value(self.timeline(*name)?)),
-            Command::Inc(name, n) => {
-                let (value, fired) = self.inc(*name, *n)?;
-                return Ok(Answer::Raised(value, fired));
-            }
-            Command::Value(name) => return Ok(Answer::Value(self.value(name)?)),
-            Command::Shut(name) => {
-                let (value, fired) = self.shut(name)?;
-                return Ok(Answer::Raised(value, fired));
-            }
-            Command::Fence(name, timeline, value) => self.fence(*name, *timeline, *value)?,
-            Command::Merge(name, first, second) => {
-                let (first, second) = (*first, *second);
-                self.merge(*name, &first, &second)?
-            }
-            Command::Close(name) => self.close(*name)?,
-            Command::Wait(name) => {
-                let name = *name;
-                self.wait(&name)?
-            }
-            Command::Info(name) => return Ok(Answer::Info(self.info(*name)?)),
-            Command::Buffer(name) => self.buffer(*name)?,
-            Command::Add(name, timeline, value, usage) => {
-                self.add(*name, *timeline, *value, *usage)?
-            }
-            Command::Import(name, file, flags) => {
-                let (name, file) = (*name, *file);
-                self.import(&name, &file, *flags)?
-            }
-            Command::Export(name, buffer, flags) => {
-                let buffer = *buffer;
-                self.export(*name, &buffer, *flags)?
-            }
-            Command::Test(name, usage) => return Ok(Answer::Value(self.test(*name, *usage)?)),
-            Command::Trim(name) => self.trim(name)?,
-            Command::Watch(name, cookie) => {
-                let name = *name;
-                self.watch(&name, *cookie)?
-            }
-            Command::Unwatch(cookie) => return Ok(Answer::Value(self.unwatch(*cookie))),
-            Command::Show(name) => return Ok(Answer::Show(self.show(name)?)),
-            Command::Report => return Ok(Answer::Report(self.report()?)),
+        match command {
+            Command::Timeline(name) => self.timeline(name),
+            Command::Inc(name, n) => self.inc(name, *n),
+            Command::Value(name) => self.value(name),
+            Command::Shut(name) => self.shut(name),
+            Command::Fence(name, timeline, value) => self.fence(name, timeline, *value),
+            Command::Merge(name, first, second) => self.merge(name, first, second),
+            Command::Close(name) => self.close(name),
+            Command::Wait(name) => self.wait(name),
+            Command::Info(name) => self.info(name),
+            Command::Buffer(name) => self.buffer(name),
+            Command::Add(name, timeline, value, usage) => self.add(name, timeline, *value, *usage),
+            Command::Import(name, file, flags) => self.import(name, file, *flags),
+            Command::Export(name, buffer, flags) => self.export(name, buffer, *flags),
+            Command::Test(name, usage) => self.test(name, *usage),
+            Command::Trim(name) => self.trim(name),
+            Command::Watch(name, cookie) => self.watch(name, *cookie),
+            Command::Unwatch(cookie) => Ok(self.unwatch(*cookie)),
+            Command::Show(name) => self.show(name),
+            Command::Report => self.report(),
         }
-        Ok(Answer::Done)
     }
 
     /// The value of the timeline of that name.
@@ -239,198 +214,188 @@ impl Desk {
         }
     }
 
-    // A function clears its locals on entry, also those of calls that are inlined into it. So commands with many locals, and
-    // rare commands, have functions of their own.
-
-    #[inline(never)]
-    fn timeline(&mut self, name: Name) -> Result<u64, Refusal>
-        ensures refused { IsRefusedFor (cause_of self.old (Command.Timeline name)) result }
-        ensures done { IfOk result (λ given. IsDone self.old (Command.Timeline name) (Answer.Value given) self.new) }
+    fn timeline(&mut self, name: &Name) -> Result<Answer, Refusal>
+        ensures refused { IsRefusedFor (cause_of self.old (Command.Timeline name.now)) result }
+        ensures done { IfOk result (λ given. IsDone self.old (Command.Timeline name.now) given self.new) }
         ensures unchanged { OnErr result (self.new ≡ self.old) }
     {
-        let ctx = self.timelines.create(name)?;
-        Ok(u64::from(ctx.number()))
+        let ctx = self.timelines.create(*name)?;
+        Ok(Answer::Value(u64::from(ctx.number())))
     }
 
-    #[inline(always)]
-    fn inc(&mut self, name: Name, n: u64) -> Result<(u64, Items<u64>), Refusal>
-        ensures refused { IsRefusedFor (cause_of self.old (Command.Inc name n)) result }
-        ensures sure { fires_kept self.old (Command.Inc name n) ≡ false → IfErr result (λ e. e ≢ Refusal.Memory) }
-        ensures done { IfOk result (λ given. IsDone self.old (Command.Inc name n) (Answer.Raised given.0 given.1) self.new) }
+    fn inc(&mut self, name: &Name, n: u64) -> Result<Answer, Refusal>
+        ensures refused { IsRefusedFor (cause_of self.old (Command.Inc name.now n)) result }
+        ensures sure { fires_kept self.old (Command.Inc name.now n) ≡ false → IfErr result (λ e. e ≢ Refusal.Memory) }
+        ensures done { IfOk result (λ given. IsDone self.old (Command.Inc name.now n) given self.new) }
         ensures unchanged { OnErr result (self.new ≡ self.old) }
     {
-        let Point { ctx, value } = self.timelines.next(&name, n)?;
+        let Point { ctx, value } = self.timelines.next(name, n)?;
         let fired = self.watches.after_inc(Point { ctx, value })?;
         self.timelines.raise_to(Point { ctx, value });
-        Ok((value, Items::of(fired)))
+        Ok(Answer::Raised(value, Items::of(fired)))
     }
 
     // For the command. Callers of the crate ask `timeline_value`, which answers none where this fails with NoEntry.
-    fn value(&self, name: &Name) -> Result<u64, Refusal>
+    fn value(&self, name: &Name) -> Result<Answer, Refusal>
         ensures refused { IsRefusedFor (cause_of self.now (Command.Value name.now)) result }
         ensures sure { IfErr result (λ e. e ≢ Refusal.Memory) }
-        ensures done { IfOk result (λ value. IsDone self.now (Command.Value name.now) (Answer.Value value) self.now) }
+        ensures done { IfOk result (λ given. IsDone self.now (Command.Value name.now) given self.now) }
     {
         let value = self.timelines.value(name)?;
-        Ok(value)
+        Ok(Answer::Value(value))
     }
 
     // The watches fire first, at the greatest value, since only that step can still fail.
-    #[inline(never)]
-    fn shut(&mut self, name: &Name) -> Result<(u64, Items<u64>), Refusal>
+    fn shut(&mut self, name: &Name) -> Result<Answer, Refusal>
         ensures refused { IsRefusedFor (cause_of self.old (Command.Shut name.now)) result }
         ensures sure { fires_kept self.old (Command.Shut name.now) ≡ false → IfErr result (λ e. e ≢ Refusal.Memory) }
-        ensures done { IfOk result (λ given. IsDone self.old (Command.Shut name.now) (Answer.Raised given.0 given.1) self.new) }
+        ensures done { IfOk result (λ given. IsDone self.old (Command.Shut name.now) given self.new) }
         ensures unchanged { OnErr result (self.new ≡ self.old) }
     {
         let Point { ctx, value: kept } = self.timelines.current(name)?;
         let last = u64::MAX;
         let fired = self.watches.after_inc(Point { ctx, value: last })?;
         self.timelines.close(ctx);
-        Ok((kept, Items::of(fired)))
+        Ok(Answer::Raised(kept, Items::of(fired)))
     }
 
-    #[inline(always)]
-    fn fence(&mut self, name: Name, timeline: Name, value: u64) -> Result<(), Refusal>
-        ensures refused { IsRefusedFor (cause_of self.old (Command.Fence name timeline value)) result }
-        ensures done { OnOk result (IsDone self.old (Command.Fence name timeline value) Answer.Done self.new) }
+    fn fence(&mut self, name: &Name, timeline: &Name, value: u64) -> Result<Answer, Refusal>
+        ensures refused { IsRefusedFor (cause_of self.old (Command.Fence name.now timeline.now value)) result }
+        ensures done { IfOk result (λ given. IsDone self.old (Command.Fence name.now timeline.now value) given self.new) }
         ensures unchanged { OnErr result (self.new ≡ self.old) }
     {
-        let ctx = self.timelines.context(&timeline).ok_or(Refusal::NoEntry)?;
+        let ctx = self.timelines.context(timeline).ok_or(Refusal::NoEntry)?;
         if self.timelines.as_clocks().closed(ctx) {
-            self.files.free(&name)?;
+            self.files.free(name)?;
             return Err(Refusal::Cancelled);
         }
-        self.files.create(name, Point { ctx, value })?;
-        Ok(())
+        self.files.create(*name, Point { ctx, value })?;
+        Ok(Answer::Done)
     }
 
-    fn merge(&mut self, name: Name, first: &Name, second: &Name) -> Result<(), Refusal>
-        ensures refused { IsRefusedFor (cause_of self.old (Command.Merge name first.now second.now)) result }
-        ensures done { OnOk result (IsDone self.old (Command.Merge name first.now second.now) Answer.Done self.new) }
+    fn merge(&mut self, name: &Name, first: &Name, second: &Name) -> Result<Answer, Refusal>
+        ensures refused { IsRefusedFor (cause_of self.old (Command.Merge name.now first.now second.now)) result }
+        ensures done { IfOk result (λ given. IsDone self.old (Command.Merge name.now first.now second.now) given self.new) }
         ensures unchanged { OnErr result (self.new ≡ self.old) }
     {
         let reach = self.timelines.as_reach();
-        self.files.merge_reached(name, first, second, reach)?;
-        Ok(())
+        self.files.merge_reached(*name, first, second, reach)?;
+        Ok(Answer::Done)
     }
 
-    #[inline(always)]
-    fn close(&mut self, name: Name) -> Result<(), Refusal>
-        ensures refused { IsRefusedFor (cause_of self.old (Command.Close name)) result }
+    fn close(&mut self, name: &Name) -> Result<Answer, Refusal>
+        ensures refused { IsRefusedFor (cause_of self.old (Command.Close name.now)) result }
         ensures sure { IfErr result (λ e. e ≢ Refusal.Memory) }
-        ensures done { OnOk result (IsDone self.old (Command.Close name) Answer.Done self.new) }
+        ensures done { IfOk result (λ given. IsDone self.old (Command.Close name.now) given self.new) }
         ensures unchanged { OnErr result (self.new ≡ self.old) }
     {
-        self.files.close(&name)?;
-        Ok(())
+        self.files.close(name)?;
+        Ok(Answer::Done)
     }
 
-    fn wait(&self, name: &Name) -> Result<(), Refusal>
+    fn wait(&self, name: &Name) -> Result<Answer, Refusal>
         ensures refused { IsRefusedFor (cause_of self.now (Command.Wait name.now)) result }
         ensures sure { IfErr result (λ e. e ≢ Refusal.Memory) }
-        ensures done { OnOk result (IsDone self.now (Command.Wait name.now) Answer.Done self.now) }
+        ensures done { IfOk result (λ given. IsDone self.now (Command.Wait name.now) given self.now) }
     {
         let clocks = self.timelines.as_clocks();
         if self.files.status(name, clocks)?.is_signalled() {
-            Ok(())
+            Ok(Answer::Done)
         } else {
             Err(Refusal::TimedOut)
         }
     }
 
-    #[inline(never)]
-    fn info(&self, name: Name) -> Result<Info, Refusal>
-        ensures refused { IsRefusedFor (cause_of self.now (Command.Info name)) result }
-        ensures done { IfOk result (λ given. IsDone self.now (Command.Info name) (Answer.Info given) self.now) }
+    fn info(&self, name: &Name) -> Result<Answer, Refusal>
+        ensures refused { IsRefusedFor (cause_of self.now (Command.Info name.now)) result }
+        ensures done { IfOk result (λ given. IsDone self.now (Command.Info name.now) given self.now) }
     {
-        let file = self.files.get(&name).ok_or(Refusal::NoEntry)?;
+        let file = self.files.get(name).ok_or(Refusal::NoEntry)?;
         let points = file.points.as_slice();
         let status = self.timelines.as_clocks().common_status(points);
         let fences = Items::of(fence_rows(self.alloc, points, &self.timelines)?);
-        Ok(Info {
-            name,
+        Ok(Answer::Info(Info {
+            name: *name,
             status,
             fences,
-        })
+        }))
     }
 
-    #[inline(never)]
-    fn buffer(&mut self, name: Name) -> Result<(), Refusal>
-        ensures refused { IsRefusedFor (cause_of self.old (Command.Buffer name)) result }
-        ensures done { OnOk result (IsDone self.old (Command.Buffer name) Answer.Done self.new) }
+    fn buffer(&mut self, name: &Name) -> Result<Answer, Refusal>
+        ensures refused { IsRefusedFor (cause_of self.old (Command.Buffer name.now)) result }
+        ensures done { IfOk result (λ given. IsDone self.old (Command.Buffer name.now) given self.new) }
         ensures unchanged { OnErr result (self.new ≡ self.old) }
     {
-        self.buffers.create(name)?;
-        Ok(())
+        self.buffers.create(*name)?;
+        Ok(Answer::Done)
     }
 
-    #[inline(always)]
-    fn add(&mut self, name: Name, timeline: Name, value: u64, usage: Usage) -> Result<(), Refusal>
-        ensures refused { IsRefusedFor (cause_of self.old (Command.Add name timeline value usage)) result }
-        ensures done { OnOk result (IsDone self.old (Command.Add name timeline value usage) Answer.Done self.new) }
+    fn add(
+        &mut self,
+        name: &Name,
+        timeline: &Name,
+        value: u64,
+        usage: Usage,
+    ) -> Result<Answer, Refusal>
+        ensures refused { IsRefusedFor (cause_of self.old (Command.Add name.now timeline.now value usage)) result }
+        ensures done { IfOk result (λ given. IsDone self.old (Command.Add name.now timeline.now value usage) given self.new) }
         ensures unchanged { OnErr result (self.new ≡ self.old) }
     {
-        let ctx = self.timelines.context(&timeline).ok_or(Refusal::NoEntry)?;
+        let ctx = self.timelines.context(timeline).ok_or(Refusal::NoEntry)?;
         let reach = self.timelines.as_reach();
-        self.buffers.add(&name, Point { ctx, value }, usage, reach)?;
-        Ok(())
+        self.buffers.add(name, Point { ctx, value }, usage, reach)?;
+        Ok(Answer::Done)
     }
 
-    #[inline(never)]
-    fn import(&mut self, name: &Name, file: &Name, flags: u32) -> Result<(), Refusal>
+    fn import(&mut self, name: &Name, file: &Name, flags: u32) -> Result<Answer, Refusal>
         ensures refused { IsRefusedFor (cause_of self.old (Command.Import name.now file.now flags)) result }
-        ensures done { OnOk result (IsDone self.old (Command.Import name.now file.now flags) Answer.Done self.new) }
+        ensures done { IfOk result (λ given. IsDone self.old (Command.Import name.now file.now flags) given self.new) }
         ensures unchanged { OnErr result (self.new ≡ self.old) }
     {
         let file = self.files.get(file).ok_or(Refusal::NoEntry)?;
         let reach = self.timelines.as_reach();
         self.buffers.import(name, file, flags, reach)?;
-        Ok(())
+        Ok(Answer::Done)
     }
 
-    #[inline(never)]
-    fn export(&mut self, name: Name, buffer: &Name, flags: u32) -> Result<(), Refusal>
-        ensures refused { IsRefusedFor (cause_of self.old (Command.Export name buffer.now flags)) result }
-        ensures done { OnOk result (IsDone self.old (Command.Export name buffer.now flags) Answer.Done self.new) }
+    fn export(&mut self, name: &Name, buffer: &Name, flags: u32) -> Result<Answer, Refusal>
+        ensures refused { IsRefusedFor (cause_of self.old (Command.Export name.now buffer.now flags)) result }
+        ensures done { IfOk result (λ given. IsDone self.old (Command.Export name.now buffer.now flags) given self.new) }
         ensures unchanged { OnErr result (self.new ≡ self.old) }
     {
         let latest = self.buffers.latest(buffer, flags)?;
         let reach = self.timelines.as_reach();
-        self.files.adopt_latest(name, latest, reach)?;
-        Ok(())
+        self.files.adopt_latest(*name, latest, reach)?;
+        Ok(Answer::Done)
     }
 
-    #[inline(always)]
-    fn test(&self, name: Name, usage: Usage) -> Result<u64, Refusal>
-        ensures refused { IsRefusedFor (cause_of self.now (Command.Test name usage)) result }
+    fn test(&self, name: &Name, usage: Usage) -> Result<Answer, Refusal>
+        ensures refused { IsRefusedFor (cause_of self.now (Command.Test name.now usage)) result }
         ensures sure { IfErr result (λ e. e ≢ Refusal.Memory) }
-        ensures done { IfOk result (λ given. IsDone self.now (Command.Test name usage) (Answer.Value given) self.now) }
+        ensures done { IfOk result (λ given. IsDone self.now (Command.Test name.now usage) given self.now) }
     {
-        let signalled = self.buffers.test(&name, usage, self.timelines.as_reach())?;
-        Ok(u64::from(signalled))
+        let signalled = self.buffers.test(name, usage, self.timelines.as_reach())?;
+        Ok(Answer::Value(u64::from(signalled)))
     }
 
-    #[inline(never)]
-    fn trim(&mut self, name: &Name) -> Result<(), Refusal>
+    fn trim(&mut self, name: &Name) -> Result<Answer, Refusal>
         ensures refused { IsRefusedFor (cause_of self.old (Command.Trim name.now)) result }
         ensures sure { IfErr result (λ e. e ≢ Refusal.Memory) }
-        ensures done { OnOk result (IsDone self.old (Command.Trim name.now) Answer.Done self.new) }
+        ensures done { IfOk result (λ given. IsDone self.old (Command.Trim name.now) given self.new) }
         ensures unchanged { OnErr result (self.new ≡ self.old) }
     {
         self.buffers.trim(name, self.timelines.as_reach())?;
-        Ok(())
+        Ok(Answer::Done)
     }
 
-    #[inline(never)]
-    fn watch(&mut self, name: &Name, cookie: u64) -> Result<(), Refusal>
+    fn watch(&mut self, name: &Name, cookie: u64) -> Result<Answer, Refusal>
         ensures refused { IsRefusedFor (cause_of self.old (Command.Watch name.now cookie)) result }
-        ensures done { OnOk result (IsDone self.old (Command.Watch name.now cookie) Answer.Done self.new) }
+        ensures done { IfOk result (λ given. IsDone self.old (Command.Watch name.now cookie) given self.new) }
         ensures unchanged { OnErr result (self.new ≡ self.old) }
     {
         let file = self.files.get(name).ok_or(Refusal::NoEntry)?;
         self.watches.watch(cookie, file.points.as_slice())?;
-        Ok(())
+        Ok(Answer::Done)
     }
 
     // Whether a watch of the file of that name may be registered under the cookie.
@@ -446,35 +411,33 @@ impl Desk {
         Ok(())
     }
 
-    fn unwatch(&mut self, cookie: u64) -> u64
-        ensures done { IsDone self.old (Command.Unwatch cookie) (Answer.Value result) self.new }
+    fn unwatch(&mut self, cookie: u64) -> Answer
+        ensures done { IsDone self.old (Command.Unwatch cookie) result self.new }
     {
-        u64::from(self.watches.remove(cookie))
+        Answer::Value(u64::from(self.watches.remove(cookie)))
     }
 
-    #[inline(never)]
-    fn show(&self, name: &Name) -> Result<Items<ShowRow>, Refusal>
+    fn show(&self, name: &Name) -> Result<Answer, Refusal>
         ensures refused { IsRefusedFor (cause_of self.now (Command.Show name.now)) result }
-        ensures done { IfOk result (λ given. IsDone self.now (Command.Show name.now) (Answer.Show given) self.now) }
+        ensures done { IfOk result (λ given. IsDone self.now (Command.Show name.now) given self.now) }
     {
         let tops = self.buffers.table(name, self.timelines.as_reach())?;
         let rows = report::show_rows(self.alloc, &tops, &self.timelines)?;
-        Ok(Items::of(rows))
+        Ok(Answer::Show(Items::of(rows)))
     }
 
-    #[inline(never)]
-    fn report(&self) -> Result<Report, Refusal>
+    fn report(&self) -> Result<Answer, Refusal>
         ensures refused { IsRefusedFor (cause_of self.now Command.Report) result }
-        ensures done { IfOk result (λ given. IsDone self.now Command.Report (Answer.Report given) self.now) }
+        ensures done { IfOk result (λ given. IsDone self.now Command.Report given self.now) }
     {
         let clocks = self.timelines.as_clocks();
         let timelines = Items::of(self.timelines.rows()?);
         let files = Items::of(report::file_rows(self.alloc, &self.files, clocks)?);
         let buffers = report::buffer_rows(self.alloc, &self.buffers, &self.timelines)?;
-        Ok(Report {
+        Ok(Answer::Report(Report {
             timelines,
             files,
             buffers: Items::of(buffers),
-        })
+        }))
     }
 }

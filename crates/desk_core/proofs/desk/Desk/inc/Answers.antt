@@ -19,8 +19,8 @@ invariant_of-self-2 c =
     let ctx = ap (λ (p : Point). p.ctx) c.in_ok-ctx.ensures.point in
     let sum = ap (λ (p : Point). p.value) c.in_ok-ctx.ensures.point in
     let at = ap (λ r. reaching r point) c.self.invariant.watches ∙ c.in_ok-ctx.ensures.reach in
-    let risen = c.raise_to.ensures.raised c.args.name c.args.n c.in_ok-ctx.ensures.known.0 (sym ctx) (sym sum) in
-    inside-raised c.raise_to.new.self c.args.name c.args.n c.after_inc.new.self (reaching c.self.inside.watches.reach point) risen at c.in_ok-fired.ensures.left c.self.invariant
+    let risen = c.raise_to.ensures.raised c.args.name.now c.args.n c.in_ok-ctx.ensures.known.0 (sym ctx) (sym sum) in
+    inside-raised c.raise_to.new.self c.args.name.now c.args.n c.after_inc.new.self (reaching c.self.inside.watches.reach point) risen at c.in_ok-fired.ensures.left c.self.invariant
 
 pub returns-clause-done : goal.returns-clause-done
 returns-clause-done c =
@@ -28,6 +28,6 @@ returns-clause-done c =
     let ctx = ap (λ (p : Point). p.ctx) c.in_ok-ctx.ensures.point in
     let sum = ap (λ (p : Point). p.value) c.in_ok-ctx.ensures.point in
     let at = ap (λ r. reaching r point) c.self.invariant.watches ∙ c.in_ok-ctx.ensures.reach in
-    let risen = c.raise_to.ensures.raised c.args.name c.args.n c.in_ok-ctx.ensures.known.0 (sym ctx) (sym sum) in
+    let risen = c.raise_to.ensures.raised c.args.name.now c.args.n c.in_ok-ctx.ensures.known.0 (sym ctx) (sym sum) in
     rw (← c.self.view_is)
-    (IsDone-inc _ c.args.name c.args.n c.raise_to.new.self c.in_ok-ctx.field-0.value (reaching c.self.inside.watches.reach point) c.of.result c.after_inc.new.self risen sum at (c.of.ensures ∙ c.in_ok-fired.ensures.fired) c.in_ok-fired.ensures.left)
+    (IsDone-inc _ c.args.name.now c.args.n c.raise_to.new.self c.in_ok-ctx.field-0.value (reaching c.self.inside.watches.reach point) c.of.result c.after_inc.new.self risen sum at (c.of.ensures ∙ c.in_ok-fired.ensures.fired) c.in_ok-fired.ensures.left)
