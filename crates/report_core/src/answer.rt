@@ -3,7 +3,7 @@ ghost use Rattle.std.specs.Prelude.{◌≡◌, ◌+◌, ◌≤◌, ◌∷◌, �
 ghost use Rattle.std.specs.Io.{StartsWith};
 ghost use Rattle.point_core.specs.declared.refusal.Refusal.TheVariants.{Memory};
 ghost use Rattle.std.specs.List.{flat_map};
-ghost use Rattle.report_core.specs.Answer.{line_text, fired_text, driver_of, fence_text, info_line, info_text};
+ghost use Rattle.report_core.specs.Answer.{line_text, fired_text, driver_of, fence_text, info_line};
 ghost use Rattle.report_core.specs.Answer.{refusal_text, details, value_line, text_of, first_line_of, rows_of};
 ghost use Rattle.report_core.specs.LineEnd.{line_end};
 
@@ -43,7 +43,9 @@ pub(crate) fn push_answer(line: u32, answer: &Answer, out: &mut Vec<u8>) -> Resu
     ensures ok { OnOk result (out.new.items ≡ out.old.items ++ text_of line answer.now) }
     ensures err { OnErr result ((result ≡ Err Memory) × StartsWith out.new.items out.old.items) }
 {
-    first_line(line, answer).push_to(out)?;
+    let mut text = TextLine::new();
+    put_first_line(&mut text, line, answer);
+    text.push_to(out)?;
     push_rows(answer, out)?;
     Ok(())
 }
@@ -70,15 +72,22 @@ pub fn first_line(line: u32, answer: &Answer) -> TextLine
     ensures begins { StartsWith (text_of line answer.now) result }
 {
     let mut text = TextLine::new();
+    put_first_line(&mut text, line, answer);
+    text
+}
+
+fn put_first_line(text: &mut TextLine, line: u32, answer: &Answer)
+    requires empty { text.old ≡ [] }
+    ensures { text.new ≡ first_line_of line answer.now }
+{
     match answer {
         Answer::Done => text.put(b"ok\n"),
-        Answer::Value(value) | Answer::Raised(value, _) => put_numbered(&mut text, b"ok", *value),
-        Answer::Info(info) => put_info(&mut text, info),
-        Answer::Show(rows) => put_numbered(&mut text, b"ok", rows.as_slice().len() as u64),
-        Answer::Report(report) => put_count(&mut text, report.row_count()),
-        Answer::Refused(refusal) => put_refusal(&mut text, line, *refusal),
+        Answer::Value(value) | Answer::Raised(value, _) => put_numbered(text, b"ok", *value),
+        Answer::Info(info) => put_info(text, info),
+        Answer::Show(rows) => put_numbered(text, b"ok", rows.as_slice().len() as u64),
+        Answer::Report(report) => put_count(text, report.row_count()),
+        Answer::Refused(refusal) => put_refusal(text, line, *refusal),
     }
-    text
 }
 
 /// The text of an answer that reports nothing but success.
@@ -169,26 +178,6 @@ fn push_callback(cookie: u64, out: &mut Vec<u8>) -> Result<(), Refusal>
     let mut line = TextLine::new();
     put_numbered(&mut line, b"fired", cookie);
     line.push_to(out)
-}
-
-/// Appends the answer of `info` to `out`: a line for the file, with the number of its fences, and a line for each of them.
-///
-/// Fails only with Memory. `out` then begins with its old bytes.
-pub fn info_text(info: &Info, out: &mut Vec<u8>) -> Result<(), Refusal>
-    ensures ok { OnOk result (out.new.items ≡ out.old.items ++ info_text info.now) }
-    ensures err { OnErr result ((result ≡ Err Memory) × StartsWith out.new.items out.old.items) }
-{
-    info_line(info).push_to(out)?;
-    push_each(info.fences.as_slice(), out)?;
-    Ok(())
-}
-
-fn info_line(info: &Info) -> TextLine
-    ensures { result ≡ info_line info.now.name info.now.status (length info.now.fences) }
-{
-    let mut line = TextLine::new();
-    put_info(&mut line, info);
-    line
 }
 
 /// Puts the line of the file: its name, its status and the number of its fences.

@@ -14,7 +14,7 @@ mod settled;
 mod table_item;
 mod writing;
 
-pub use answer::{done_line, first_line, info_text, print, refusal_line, value_line};
+pub use answer::{done_line, first_line, print, refusal_line, value_line};
 pub use line::{TEXT_LINE_BYTES, TextLine};
 pub use passing::pass_answer;
 pub use report::{report_text, show_text};
