@@ -23,3 +23,5 @@ pub mod Commuting
 pub mod Moving
 pub mod Persistent
 pub mod Choosing
+pub mod Flows
+pub mod Flowing

@@ -2,6 +2,7 @@ pub mod Alike
 pub mod Branch
 pub mod Choosing
 pub mod Covering
+pub mod Flow
 pub mod Found
 pub mod Independence
 pub mod Looks

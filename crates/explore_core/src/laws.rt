@@ -12,6 +12,8 @@ ghost use Rattle.explore_core.specs.Looks.{LooksAlike};
 ghost use Rattle.command_core.specs.declared.answer.Answer.{Answer};
 ghost use Rattle.explore_core.specs.declared.plan.Step.{Step};
 ghost use Rattle.explore_core.specs.Moving.{IsPatient, AllGoBeside, MayGoFirst};
+ghost use Rattle.explore_core.specs.Flow.{StaysWithin};
+ghost use Rattle.explore_core.specs.Found.{CanBeExplored};
 ghost use Rattle.explore_core.specs.Choosing.{AreEnoughByChoice, IsCoveredBy, IsLast};
 ghost use Rattle.explore_core.specs.Persistent.{Choice, ChosenStandStill, IsCalm, StopsOthers};
 ghost use Rattle.explore_core.specs.Schedule.{Lines, Standing, Schedule, Leads, ComesTo, IsStuck, IsAnswered, beginning, can_be_made, next_line};
@@ -74,6 +76,12 @@ pub fn chosen_clients_cover_every_schedule()
         MayAsk asked plan → AreEnoughByChoice asked bounds plan kept →
         (schedule : Schedule) (last : Standing) → ComesTo plan schedule last → IsLast plan last →
         IsCoveredBy asked plan kept (beginning plan) schedule last }
+{}
+
+/// Bounds hold along every schedule of a plan if each of its commands respects them. So lines of clients may be tested for independence
+/// by bounds that are tested once for a plan.
+pub fn plans_within_bounds_are_calm()
+    ensures { (bounds : Bounds) (plan : Lines) → CanBeExplored plan → StaysWithin bounds plan → IsCalm bounds plan (beginning plan) }
 {}
 
 /// A search that has visited enough standings (`AreEnough`) has seen every schedule: where it leads, how its lines are answered,

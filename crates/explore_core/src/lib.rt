@@ -6,6 +6,7 @@
 #![tactic(auto)]
 
 mod explorer;
+mod flow;
 mod found;
 pub mod laws;
 mod level;

@@ -1,0 +1,410 @@
+-- A plan that stays within bounds is calm.
+use Rattle.std.proofs.Common.{◌≡◌, ℕ, zero, suc, ◌+◌, ◌<◌, ◌≤◌, Bool, true, false, not, ◌&&◌, ◌||◌, cond, refl, sym, ap, ◌∙◌, subst, List, [], ◌∷◌, ◌++◌, length, length-append, count_by, filter, get_or, set, slice_get, replicate, Option, None, Some, option_map, unwrap_or, arith, if◌then◌else◌, inl, inr}
+use Rattle.std.specs.Prelude.{All, Contains, IfSome}
+use Rattle.std.specs.List.{position_from, sum_by}
+use Rattle.std.specs.Option.{option_or}
+use Rattle.std.specs.Cmp.Lexicographic.{same_text}
+use Rattle.std.proofs.lemmas.Bool.{cases_Bool, false≢true, and_parts}
+use Rattle.std.proofs.lemmas.List.{length-replicate, length-set}
+use Rattle.std.proofs.lemmas.List.Elements.{All-nil, All-cons, All-head, All-tail, All-append, All-map, All-filter, All-weaker, All-contains, All-contains_itself}
+use Rattle.std.proofs.lemmas.List.Sums.{sum_by-cons}
+use Rattle.std.proofs.lemmas.Option.{none-some, same_Some}
+use Rattle.point_core.specs.declared.context.TheConstants.{CONTEXTS}
+use Rattle.point_core.specs.declared.entry.Entry.{Entry}
+use Rattle.point_core.specs.declared.refusal.Refusal.TheVariants.{NoEntry, Exists, Limit, Flags, Cancelled as AlreadyClosed}
+use Rattle.point_core.specs.declared.refusal.LimitKind.TheVariants.{Timelines}
+use Rattle.std.proofs.Common.{nat_le}
+use Rattle.std.proofs.lemmas.Bool.{leb-false}
+use Rattle.point_core.specs.Agreement.{as_entry, point_of}
+use Rattle.point_core.specs.Named.{same_name}
+use Rattle.point_core.specs.Reach.{IsAtLeast, value_at}
+use Rattle.resv_core.specs.Resv.{entry_of}
+use Rattle.dmabuf_core.specs.Flags.{exported, imported, export_usage, import_usage, is_sync_flags, is_within, at_strongest, with_usage}
+use Rattle.timeline_core.specs.Timeline.{Timeline, new_timeline, names_of, has_timeline, context_of, reach_of, is_named, is_closed, raised, shut}
+use Rattle.timeline_core.proofs.Lookups.{position_from-more}
+use Rattle.timeline_core.proofs.Places.{IsPlace, place_from-has_timeline, context_of-place, name-place}
+use Rattle.timeline_core.proofs.Raising.{names_of-raised, names_of-shut}
+use Rattle.timeline_core.proofs.Storing.{reach_of-new}
+use Rattle.command_core.specs.declared.answer.Answer.{Answer}
+use Rattle.command_core.specs.declared.command.Command.{Command}
+use Rattle.command_core.specs.declared.command.Command.TheVariants as command
+use Rattle.desk_core.specs.theorem.World.{World, MadeFile, MadeBuffer, after, empty_world, file_named, files_without, has_file, put_set, has_made_buffer, buffer_put_set, put_into, with_put}
+use Rattle.desk_core.specs.theorem.Answer.{answer_to, causes, cause, first_of, is_refused, making_file}
+use Rattle.desk_core.specs.theorem.History.{world_of}
+use Rattle.desk_core.specs.Sound.{IsSound, IsFilePoint, IsOfMade}
+use Rattle.desk_core.proofs.Buffers.{buffer_put_set-All, buffer_put_set-new, buffer_put_set-other, buffer_put_set-put, same_or_other}
+use Rattle.desk_core.proofs.Keeping.{put_set-made}
+use Rattle.desk_core.proofs.Sound.{IsAtLeast-raised, IsAtLeast-shut, causes-accepted, context_of-made, first_of-none, not-false}
+use Rattle.explore_core.specs.declared.plan.Step.{Step}
+use Rattle.explore_core.specs.Alike.{after_answer}
+use Rattle.explore_core.specs.Branch.{Branching}
+use Rattle.explore_core.specs.Flow.{AllowsAll, AreBounded, LeadsForward, RespectsBounds, StaysWithin, files_by_plan, files_by_lines, files_by}
+use Rattle.explore_core.specs.Found.{CanBeExplored}
+use Rattle.explore_core.specs.Independence.{AreReached, Bounds, IsRoomy, IsWithin}
+use Rattle.explore_core.specs.Persistent.{IsCalm}
+use Rattle.explore_core.specs.Schedule.{Lines, Standing, Schedule, answer_now, history_with, history_along, beginning, is_taken, lines_of, made_by, next_line, place_by, place_after, after_line, Leads}
+use Rattle.explore_core.proofs.Covering.{world-with, sound-along, sound-empty, sound-with}
+use Rattle.explore_core.proofs.Leaving.{context-same}
+use Rattle.explore_core.proofs.Moving.{line-made}
+use Rattle.explore_core.proofs.Naming.{named-push, named-without_named, length-without_named}
+use Rattle.explore_core.proofs.Scheduling.{none-comes, no_watches-of}
+
+-- contexts and names
+
+no-place : (ts : List Timeline) (name : List ℕ) → position_from (is_named name) 0 ts ≡ None → context_of ts name ≡ 0
+no-place ts name is = ap (λ o. unwrap_or o 0) (position_from-more (is_named name) 0 ts ∙ ap (option_map (λ k. k + 1)) is)
+
+-- two names of one context are the same
+one-name : (ts : List Timeline) (name other : List ℕ) → has_timeline ts other ≡ true → context_of ts name ≡ context_of ts other → name ≡ other
+one-name ts name other has same = by (position_from (is_named name) 0 ts) refl
+  where
+    there : (j : ℕ) × IsPlace ts other j
+    there = place_from-has_timeline ts other 0 has
+
+    by : (o : Option ℕ) → position_from (is_named name) 0 ts ≡ o → name ≡ other
+    by None is =
+        let none = no-place ts name is in
+        let low = (context_of-made ts other has).0 in
+        absurd (omega (arith, none, low, same))
+    by (Some k) is =
+        let mine : context_of ts name ≡ k + 1 = context_of-place ts name k is in
+        let others : context_of ts other ≡ there.0 + 1 = context_of-place ts other there.0 there.1 in
+        let at : k ≡ there.0 = omega (arith, mine, others, same) in
+        same_Some name other (sym (name-place ts name k is) ∙ ap (λ i. option_map (λ (t : Timeline). t.name) (slice_get ts i)) at ∙ name-place ts other there.0 there.1)
+
+-- a context that was made has the name that it had before the new timeline
+position-before : (test : Timeline → Bool) (i : ℕ) (ts : List Timeline) (t : Timeline) (c : ℕ) → unwrap_or (position_from test i (ts ++ t ∷ [])) 0 ≡ c → 1 ≤ c → c < i + length ts → unwrap_or (position_from test i ts) 0 ≡ c
+position-before test i [] t c is low high = by (test t) is
+  where
+    by : (b : Bool) → unwrap_or (cond b (Some i) None) 0 ≡ c → 0 ≡ c
+    by true is = absurd (omega (arith, is, high))
+    by false is = is
+position-before test i (u ∷ ts) t c is low high = by (test u) is (λ is'. position-before test (i + 1) ts t c is' low (omega (arith, high)))
+  where
+    by : (b : Bool) → unwrap_or (cond b (Some i) (position_from test (i + 1) (ts ++ t ∷ []))) 0 ≡ c → (unwrap_or (position_from test (i + 1) (ts ++ t ∷ [])) 0 ≡ c → unwrap_or (position_from test (i + 1) ts) 0 ≡ c)
+        → unwrap_or (cond b (Some i) (position_from test (i + 1) ts)) 0 ≡ c
+    by true is rest = is
+    by false is rest = rest is
+
+context-before : (ts : List Timeline) (t : Timeline) (name : List ℕ) (c : ℕ) → context_of (ts ++ t ∷ []) name ≡ c → 1 ≤ c → c ≤ length ts → context_of ts name ≡ c
+context-before ts t name c is low high = position-before (is_named name) 1 ts t c is low (omega (arith, high))
+
+-- what is pending
+
+abbrev Reached : List ℕ → ℕ → Entry → Type 0
+Reached reach ctx e = e.point.ctx ≡ ctx → e.point.value ≤ value_at reach ctx
+
+all-reached : (reach : List ℕ) (es : List Entry) (ctx : ℕ) → AreReached reach es ctx → All (Reached reach ctx) es
+all-reached reach es ctx reached = All-weaker (Contains es) (Reached reach ctx) (λ e among. reached e among) es (All-contains_itself es)
+
+are-reached : (reach : List ℕ) (es : List Entry) (ctx : ℕ) → All (Reached reach ctx) es → AreReached reach es ctx
+are-reached reach es ctx all = λ e among. All-contains (Reached reach ctx) es e all among
+
+reached-later : (ts us : List Timeline) (es : List Entry) (name : List ℕ) → names_of ts ≡ names_of us → IsAtLeast (reach_of us) (reach_of ts) → AreReached (reach_of ts) es (context_of ts name) → AreReached (reach_of us) es (context_of us name)
+reached-later ts us es name names rises reached = λ e among of.
+    let same = context-same ts us names name in
+    let low : e.point.value ≤ value_at (reach_of ts) (context_of ts name) = reached e among (of ∙ sym same) in
+    let up : value_at (reach_of ts) (context_of ts name) ≤ value_at (reach_of us) (context_of ts name) = rises.values (context_of ts name) in
+    subst (λ c. e.point.value ≤ value_at (reach_of us) c) same (omega (arith, low, up))
+
+reached-new : (ts : List Timeline) (t : List ℕ) (es : List Entry) (name : List ℕ) → length ts < CONTEXTS → All (IsOfMade (length ts)) es → AreReached (reach_of ts) es (context_of ts name)
+    → AreReached (reach_of (ts ++ new_timeline t ∷ [])) es (context_of (ts ++ new_timeline t ∷ []) name)
+reached-new ts t es name low made reached = λ e among of.
+    let one = All-contains (IsOfMade (length ts)) es e made among in
+    let same : context_of ts name ≡ e.point.ctx = context-before ts (new_timeline t) name e.point.ctx (sym of) one.0 one.1 in
+    let is : e.point.value ≤ value_at (reach_of ts) (context_of ts name) = reached e among (sym same) in
+    subst (λ c. e.point.value ≤ value_at (reach_of (ts ++ new_timeline t ∷ [])) c) (same ∙ of)
+    (subst (λ reach. e.point.value ≤ value_at reach (context_of ts name)) (sym (reach_of-new ts t low)) is)
+
+-- what is put into files and buffers
+
+abbrev put_of : Option MadeFile → List Entry
+put_of o = unwrap_or (option_map (λ (f : MadeFile). f.put) o) []
+
+put-made : (P : Entry → Type 0) (fs : List MadeFile) (f : MadeFile) (name : List ℕ) → All P (put_set fs name) → (same_name f.name name ≡ true → All P f.put) → All P (put_set (fs ++ f ∷ []) name)
+put-made P fs f name old new =
+    subst (λ o. All P (put_of o)) (sym (named-push (λ (f : MadeFile). f.name) fs f name)) (by (file_named fs name) (same_name f.name name) refl old)
+  where
+    by : (o : Option MadeFile) (b : Bool) → same_name f.name name ≡ b → All P (put_of o) → All P (put_of (option_or o (cond b (Some f) None)))
+    by (Some g) b is old = old
+    by None true is old = new is
+    by None false is old = All-nil P
+
+put-closed : (P : Entry → Type 0) (fs : List MadeFile) (closed name : List ℕ) → All P (put_set fs name) → All P (put_set (files_without fs closed) name)
+put-closed P fs closed name old =
+    subst (λ o. All P (put_of o)) (sym (named-without_named (λ (f : MadeFile). f.name) fs closed name)) (by (same_name closed name))
+  where
+    by : (b : Bool) → All P (put_of (cond b None (file_named fs name)))
+    by true = All-nil P
+    by false = old
+
+put-more : (P : Entry → Type 0) (bs : List MadeBuffer) (b : List ℕ) (es : List Entry) (name : List ℕ) → has_made_buffer bs b ≡ true → All P (buffer_put_set bs name) → (b ≡ name → All P es) → All P (buffer_put_set (put_into bs b es) name)
+put-more P bs b es name has old new = elim (same_or_other name b) [
+  | inl is ↦
+      subst (λ n. All P (buffer_put_set (put_into bs b es) n)) (sym is)
+      (subst (All P) (sym (buffer_put_set-put bs b es has)) (All-append P (buffer_put_set bs b) es (subst (λ n. All P (buffer_put_set bs n)) is old) (new (sym is))))
+  | inr apart ↦ subst (All P) (sym (buffer_put_set-other bs b name es apart)) old
+]
+
+not-allowed : (one other : List ℕ → Bool) (name : List ℕ) → AllowsAll one other → other name ≡ false → one name ≡ false
+not-allowed one other name all isnt = elim (cases_Bool (one name)) [
+  | inl is ↦ absurd (false≢true (sym isnt ∙ all name is))
+  | inr is ↦ is
+]
+
+-- one command
+
+module _ (bounds : Bounds) (w : World) (sound : IsSound w) (within : IsWithin bounds w) where
+  abbrev reach : List ℕ
+  reach = reach_of w.timelines
+
+  abbrev P : List ℕ → Entry → Type 0
+  P name = Reached reach (context_of w.timelines name)
+
+  file-put : (f name : List ℕ) → bounds.file f name ≡ false → All (P name) (put_set w.files f)
+  file-put f name isnt = all-reached reach (put_set w.files f) (context_of w.timelines name) (within.files f name isnt)
+
+  buffer-put : (b name : List ℕ) → bounds.buffer b name ≡ false → All (P name) (buffer_put_set w.buffers b)
+  buffer-put b name isnt = all-reached reach (buffer_put_set w.buffers b) (context_of w.timelines name) (within.buffers b name isnt)
+
+  within-made : (f : MadeFile) → ((name : List ℕ) → bounds.file f.name name ≡ false → All (P name) f.put) → IsWithin bounds (record w { files = w.files ++ f ∷ [] })
+  within-made f new = record {
+    files = λ file name isnt. are-reached reach (put_set (w.files ++ f ∷ []) file) (context_of w.timelines name)
+        (put-made (P name) w.files f file (file-put file name isnt) (λ is. new name (ap (λ n. bounds.file n name) (same_text f.name file (sym is)) ∙ isnt)));
+    buffers = within.buffers;
+  }
+
+  within-put : (b : List ℕ) (es : List Entry) → has_made_buffer w.buffers b ≡ true → ((name : List ℕ) → bounds.buffer b name ≡ false → All (P name) es) → IsWithin bounds (with_put w b es)
+  within-put b es has new = record {
+    files = within.files;
+    buffers = λ buffer name isnt. are-reached reach (buffer_put_set (put_into w.buffers b es) buffer) (context_of w.timelines name)
+        (put-more (P name) w.buffers b es buffer has (buffer-put buffer name isnt) (λ is. new name (ap (λ n. bounds.buffer n name) is ∙ isnt)));
+  }
+
+  -- a point of a timeline that is allowed
+  one-allowed : (e : Entry) (t name : List ℕ) (allowed : List ℕ → Bool) → has_timeline w.timelines t ≡ true → e.point.ctx ≡ context_of w.timelines t → allowed t ≡ true → allowed name ≡ false → All (P name) (e ∷ [])
+  one-allowed e t name allowed has of is isnt =
+      All-cons (P name) e [] (λ of'. absurd (false≢true (sym isnt ∙ ap allowed (one-name w.timelines name t has (sym of' ∙ of)) ∙ is))) (All-nil (P name))
+
+  has-both : (a b : Bool) → not (a && b) ≡ false → (a ≡ true) × (b ≡ true)
+  has-both a b is = and_parts a b (not-false (a && b) is)
+
+  within-after : (c : Command) → RespectsBounds bounds c → first_of (causes w c) ≡ None → IsWithin bounds (after w c)
+  within-after (command.Timeline t) respects made =
+      let free = first_of-none (has_timeline w.timelines t) Exists (cause (nat_le CONTEXTS (length w.timelines)) (Limit Timelines) ∷ []) made in
+      let low : length w.timelines < CONTEXTS = leb-false CONTEXTS (length w.timelines) (first_of-none (nat_le CONTEXTS (length w.timelines)) (Limit Timelines) [] free.1).0 in
+      record {
+        files = λ file name isnt. reached-new w.timelines t (put_set w.files file) name low
+            (All-weaker (IsFilePoint (length w.timelines)) (IsOfMade (length w.timelines)) (λ e point. point.timeline) (put_set w.files file) (put_set-made w.timelines w.files file sound.made))
+            (within.files file name isnt);
+        buffers = λ buffer name isnt. reached-new w.timelines t (buffer_put_set w.buffers buffer) name low
+            (buffer_put_set-All (IsOfMade (length w.timelines)) w.buffers buffer sound.buffers)
+            (within.buffers buffer name isnt);
+      }
+  within-after (command.Inc t n) respects made =
+      let names = sym (names_of-raised w.timelines t n) in
+      let rises = IsAtLeast-raised w.timelines t n in
+      record {
+        files = λ file name isnt. reached-later w.timelines (raised w.timelines t n) (put_set w.files file) name names rises (within.files file name isnt);
+        buffers = λ buffer name isnt. reached-later w.timelines (raised w.timelines t n) (buffer_put_set w.buffers buffer) name names rises (within.buffers buffer name isnt);
+      }
+  within-after (command.Shut t) respects made =
+      let names = sym (names_of-shut w.timelines t) in
+      let rises = IsAtLeast-shut w.timelines t sound.values in
+      record {
+        files = λ file name isnt. reached-later w.timelines (shut w.timelines t) (put_set w.files file) name names rises (within.files file name isnt);
+        buffers = λ buffer name isnt. reached-later w.timelines (shut w.timelines t) (buffer_put_set w.buffers buffer) name names rises (within.buffers buffer name isnt);
+      }
+  within-after (command.Fence f t p) respects made =
+      let has = not-false (has_timeline w.timelines t) (first_of-none (not (has_timeline w.timelines t)) NoEntry (making_file w f ++ cause (is_closed w.timelines t) AlreadyClosed ∷ []) made).0 in
+      within-made _ (λ name isnt. one-allowed (as_entry (point_of (context_of w.timelines t) p)) t name (bounds.file f) has refl respects isnt)
+  within-after (command.Merge f a b) respects made =
+      within-made _ (λ name isnt. All-append (P name) (put_set w.files a) (put_set w.files b)
+      (file-put a name (not-allowed (bounds.file a) (bounds.file f) name respects.0 isnt))
+      (file-put b name (not-allowed (bounds.file b) (bounds.file f) name respects.1 isnt)))
+  within-after (command.Close f) respects made = record {
+    files = λ file name isnt. are-reached reach (put_set (files_without w.files f) file) (context_of w.timelines name)
+        (put-closed (P name) w.files f file (file-put file name isnt));
+    buffers = within.buffers;
+  }
+  within-after (command.Buffer b) respects made = record {
+    files = within.files;
+    buffers = λ buffer name isnt.
+        subst (λ es. AreReached reach es (context_of w.timelines name)) (sym (buffer_put_set-new w.buffers b buffer)) (within.buffers buffer name isnt);
+  }
+  within-after (command.Add b t p u) respects made =
+      let there = has-both (has_made_buffer w.buffers b) (has_timeline w.timelines t) (first_of-none (not (has_made_buffer w.buffers b && has_timeline w.timelines t)) NoEntry [] made).0 in
+      within-put b (entry_of (point_of (context_of w.timelines t) p) u ∷ []) there.0
+      (λ name isnt. one-allowed (entry_of (point_of (context_of w.timelines t) p) u) t name (bounds.buffer b) there.1 refl respects isnt)
+  within-after (command.Import b f flags) respects made =
+      let there = has-both (has_made_buffer w.buffers b) (has_file w.files f) (first_of-none (not (has_made_buffer w.buffers b && has_file w.files f)) NoEntry (cause (not (is_sync_flags flags)) Flags ∷ []) made).0 in
+      within-put b (imported flags (put_set w.files f)) there.0
+      (λ name isnt. All-map (P name) (with_usage (import_usage flags)) (put_set w.files f) (file-put f name (not-allowed (bounds.file f) (bounds.buffer b) name respects isnt)))
+  within-after (command.Export f b flags) respects made =
+      within-made _ (λ name isnt. All-map (P name) at_strongest (filter (is_within (export_usage flags)) (buffer_put_set w.buffers b))
+      (All-filter (is_within (export_usage flags)) (P name) (buffer_put_set w.buffers b) (buffer-put b name (not-allowed (bounds.buffer b) (bounds.file f) name respects isnt))))
+  within-after _ respects made = record { files = within.files; buffers = within.buffers }
+
+  within-answered : (c : Command) → RespectsBounds bounds c → IsWithin bounds (after_answer w c)
+  within-answered c respects = by (is_refused (answer_to w c)) refl
+    where
+      by : (r : Bool) → is_refused (answer_to w c) ≡ r → IsWithin bounds (if r then w else after w c)
+      by true is = within
+      by false is = within-after c respects (causes-accepted w c is)
+
+within-with : (bounds : Bounds) (history : List Command) (c : Command) → IsSound (world_of history) → IsWithin bounds (world_of history) → RespectsBounds bounds c → IsWithin bounds (world_of (history_with history c))
+within-with bounds history c sound within respects = subst (IsWithin bounds) (sym (world-with history c)) (within-answered bounds (world_of history) sound within c respects)
+
+within-along : (bounds : Bounds) (history cs : List Command) → IsSound (world_of history) → IsWithin bounds (world_of history) → All (RespectsBounds bounds) cs → IsWithin bounds (world_of (history_along history cs))
+within-along bounds history [] sound within respect = within
+within-along bounds history (c ∷ cs) sound within respect =
+    within-along bounds (history_with history c) cs (sound-with history c sound)
+    (within-with bounds history c sound within (All-head (RespectsBounds bounds) c cs respect)) (All-tail (RespectsBounds bounds) c cs respect)
+
+within-empty : (bounds : Bounds) → IsWithin bounds empty_world
+within-empty bounds = record {
+  files = λ file name isnt. are-reached (reach_of []) [] (context_of [] name) (All-nil (Reached (reach_of []) (context_of [] name)));
+  buffers = λ buffer name isnt. are-reached (reach_of []) [] (context_of [] name) (All-nil (Reached (reach_of []) (context_of [] name)));
+}
+
+-- how many files there are
+
+abbrev files_in : World → ℕ
+files_in w = length w.files
+
+one-more : (fs : List MadeFile) (f : MadeFile) → length (fs ++ f ∷ []) ≤ length fs + 1
+one-more fs f = omega (arith, length-append {A = MadeFile})
+
+files-after : (w : World) (c : Command) → files_in (after w c) ≤ files_in w + files_by c
+files-after w (command.Fence f t p) = one-more w.files _
+files-after w (command.Merge f a b) = one-more w.files _
+files-after w (command.Export f b flags) = one-more w.files _
+files-after w (command.Close f) = omega (arith, length-without_named (λ (f : MadeFile). f.name) w.files f)
+files-after w _ = omega arith
+
+files-with : (history : List Command) (c : Command) → files_in (world_of (history_with history c)) ≤ files_in (world_of history) + files_by c
+files-with history c =
+    subst (λ v. files_in v ≤ files_in (world_of history) + files_by c) (sym (world-with history c)) (by (world_of history) (is_refused (answer_to (world_of history) c)))
+  where
+    by : (w : World) (r : Bool) → files_in (if r then w else after w c) ≤ files_in w + files_by c
+    by w true = omega arith
+    by w false = files-after w c
+
+files-along : (history cs : List Command) → files_in (world_of (history_along history cs)) ≤ files_in (world_of history) + sum_by files_by cs
+files-along history [] = omega arith
+files-along history (c ∷ cs) =
+    let one = files-with history c in
+    let rest = files-along (history_with history c) cs in
+    let more = sum_by-cons files_by c cs in
+    omega (arith, one, rest, more)
+
+-- how many files the lines make that are not made yet
+
+abbrev files_from : List Step → ℕ → ℕ
+files_from [] place = 0
+files_from (line ∷ lines) zero = files_by line.command + files_from lines zero
+files_from (line ∷ lines) (suc place) = files_from lines place
+
+abbrev files_ahead : List (List Step) → List ℕ → ℕ
+files_ahead [] made = 0
+files_ahead (lines ∷ clients) [] = 0
+files_ahead (lines ∷ clients) (place ∷ made) = files_from lines place + files_ahead clients made
+
+all-files : (lines : List Step) → files_from lines 0 ≡ files_by_lines lines
+all-files [] = refl
+all-files (line ∷ lines) = ap (λ n. files_by line.command + n) (all-files lines) ∙ sym (sum_by-cons (λ (step : Step). files_by step.command) line lines)
+
+ahead-first : (clients : List (List Step)) → files_ahead clients (replicate (length clients) 0) ≡ sum_by files_by_lines clients
+ahead-first [] = refl
+ahead-first (lines ∷ clients) =
+    ap (λ n. n + files_ahead clients (replicate (length clients) 0)) (all-files lines)
+    ∙ ap (λ n. files_by_lines lines + n) (ahead-first clients) ∙ sym (sum_by-cons files_by_lines lines clients)
+
+fewer : (lines : List Step) (place : ℕ) → files_from lines place ≤ files_from lines 0
+fewer [] place = omega arith
+fewer (line ∷ lines) zero = omega arith
+fewer (line ∷ lines) (suc place) = let rest = fewer lines place in omega (arith, rest)
+
+line-passed : (lines : List Step) (place next : ℕ) (line : Step) → slice_get lines place ≡ Some line → place < next → files_by line.command + files_from lines next ≤ files_from lines place
+line-passed [] place next line at ahead = absurd (none-some line at)
+line-passed (other ∷ lines) place zero line at ahead = absurd (omega (arith, ahead))
+line-passed (other ∷ lines) zero (suc next) line at ahead =
+    let same : files_by other.command ≡ files_by line.command = ap (λ (s : Step). files_by s.command) (same_Some other line at) in
+    let rest = fewer lines next in
+    omega (arith, same, rest)
+line-passed (other ∷ lines) (suc place) (suc next) line at ahead = line-passed lines place next line at (omega (arith, ahead))
+
+client-passed : (clients : List (List Step)) (made : List ℕ) (client next : ℕ) (line : Step) → length made ≡ length clients → slice_get (unwrap_or (slice_get clients client) []) (get_or made client 0) ≡ Some line → get_or made client 0 < next
+    → files_by line.command + files_ahead clients (set made client next) ≤ files_ahead clients made
+client-passed [] made client next line same at ahead = absurd (none-some line at)
+client-passed (lines ∷ clients) [] client next line same at ahead = absurd (omega (arith, same))
+client-passed (lines ∷ clients) (place ∷ made) zero next line same at ahead = let one = line-passed lines place next line at ahead in omega (arith, one)
+client-passed (lines ∷ clients) (place ∷ made) (suc client) next line same at ahead =
+    let rest = client-passed clients made client next line (omega (arith, same)) at ahead in
+    omega (arith, rest)
+
+goes-forward : (line : Step) (place : ℕ) (given : Answer) → LeadsForward place line → place < place_after line place given
+goes-forward line place given forward = by line.branch forward
+  where
+    taken : (b : Branching) (r : Bool) → place < b.otherwise → place < (if r then place + 1 else b.otherwise)
+    taken b true ahead = omega arith
+    taken b false ahead = ahead
+
+    by : (o : Option Branching) → IfSome o (λ (b : Branching). place < b.otherwise) → place < place_by o place given
+    by None forward = omega arith
+    by (Some b) forward = taken b (is_taken b given) forward
+
+-- along a schedule
+
+record IsKept (bounds : Bounds) (plan : Lines) (now : Standing) : Type 0 where
+  sound : IsSound (world_of now.history)
+  within : IsWithin bounds (world_of now.history)
+  clients : length now.made ≡ length plan.clients
+  files : files_in (world_of now.history) + files_ahead plan.clients now.made ≤ files_by_plan plan
+
+client-bounded : (bounds : Bounds) (clients : List (List Step)) (client : ℕ) → All (AreBounded bounds) clients → AreBounded bounds (unwrap_or (slice_get clients client) [])
+client-bounded bounds [] client all = λ place step at. absurd (none-some step at)
+client-bounded bounds (lines ∷ clients) zero all = All-head (AreBounded bounds) lines clients all
+client-bounded bounds (lines ∷ clients) (suc client) all = client-bounded bounds clients client (All-tail (AreBounded bounds) lines clients all)
+
+module _ (bounds : Bounds) (plan : Lines) (stays : StaysWithin bounds plan) where
+  kept-first : IsKept bounds plan (beginning plan)
+  kept-first =
+      let ahead = ahead-first plan.clients in
+      let files : files_in (world_of (history_along [] plan.first)) ≤ 0 + sum_by files_by plan.first = files-along [] plan.first in
+      record {
+        sound = sound-along [] plan.first sound-empty;
+        within = within-along bounds [] plan.first sound-empty (within-empty bounds) stays.first;
+        clients = length-replicate (length plan.clients) 0;
+        files = omega (arith, ahead, files);
+      }
+
+  kept-line : (now : Standing) (client : ℕ) (line : Step) → IsKept bounds plan now → next_line plan now client ≡ Some line → IsKept bounds plan (after_line now client line)
+  kept-line now client line kept is =
+      let one = client-bounded bounds plan.clients client stays.clients (made_by now client) line is in
+      let next : ℕ = place_after line (made_by now client) (answer_now now.history line.command) in
+      let passed = client-passed plan.clients now.made client next line kept.clients is (goes-forward line (made_by now client) (answer_now now.history line.command) one.1) in
+      let more = files-with now.history line.command in
+      let before = kept.files in
+      record {
+        sound = sound-with now.history line.command kept.sound;
+        within = within-with bounds now.history line.command kept.sound kept.within one.0;
+        clients = length-set now.made client next ∙ kept.clients;
+        files = omega (arith, passed, more, before);
+      }
+
+  kept-along : (now : Standing) (schedule : Schedule) (later : Standing) → IsKept bounds plan now → Leads plan now schedule later → IsKept bounds plan later
+  kept-along now [] later kept leads = subst (IsKept bounds plan) leads kept
+  kept-along now (client ∷ schedule) later kept leads =
+      let l = line-made now client (next_line plan now client) leads.0 leads.1 in
+      kept-along leads.0 schedule later (subst (IsKept bounds plan) l.after (kept-line now client l.line kept l.is)) leads.2
+
+  pub stays-calm : CanBeExplored plan → IsCalm bounds plan (beginning plan)
+  stays-calm can = λ schedule later leads.
+      let kept = kept-along (beginning plan) schedule later kept-first leads in
+      let room = stays.room in
+      let files = kept.files in
+      let none = no_watches-of later.history (none-comes plan can schedule later leads) in (
+        record { sound = kept.sound; files = omega (arith, room, files); watches = none.watches },
+        kept.within,
+      )

@@ -1,0 +1,70 @@
+-- Tests of the lines of a plan, one after another.
+use Rattle.std.proofs.Common.{◌≡◌, ℕ, zero, suc, ◌+◌, ◌<◌, Bool, true, false, ◌||◌, refl, sym, ap, ◌∙◌, subst, List, [], ◌∷◌, ◌++◌, length, take, get_or, Some, slice_get}
+use Rattle.std.specs.Prelude.{All}
+use Rattle.std.specs.List.{list_any, sum_by}
+use Rattle.std.specs.Cmp.Lexicographic.{same_text}
+use Rattle.std.proofs.lemmas.Bool.{false≢true, and_parts}
+use Rattle.std.proofs.lemmas.List.{take_more}
+use Rattle.std.proofs.lemmas.List.Elements.{All-push}
+use Rattle.std.proofs.lemmas.List.Folds.{list_any_more}
+use Rattle.std.proofs.lemmas.List.Sums.{sum_by_push}
+use Rattle.std.proofs.lemmas.Option.{none-some, same_Some, slice_get_read}
+use Rattle.point_core.specs.Named.{same_name}
+use Rattle.explore_core.specs.declared.flow.Put.{Put}
+use Rattle.explore_core.specs.Flow.{AllowsAll, has_put, is_put}
+
+-- one of a list
+
+or-left : (a b : Bool) → a ≡ true → (a || b) ≡ true
+or-left true b is = refl
+or-left false b is = absurd (false≢true is)
+
+or-right : (a b : Bool) → b ≡ true → (a || b) ≡ true
+or-right true b is = refl
+or-right false b is = is
+
+or-none : (a b : Bool) → a ≡ false → b ≡ false → (a || b) ≡ false
+or-none true b isnt isnt' = isnt
+or-none false b isnt isnt' = isnt'
+
+any-there : {X : Type 0} (p : X → Bool) (xs : List X) (i : ℕ) (x : X) → slice_get xs i ≡ Some x → p x ≡ true → list_any p xs ≡ true
+any-there p [] i x at is = absurd (none-some x at)
+any-there p (y ∷ ys) zero x at is = or-left (p y) (list_any p ys) (ap p (same_Some y x at) ∙ is)
+any-there p (y ∷ ys) (suc i) x at is = or-right (p y) (list_any p ys) (any-there p ys i x at is)
+
+pub any-at : {X : Type 0} (p : X → Bool) (xs : List X) (i : ℕ) (x : X) → i < length xs → x ≡ get_or xs i x → p x ≡ true → list_any p xs ≡ true
+any-at p xs i x low at is = any-there p xs i x (slice_get_read xs (length xs) i x refl low at) is
+
+pub none-next : {X : Type 0} (p : X → Bool) (xs : List X) (i : ℕ) (x : X) → i < length xs → x ≡ get_or xs i x → list_any p (take i xs) ≡ false → p x ≡ false → list_any p (take (i + 1) xs) ≡ false
+none-next p xs i x low at before here =
+    list_any_more p xs i x low ∙ or-none (list_any p (take i xs)) (p (get_or xs i x)) before (ap p (sym at) ∙ here)
+
+-- the next of a list
+
+next-is : {X : Type 0} (xs : List X) (i : ℕ) (x : X) → i < length xs → x ≡ get_or xs i x → take (i + 1) xs ≡ take i xs ++ x ∷ []
+next-is xs i x low at = take_more xs i x low ∙ ap (λ d. take i xs ++ d ∷ []) (sym at)
+
+pub all-next : {X : Type 0} (P : X → Type 0) (xs : List X) (i : ℕ) (x : X) → i < length xs → x ≡ get_or xs i x → All P (take i xs) → P x → All P (take (i + 1) xs)
+all-next P xs i x low at before here = subst (All P) (sym (next-is xs i x low at)) (All-push P (take i xs) x before here)
+
+pub sum-next : {X : Type 0} (f : X → ℕ) (xs : List X) (i : ℕ) (x : X) → i < length xs → x ≡ get_or xs i x → sum_by f (take (i + 1) xs) ≡ sum_by f (take i xs) + f x
+sum-next f xs i x low at = ap (sum_by f) (next-is xs i x low at) ∙ sum_by_push f (take i xs) x
+
+-- what a file or a buffer allows
+
+allows-either : (a b : Bool) (P : Type 0) → (a || b) ≡ true → (a ≡ true → P) → (b ≡ true → P) → P
+allows-either true b P is first second = first refl
+allows-either false b P is first second = second is
+
+pub allows-next : (p : List ℕ → Put → Bool) (other : List ℕ → Bool) (puts : List Put) (i : ℕ) (put : Put) → i < length puts → put ≡ get_or puts i put
+    → AllowsAll (λ timeline. list_any (p timeline) (take i puts)) other → AllowsAll (λ timeline. p timeline put) other → AllowsAll (λ timeline. list_any (p timeline) (take (i + 1) puts)) other
+allows-next p other puts i put low at before here = λ timeline is.
+    allows-either (list_any (p timeline) (take i puts)) (p timeline put) (other timeline ≡ true)
+    (ap (λ x. list_any (p timeline) (take i puts) || p timeline x) at ∙ sym (list_any_more (p timeline) puts i put low) ∙ is) (before timeline) (here timeline)
+
+pub put-allowed : (put : Put) (from into : List ℕ) (others : List Put) → has_put others into put.timeline ≡ true → AllowsAll (λ timeline. is_put from timeline put) (has_put others into)
+put-allowed put from into others has = λ timeline is.
+    ap (has_put others into) (sym (same_text put.timeline timeline (sym (and_parts (same_name put.into from) (same_name put.timeline timeline) is).1))) ∙ has
+
+pub put-elsewhere : (put : Put) (from : List ℕ) (other : List ℕ → Bool) → same_name put.into from ≡ false → AllowsAll (λ timeline. is_put from timeline put) other
+put-elsewhere put from other isnt = λ timeline is. absurd (false≢true (sym isnt ∙ (and_parts (same_name put.into from) (same_name put.timeline timeline) is).0))
