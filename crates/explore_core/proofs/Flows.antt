@@ -1,17 +1,23 @@
 -- Tests of the lines of a plan, one after another.
-use Rattle.std.proofs.Common.{◌≡◌, ℕ, zero, suc, ◌+◌, ◌<◌, Bool, true, false, ◌||◌, refl, sym, ap, ◌∙◌, subst, List, [], ◌∷◌, ◌++◌, length, take, get_or, Some, slice_get}
-use Rattle.std.specs.Prelude.{All}
+use Rattle.std.proofs.Common.{◌≡◌, ℕ, zero, suc, ◌+◌, ◌<◌, Bool, true, false, ◌||◌, refl, sym, ap, ◌∙◌, subst, ◌≤◌, ◌-◌, List, [], ◌∷◌, ◌++◌, length, map, take, get_or, Option, None, Some, slice_get, arith, inl, inr}
+use Rattle.std.specs.Prelude.{◌⊎◌, All, IfSome, Vec}
+use Rattle.std.specs.Global.{Global}
 use Rattle.std.specs.List.{list_any, sum_by}
 use Rattle.std.specs.Cmp.Lexicographic.{same_text}
 use Rattle.std.proofs.lemmas.Bool.{false≢true, and_parts}
-use Rattle.std.proofs.lemmas.List.{take_more}
-use Rattle.std.proofs.lemmas.List.Elements.{All-push}
+use Rattle.std.proofs.lemmas.List.{length-take-le, take_more}
+use Rattle.std.proofs.lemmas.List.Elements.{All-map, All-push}
 use Rattle.std.proofs.lemmas.List.Folds.{list_any_more}
-use Rattle.std.proofs.lemmas.List.Sums.{sum_by_push}
-use Rattle.std.proofs.lemmas.Option.{none-some, same_Some, slice_get_read}
+use Rattle.std.proofs.lemmas.List.Sums.{sum_by-cons, sum_by_push}
+use Rattle.std.proofs.lemmas.Option.{IfSome_then, none-some, same_Some, slice_get_read}
 use Rattle.point_core.specs.Named.{same_name}
 use Rattle.explore_core.specs.declared.flow.Put.{Put}
-use Rattle.explore_core.specs.Flow.{AllowsAll, has_put, is_put}
+use Rattle.explore_core.specs.declared.plan.Step.{Step}
+use Rattle.explore_core.specs.Flow.{AllowsAll, AreBounded, RespectsBounds, StaysWithin, HasRoom, files_by, files_by_lines, files_by_plan, has_put, is_put}
+use Rattle.explore_core.specs.Independence.{Bounds}
+use Rattle.explore_core.specs.Schedule.{Lines}
+use Rattle.command_core.specs.declared.command.Command.{Command}
+use Rattle.syncfile_core.specs.declared.files.TheConstants.{FILES}
 
 -- one of a list
 
@@ -49,6 +55,43 @@ all-next P xs i x low at before here = subst (All P) (sym (next-is xs i x low at
 
 pub sum-next : {X : Type 0} (f : X → ℕ) (xs : List X) (i : ℕ) (x : X) → i < length xs → x ≡ get_or xs i x → sum_by f (take (i + 1) xs) ≡ sum_by f (take i xs) + f x
 sum-next f xs i x low at = ap (sum_by f) (next-is xs i x low at) ∙ sum_by_push f (take i xs) x
+
+push-at : {X : Type 0} (xs : List X) (x : X) (place : ℕ) (y : X) → slice_get (xs ++ x ∷ []) place ≡ Some y → (slice_get xs place ≡ Some y) ⊎ ((place ≡ length xs) × (x ≡ y))
+push-at [] x zero y at = inr (refl, same_Some x y at)
+push-at [] x (suc place) y at = absurd (none-some y at)
+push-at (z ∷ xs) x zero y at = inl at
+push-at (z ∷ xs) x (suc place) y at = elim (push-at xs x place y at) [
+  | inl before ↦ inl before
+  | inr here ↦ inr (ap suc here.0, here.1)
+]
+
+pub places-next : {X : Type 0} (P : ℕ → X → Type 0) (xs : List X) (i : ℕ) (x : X) → i < length xs → x ≡ get_or xs i x → ((place : ℕ) (y : X) → slice_get (take i xs) place ≡ Some y → P place y) → P i x
+    → (place : ℕ) (y : X) → slice_get (take (i + 1) xs) place ≡ Some y → P place y
+places-next P xs i x low at before here = λ place y is. elim (push-at (take i xs) x place y (ap (λ ys. slice_get ys place) (sym (next-is xs i x low at)) ∙ is)) [
+  | inl earlier ↦ before place y earlier
+  | inr last ↦ subst (λ z. P place z) last.1 (subst (λ k. P k x) (sym (last.0 ∙ length-take-le i xs (omega (arith, low)))) here)
+]
+
+-- the whole plan
+
+sum-map : {X Y : Type 0} (f : Y → ℕ) (g : X → Y) (xs : List X) → sum_by f (map g xs) ≡ sum_by (λ x. f (g x)) xs
+sum-map f g [] = refl
+sum-map f g (x ∷ xs) = sum_by-cons f (g x) (map g xs) ∙ ap (λ n. f (g x) + n) (sum-map f g xs) ∙ sym (sum_by-cons (λ y. f (g y)) x xs)
+
+module _ (plan : Lines) (first : List Command) (clients : List (Vec Step Global)) (first-is : first ≡ plan.first) (clients-are : map (λ (lines : Vec Step Global). lines.items) clients ≡ plan.clients) where
+  pub room-left : (room : ℕ) (o : Option ℕ) → room + sum_by files_by first + 2 ≡ FILES → IfSome o (λ left. left + sum_by (λ (lines : Vec Step Global). files_by_lines lines.items) clients ≡ room) → IfSome o (λ left. left + files_by_plan plan + 2 ≡ FILES)
+  room-left room o before after = IfSome_then o after (λ left is.
+      let firsts : sum_by files_by first ≡ sum_by files_by plan.first = ap (sum_by files_by) first-is in
+      let lines : sum_by (λ (lines : Vec Step Global). files_by_lines lines.items) clients ≡ sum_by files_by_lines plan.clients =
+      sym (sum-map files_by_lines (λ (lines : Vec Step Global). lines.items) clients) ∙ ap (sum_by files_by_lines) clients-are in
+      omega (arith, firsts, lines, before, is))
+
+  pub stays-within : (bounds : Bounds) → HasRoom plan → All (RespectsBounds bounds) first → All (λ (lines : Vec Step Global). AreBounded bounds lines.items) clients → StaysWithin bounds plan
+  stays-within bounds room respect bounded = record {
+    first = subst (All (RespectsBounds bounds)) first-is respect;
+    clients = subst (All (AreBounded bounds)) clients-are (All-map (AreBounded bounds) (λ (lines : Vec Step Global). lines.items) clients bounded);
+    room = room;
+  }
 
 -- what a file or a buffer allows
 

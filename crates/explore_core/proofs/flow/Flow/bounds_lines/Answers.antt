@@ -1,0 +1,19 @@
+use Rattle.std.proofs.Common.{ℕ, List, subst}
+use Rattle.std.proofs.lemmas.List.{take_all}
+use Rattle.std.proofs.lemmas.Option.{none-some}
+use Rattle.explore_core.specs.declared.plan.Step.{Step}
+use Rattle.explore_core.specs.Flow.{AreBounded, LeadsForward, RespectsBounds, bounds_of}
+use Rattle.explore_core.proofs.Flows.{places-next}
+use Rattle.explore_core.proofs.flow.Flow.bounds_lines.Goals as goal
+
+pub loop-place-init : goal.loop-place-init
+loop-place-init c = λ place step at. absurd (none-some step at)
+
+pub loop-place-preserved : goal.loop-place-preserved
+loop-place-preserved c =
+    places-next (λ (place : ℕ) (step : Step). RespectsBounds (bounds_of c.args.self.now) step.command × LeadsForward place step) c.args.lines.now c.loop-place.place c.index-lines-place.result c.loop-place-test.true c.index-lines-place.is c.loop-place.invariant
+    (c.bounds.ensures c.if-not-bounds.false, c.leads_forward.ensures c.if-not-leads_forward.false)
+
+pub returns : goal.returns
+returns c = λ _.
+    subst (λ (lines : List Step). AreBounded (bounds_of c.args.self.now) lines) (take_all c.loop-place.place c.args.lines.now c.loop-place-test.false) c.loop-place.invariant
