@@ -25,3 +25,4 @@ pub mod Persistent
 pub mod Choosing
 pub mod Flows
 pub mod Flowing
+pub mod Settling

@@ -70,7 +70,7 @@ Contains-head x xs = (0, omega arith, refl)
 Contains-tail : {X : Type 0} (x : X) (xs : List X) (y : X) → Contains xs y → Contains (x ∷ xs) y
 Contains-tail x xs y h = Contains-append_right (x ∷ []) xs y h
 
-Contains-map : {X Y : Type 0} (f : X → Y) (xs : List X) (x : X) → Contains xs x → Contains (map f xs) (f x)
+pub Contains-map : {X Y : Type 0} (f : X → Y) (xs : List X) (x : X) → Contains xs x → Contains (map f xs) (f x)
 Contains-map f [] x h = absurd (Contains-nil x h)
 Contains-map f (z ∷ xs) x h = elim (Contains-cases z xs x h) [
   | inl same ↦ subst (λ y. Contains (map f (z ∷ xs)) (f y)) same (Contains-head (f z) (map f xs))

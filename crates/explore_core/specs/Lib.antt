@@ -1,5 +1,6 @@
 pub mod Alike
 pub mod Branch
+pub mod Choice
 pub mod Choosing
 pub mod Covering
 pub mod Flow

@@ -5,15 +5,18 @@
 //! apart.
 #![tactic(auto)]
 
+mod choice;
 mod explorer;
 mod flow;
 mod found;
+mod independence;
 pub mod laws;
 mod level;
 mod list;
 mod listing;
 mod look;
 mod parts;
+mod persistence;
 mod plan;
 mod position;
 mod progress;

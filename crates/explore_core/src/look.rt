@@ -124,7 +124,7 @@ fn seen_points(
 }
 
 /// Whether one of the names is the file's name.
-fn has_name(names: &[Name], file: &Name) -> bool
+pub(crate) fn has_name(names: &[Name], file: &Name) -> bool
     ensures { result ≡ has_name names.now file.now }
 {
     for name in names {
@@ -135,7 +135,7 @@ fn has_name(names: &[Name], file: &Name) -> bool
     false
 }
 
-fn is_name(name: &Name, file: &Name) -> bool
+pub(crate) fn is_name(name: &Name, file: &Name) -> bool
     ensures { result ≡ is_name file.now name.now }
 {
     *name == *file
