@@ -23,6 +23,7 @@ mod progress;
 mod search;
 mod state;
 mod table;
+mod trial;
 mod visit;
 
 pub use explorer::{STATES, explore};

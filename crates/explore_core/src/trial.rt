@@ -1,0 +1,316 @@
+//! Proposes which clients go at a state: few of them, and so that the choice is persistent (`persistence.rt`). A trial begins with one
+//! client that can go, and adds each client that may disturb a chosen one before that goes, until none may. No proof depends on what is
+//! proposed, since the search tests each choice before it follows it.
+use crate::choice::Choice;
+use crate::flow::Flow;
+use crate::look::has_name;
+use crate::persistence::{Matter, can_go, client_leaves, is_held, is_reached};
+use crate::plan::{Plan, Step};
+use crate::position::{Position, line_at};
+use crate::progress::place_of;
+use command_core::Command;
+use desk_core::Desk;
+use point_core::{Name, Point};
+use std::alloc::{AllocError, Global};
+use std::mem::swap;
+
+/// A choice on trial, and what the lines ahead of it may change.
+#[derive(Drop)]
+struct Trial {
+    choice: Choice,
+    files: Vec<Name>,
+    timelines: Vec<Name>,
+}
+
+/// Chooses as few clients that can go as some trial does, or none if no client can go.
+pub(crate) fn choose(
+    alloc: Global,
+    plan: &Plan,
+    asked: &[Name],
+    flow: &Flow,
+    position: &Position,
+    choice: &mut Choice,
+) -> Result<(), AllocError> {
+    choice.clear();
+    let mut trial = Trial::new(alloc);
+    let mut fewest = usize::MAX;
+    for first in 0..plan.clients.len() {
+        let going = trial.begin_with(plan, asked, flow, position, first)?;
+        if going < fewest {
+            swap(choice, &mut trial.choice);
+            fewest = going;
+        }
+        if fewest == 1 {
+            return Ok(());
+        }
+    }
+    Ok(())
+}
+
+impl Trial {
+    fn new(alloc: Global) -> Trial {
+        Trial {
+            choice: Choice::new(alloc),
+            files: Vec::new(alloc),
+            timelines: Vec::new(alloc),
+        }
+    }
+
+    /// Chooses this client, and all that may disturb a chosen one. Returns how many of them can go, or the greatest number if this
+    /// client can't.
+    fn begin_with(
+        &mut self,
+        plan: &Plan,
+        asked: &[Name],
+        flow: &Flow,
+        position: &Position,
+        first: usize,
+    ) -> Result<usize, AllocError> {
+        if !can_client_go(plan, position, first) {
+            return Ok(usize::MAX);
+        }
+        self.choice.begin(position.made.as_slice())?;
+        self.choice.choose(first);
+        for _ in 0..plan.clients.len() {
+            self.move_limits(plan, position)?;
+            if !self.add_disturbing(plan, asked, flow, position) {
+                break;
+            }
+        }
+        Ok(self.going(plan, position))
+    }
+
+    /// Moves the limit of each client that is not chosen to where it stops while the chosen ones stand still.
+    fn move_limits(&mut self, plan: &Plan, position: &Position) -> Result<(), AllocError> {
+        self.files.clear();
+        self.timelines.clear();
+        self.choice.stop_all(position.made.as_slice())?;
+        for _ in 0..usize::MAX {
+            if !self.move_each(plan, &position.desk)? {
+                return Ok(());
+            }
+        }
+        Ok(())
+    }
+
+    /// Moves each limit on, as far as what others may change allows so far. Returns whether one has moved.
+    fn move_each(&mut self, plan: &Plan, desk: &Desk) -> Result<bool, AllocError> {
+        let mut has_moved = false;
+        for client in 0..plan.clients.len() {
+            if !self.choice.is_chosen(client) && self.move_limit(plan, desk, client)? {
+                has_moved = true;
+            }
+        }
+        Ok(has_moved)
+    }
+
+    fn move_limit(&mut self, plan: &Plan, desk: &Desk, client: usize) -> Result<bool, AllocError> {
+        let from = self.choice.limit(client);
+        let mut limit = from;
+        let Some(lines) = plan.clients.get(client) else {
+            return Ok(false);
+        };
+        for place in from..lines.len() {
+            let line = &lines[place];
+            // A client may skip a branch, and a `wait` in it.
+            if place >= limit && self.stops(desk, line) {
+                break;
+            }
+            self.pass(&line.command)?;
+            limit = limit.max(furthest(line, place));
+        }
+        self.choice.stop(client, limit);
+        Ok(limit > from)
+    }
+
+    /// Whether a client waits with the line for as long as the chosen ones stand still.
+    fn stops(&self, desk: &Desk, line: &Step) -> bool {
+        let Command::Wait(file) = &line.command else {
+            return false;
+        };
+        line.waits && !has_name(self.files.as_slice(), file) && self.is_unsignalled(desk, file)
+    }
+
+    fn is_unsignalled(&self, desk: &Desk, file: &Name) -> bool {
+        let Some(points) = desk.file_points(file) else {
+            return true;
+        };
+        for point in points {
+            if self.stays_pending(desk, point) {
+                return true;
+            }
+        }
+        false
+    }
+
+    fn stays_pending(&self, desk: &Desk, point: &Point) -> bool {
+        let Some(timeline) = awaited(desk, point) else {
+            return false;
+        };
+        !has_name(self.timelines.as_slice(), &timeline)
+    }
+
+    /// Notes what the command may change that a `wait` depends on.
+    fn pass(&mut self, command: &Command) -> Result<(), AllocError> {
+        match command {
+            Command::Inc(timeline, _) => self.timelines.push(*timeline)?,
+            Command::Shut(timeline) => self.timelines.push(*timeline)?,
+            Command::Fence(file, _, _) => self.files.push(*file)?,
+            Command::Merge(file, _, _) => self.files.push(*file)?,
+            Command::Export(file, _, _) => self.files.push(*file)?,
+            Command::Close(file) => self.files.push(*file)?,
+            _ => {}
+        }
+        Ok(())
+    }
+
+    /// Chooses the clients that may disturb a chosen one. Returns whether there are any.
+    fn add_disturbing(
+        &mut self,
+        plan: &Plan,
+        asked: &[Name],
+        flow: &Flow,
+        position: &Position,
+    ) -> bool {
+        let mut has_added = false;
+        for client in 0..plan.clients.len() {
+            if self.choice.is_chosen(client)
+                && self.add_disturbing_of(plan, asked, flow, position, client)
+            {
+                has_added = true;
+            }
+        }
+        has_added
+    }
+
+    /// Chooses the clients that may disturb this one: change what its line does, or free it where it waits.
+    fn add_disturbing_of(
+        &mut self,
+        plan: &Plan,
+        asked: &[Name],
+        flow: &Flow,
+        position: &Position,
+        client: usize,
+    ) -> bool {
+        let Some(line) = next_line(plan, position, client) else {
+            return false;
+        };
+        if is_held(plan, asked, flow, position, &self.choice, line) {
+            return false;
+        }
+        let Command::Wait(file) = &line.command else {
+            return self.add_all(plan, asked, flow, position, &Matter::Line(line.command));
+        };
+        if can_go(&position.desk, line) {
+            return self.add_all(plan, asked, flow, position, &Matter::Line(line.command));
+        }
+        let has_added = self.add_all(plan, asked, flow, position, &Matter::File(*file));
+        let Some(timeline) = self.quietest(plan, asked, flow, position, file) else {
+            return has_added;
+        };
+        self.add_all(plan, asked, flow, position, &Matter::Timeline(timeline)) || has_added
+    }
+
+    /// The timeline of a pending point of the file that the fewest clients may change.
+    fn quietest(
+        &self,
+        plan: &Plan,
+        asked: &[Name],
+        flow: &Flow,
+        position: &Position,
+        file: &Name,
+    ) -> Option<Name> {
+        let points = position.desk.file_points(file)?;
+        let mut quietest = None;
+        let mut fewest = usize::MAX;
+        for point in points {
+            let Some(timeline) = awaited(&position.desk, point) else {
+                continue;
+            };
+            let changing = self.changing(plan, asked, flow, position, &Matter::Timeline(timeline));
+            if changing < fewest {
+                quietest = Some(timeline);
+                fewest = changing;
+            }
+        }
+        quietest
+    }
+
+    /// How many clients may change it.
+    fn changing(
+        &self,
+        plan: &Plan,
+        asked: &[Name],
+        flow: &Flow,
+        position: &Position,
+        what: &Matter,
+    ) -> usize {
+        let made = position.made.as_slice();
+        let mut changing = 0;
+        for client in 0..plan.clients.len() {
+            if !client_leaves(plan, asked, flow, made, &self.choice, client, what) {
+                changing += 1;
+            }
+        }
+        changing
+    }
+
+    /// Chooses each client that may change it. Returns whether there are any.
+    fn add_all(
+        &mut self,
+        plan: &Plan,
+        asked: &[Name],
+        flow: &Flow,
+        position: &Position,
+        what: &Matter,
+    ) -> bool {
+        let made = position.made.as_slice();
+        let mut has_added = false;
+        for client in 0..plan.clients.len() {
+            if !client_leaves(plan, asked, flow, made, &self.choice, client, what) {
+                self.choice.choose(client);
+                has_added = true;
+            }
+        }
+        has_added
+    }
+
+    /// How many of the chosen clients can go.
+    fn going(&self, plan: &Plan, position: &Position) -> usize {
+        let mut going = 0;
+        for client in 0..plan.clients.len() {
+            if self.choice.is_chosen(client) && can_client_go(plan, position, client) {
+                going += 1;
+            }
+        }
+        going
+    }
+}
+
+fn next_line<'a>(plan: &'a Plan, position: &Position, client: usize) -> Option<&'a Step> {
+    line_at(plan, client, place_of(position.made.as_slice(), client))
+}
+
+fn can_client_go(plan: &Plan, position: &Position, client: usize) -> bool {
+    let Some(line) = next_line(plan, position, client) else {
+        return false;
+    };
+    can_go(&position.desk, line)
+}
+
+/// The timeline of the point, if the point is pending.
+fn awaited(desk: &Desk, point: &Point) -> Option<Name> {
+    if is_reached(desk, point) {
+        return None;
+    }
+    desk.timeline_name(point.ctx)
+}
+
+/// The furthest place that the client may come to by the line at this place.
+fn furthest(line: &Step, place: usize) -> usize {
+    let next = place.saturating_add(1);
+    match &line.branch {
+        Some(branch) => next.max(branch.otherwise),
+        None => next,
+    }
+}
