@@ -1,25 +1,37 @@
--- What a search has found and counted once it has visited a level.
-use Rattle.std.proofs.Common.{◌≡◌, ℕ, zero, suc, ◌+◌, ◌<◌, ◌≤◌, Bool, refl, sym, ap, ◌∙◌, subst, List, [], ◌∷◌, ◌++◌, length, length-append, get_or, None, Some, arith, inl, inr, Contains}
+-- What a search knows of every schedule once it has visited a level.
+use Rattle.std.proofs.Common.{◌≡◌, ◌⊎◌, ℕ, ◌+◌, ◌≤◌, Bool, true, refl, sym, ap, ◌∙◌, subst, List, [], ◌∷◌, ◌++◌, length, length-append, None, Some, arith, inl, inr, Contains}
 use Rattle.std.specs.Prelude.{All}
 use Rattle.std.specs.List.{AllPairs}
-use Rattle.std.proofs.lemmas.Bool.{cases_lt}
-use Rattle.std.proofs.lemmas.List.{append-nil, length-map, get_or-map}
-use Rattle.std.proofs.lemmas.List.Elements.{All-nil, All-cons, All-head, All-tail, All-append, Contains-append_left, Contains-append_right, Contains-append_cases}
+use Rattle.std.proofs.lemmas.List.{length-map, get_or-map}
+use Rattle.std.proofs.lemmas.List.Elements.{All-nil, All-cons, All-head, All-tail, All-append, All-weaker, All-contains, All-contains_itself, Contains-append_left, Contains-append_right}
 use Rattle.std.proofs.lemmas.Option.{same_Some, none-some}
+use Rattle.command_core.specs.declared.answer.Answer.{Answer}
+use Rattle.desk_core.specs.Sound.{IsSound}
+use Rattle.desk_core.specs.theorem.History.{world_of}
 use Rattle.explore_core.specs.declared.found.Found.{Found}
 use Rattle.explore_core.specs.declared.state.State.{State}
-use Rattle.explore_core.specs.Covering.{GoOnAlike, HasAlike}
-use Rattle.explore_core.specs.Found.{CanBeExplored, IsOther, IsReachable, Suffice, stuck_of}
-use Rattle.explore_core.specs.Schedule.{Lines, Standing, beginning, after_one}
-use Rattle.explore_core.specs.Search.{is_asked, standing_of, standing_at, standings_of, HasLike, Grows, IsState, IsVisited, IsCovered, IsEmptyFound, IsRight, IsCounted, counted}
+use Rattle.explore_core.specs.Covering.{GoOnAlike, HasAlike, MayAsk}
+use Rattle.explore_core.specs.Found.{CanBeExplored, IsAll, IsOther, IsReachable, Suffice, stuck_of}
+use Rattle.explore_core.specs.Levels.{FollowsAll, IsCovered, IsKnown, IsKnownOr, IsFinished, IsVisited, LeadsOn}
+use Rattle.explore_core.specs.Moving.{LineAnswer, answer_of, answers_of}
+use Rattle.explore_core.specs.Schedule.{Lines, Standing, Schedule, after_line, answer_now, beginning, next_line, ComesTo, IsAnswered, IsLast, Leads}
+use Rattle.explore_core.specs.Search.{is_asked, standing_of, standing_at, standings_of, Grows, IsFollowed, IsState, IsEmptyFound, IsRight, counted}
 use Rattle.explore_core.proofs.Asking.{may-ask}
-use Rattle.explore_core.proofs.Levels.{IsTrue-empty, go-on-refl, length-none}
+use Rattle.explore_core.proofs.Following.{FirstGoes, IsOneOf, answers-append, chosen-goes, client-goes}
+use Rattle.explore_core.proofs.Covering.{go-on-trans, last-alike, sound-made, stuck-alike}
+use Rattle.explore_core.proofs.Finding.{after-answers, none-next}
+use Rattle.explore_core.proofs.Levels.{HasEnds-alike, IsTrue-empty, go-on-refl, length-none}
+use Rattle.explore_core.proofs.Moving.{leads-alike}
+use Rattle.explore_core.proofs.Scheduling.{Leads-push, sound-comes}
 use Rattle.explore_core.proofs.Trying.{IsTrue-same}
 
 -- what is found
 
 none-once : {X : Type 0} (P : X → X → Type 0) (xs : List X) → xs ≡ [] → AllPairs P xs
 none-once P xs none = λ i j d before within. absurd (omega (arith, before, within, ap length none))
+
+none-stuck : (found : Found) → IsEmptyFound found → stuck_of found ≡ None
+none-stuck found empty = rw empty.stuck refl
 
 pub IsRight-empty : (plan : Lines) (bound : ℕ) (found : Found) → IsEmptyFound found → IsRight plan bound found
 IsRight-empty plan bound found empty = record {
@@ -28,38 +40,8 @@ IsRight-empty plan bound found empty = record {
   shortest = λ shown schedule now is comes stuck. absurd (none-some shown (sym (none-stuck found empty) ∙ is));
   within = omega (arith, empty.states);
 }
-  where
-    none-stuck : (found : Found) → IsEmptyFound found → stuck_of found ≡ None
-    none-stuck found empty = rw empty.stuck refl
 
--- that more states are counted changes nothing of what is listed
-pub IsCovered-counted : {plan : Lines} {depth : ℕ} {found : Found} {states : List State} (n : ℕ) → IsCovered plan found depth states → IsCovered plan (counted found n) depth states
-IsCovered-counted n covered = record {
-  are = covered.are;
-  reached = covered.reached;
-  listed = λ schedule now short comes. let listed = covered.listed schedule now short comes in record { given = listed.given; ended = listed.ended; stuck = listed.stuck };
-  soonest = covered.soonest;
-  soon = covered.soon;
-}
-
-pub IsRight-next : {plan : Lines} {bound depth : ℕ} (n : ℕ) {old new : Found} {states : List State}
-    → IsRight plan bound old → IsCovered plan old depth states → old.states + n ≤ bound → Grows plan depth (counted old n) new → IsRight plan bound new
-IsRight-next {plan} {bound} {depth} n {old} {new} right covered room grows =
-    let count : new.states ≡ old.states + n = grows.states in
-    record {
-      shown = grows.shown (IsTrue-same plan old (counted old n) refl refl refl right.shown);
-      once = grows.once (record { given = right.once.given; ended = right.once.ended });
-      shortest = λ shown schedule now is comes stuck. elim (cases_lt (length schedule) depth) [
-        | inl less ↦ (
-            let sooner = covered.soonest schedule now less comes stuck in
-            let same : sooner.0 ≡ shown = same_Some sooner.0 shown (sym (grows.stuck sooner.0 sooner.1) ∙ is) in
-            omega (arith, sooner.2, ap length same))
-        | inr not_less ↦ (let near : length shown ≤ depth = grows.soon covered.soon shown is in omega (arith, near, not_less))
-      ];
-      within = omega (arith, count, room);
-    }
-
--- the states
+-- the standings of states
 
 has-more : (asked : List ℕ → Bool) (kept more : List Standing) (now : Standing) → HasAlike asked kept now → HasAlike asked (kept ++ more) now
 has-more asked kept more now has = (has.0, Contains-append_left kept more has.0 has.1, has.2)
@@ -71,68 +53,239 @@ Contains-standing plan states state there = (
   get_or-map (standing_at plan) states there.0 state (standing_at plan state) there.1 ∙ ap (standing_at plan) there.2,
 )
 
-has-like : (plan : Lines) (kept : List Standing) (next : List State) (now : Standing) → HasLike plan next now → HasAlike (is_asked plan) (kept ++ standings_of plan next) now
-has-like plan kept next now has = (standing_at plan has.0, Contains-append_right kept (standings_of plan next) (standing_at plan has.0) (Contains-standing plan next has.0 has.1), has.2)
-
 reached-all : (plan : Lines) (depth : ℕ) (states : List State) → All (IsState plan depth) states → All (IsReachable plan) (standings_of plan states)
 reached-all plan depth [] are = All-nil (IsReachable plan)
 reached-all plan depth (state ∷ states) are =
     All-cons (IsReachable plan) (standing_at plan state) (standings_of plan states)
     (state.schedule.items, (All-head (IsState plan depth) state states are).comes) (reached-all plan depth states (All-tail (IsState plan depth) state states are))
 
-only-at : {X : Type 0} (one x : X) (i : ℕ) → i < 1 → get_or (one ∷ []) i x ≡ x → one ≡ x
-only-at one x zero low is = is
-only-at one x (suc i) low is = absurd (omega (arith, low))
+-- the first level
 
--- where a visited state leads to is kept
-leads-on : (plan : Lines) (found : Found) (next states : List State) → All (IsVisited plan found next) states → (now later : Standing) (client : ℕ)
-    → Contains (standings_of plan states) now → after_one plan now client ≡ Some later → HasLike plan next later
-leads-on plan found next [] visited now later client there goes = let low : there.0 < 0 = there.1 in absurd (omega (arith, low))
-leads-on plan found next (state ∷ states) visited now later client there goes =
-    elim (Contains-append_cases (standing_at plan state ∷ []) (standings_of plan states) now there) [
-      | inl here ↦ (
-          let is : standing_at plan state ≡ now = only-at (standing_at plan state) now here.0 here.1 here.2 in
-          (All-head (IsVisited plan found next) state states visited).expanded client later (ap (λ (s : Standing). after_one plan s client) is ∙ goes))
-      | inr behind ↦ leads-on plan found next states (All-tail (IsVisited plan found next) state states visited) now later client behind goes
-    ]
-
-pub IsCounted-first : (plan : Lines) (states : List State) (state : State) → states ≡ state ∷ [] → IsState plan 0 state → IsCounted plan 0 states
-IsCounted-first plan states state only is = record {
-  before = [];
-  count = refl;
+pub IsCovered-first : (plan : Lines) (found : Found) (state : State) → IsEmptyFound found → IsState plan 0 state → IsCovered plan found 0 (state ∷ [])
+IsCovered-first plan found state empty is = record {
+  are = All-cons (IsState plan 0) state [] is (All-nil (IsState plan 0));
+  visited = [];
+  count = sym empty.states;
   reached = All-nil (IsReachable plan);
-  begins =
-      let none = length-none state.schedule.items is.deep in
-      let same : beginning plan ≡ standing_at plan state = ap (standing_of plan) (sym none) in
-      let there : Contains states state = subst (λ (ss : List State). Contains ss state) (sym only) (0, omega arith, refl) in
-      has-like plan [] states (beginning plan) (state, there, subst (GoOnAlike (is_asked plan) (beginning plan)) same (go-on-refl (is_asked plan) (beginning plan)));
-  goes_on = λ now next client there goes. absurd (omega (arith, there.1));
+  covers = λ schedule now comes.
+      let same : beginning plan ≡ standing_at plan state = ap (standing_of plan) (sym (length-none state.schedule.items is.deep)) in
+      let all = answers_of plan (standing_at plan state) schedule in
+      inr (record {
+        state = state;
+        there = (0, omega arith, refl);
+        rest = schedule;
+        later = now;
+        leads = subst (λ (s : Standing). Leads plan s schedule now) same comes;
+        answers = subst (λ (s : Standing). All (IsKnownOr plan found [] all) (answers_of plan s schedule)) (sym same)
+            (All-weaker (Contains all) (IsKnownOr plan found [] all) (λ a there. inr there) all (All-contains_itself all));
+        last = λ end. (omega arith, go-on-refl (is_asked plan) now);
+      });
+  soon = λ shown is. absurd (none-some shown (sym (none-stuck found empty) ∙ is));
 }
 
-pub IsCounted-next : (plan : Lines) (found : Found) (depth n : ℕ) (states next : List State)
-    → IsCounted plan n states → All (IsState plan depth) states → All (IsVisited plan found next) states → IsCounted plan (n + length states) next
-IsCounted-next plan found depth n states next old are visited = record {
-  before = old.before ++ standings_of plan states;
-  count = omega (arith, length-append old.before (standings_of plan states), old.count, length-map states (standing_at plan));
-  reached = All-append (IsReachable plan) old.before (standings_of plan states) old.reached (reached-all plan depth states are);
-  begins = has-more (is_asked plan) (old.before ++ standings_of plan states) (standings_of plan next) (beginning plan) old.begins;
-  goes_on = λ now later client there goes. elim (Contains-append_cases old.before (standings_of plan states) now there) [
-    | inl left ↦ has-more (is_asked plan) (old.before ++ standings_of plan states) (standings_of plan next) later (old.goes_on now later client left goes)
-    | inr right ↦ has-like plan (old.before ++ standings_of plan states) next later (leads-on plan found next states visited now later client right goes)
-  ];
-}
+-- the next level
 
-pub Suffice-counted : (plan : Lines) (n : ℕ) (states : List State) → CanBeExplored plan → states ≡ [] → IsCounted plan n states → Suffice plan n
-Suffice-counted plan n states can none c =
-    let all : c.before ++ standings_of plan states ≡ c.before = ap (λ (ss : List State). c.before ++ standings_of plan ss) none ∙ append-nil c.before in
+module _ {plan : Lines} {old new : Found} {depth : ℕ} {states next : List State} (can : CanBeExplored plan) (covered : IsCovered plan old depth states)
+    (grows : Grows plan depth (counted old (length states)) new) (visits : All (IsVisited plan new next) states) where
+  may : MayAsk (is_asked plan) plan
+  may = may-ask can
+
+  abbrev visited : List Standing
+  visited = covered.visited ++ standings_of plan states
+
+  abbrev Known : LineAnswer → Type 0
+  Known = IsKnown plan new visited
+
+  abbrev KnownOr : List LineAnswer → LineAnswer → Type 0
+  KnownOr = IsKnownOr plan new visited
+
+  known-more : (a : LineAnswer) → IsKnown plan old covered.visited a → Known a
+  known-more a k =
+      let t = k.there in
+      record {
+        there = record { now = t.now; there = Contains-append_left covered.visited (standings_of plan states) t.now t.there; at = t.at; step = t.step; next = t.next; made = t.made; answer = t.answer };
+        listed = grows.given a.client a.place a.answer k.listed;
+      }
+
+  soon-next : (shown : List ℕ) → stuck_of new ≡ Some shown → length shown ≤ depth
+  soon-next = grows.soon covered.soon
+
+  finished-more : (schedule : Schedule) (now : Standing) → IsFinished plan old covered.visited schedule now → IsFinished plan new visited schedule now
+  finished-more schedule now s = record {
+    answers = All-weaker (IsKnown plan old covered.visited) Known known-more (answers_of plan (beginning plan) schedule) s.answers;
+    last = λ end. has-more (is_asked plan) covered.visited (standings_of plan states) now (s.last end);
+    ended = λ place answer e. grows.ended (length plan.clients) place answer (s.ended place answer e);
+    stuck = λ stuck. let shown = s.stuck stuck in (shown.0, grows.stuck shown.0 shown.1, shown.2);
+  }
+
+  -- a schedule that ends at a visited state
+  finished-here : (schedule : Schedule) (now : Standing) → ComesTo plan schedule now → (g : LeadsOn plan old covered.visited depth states schedule now) → [] ≡ g.rest
+      → FollowsAll plan new next (standing_at plan g.state) → IsFinished plan new visited schedule now
+  finished-here schedule now comes g none f =
+      let from = standing_at plan g.state in
+      let sound = sound-comes plan schedule now comes in
+      let here : from ≡ g.later = subst (λ (r : Schedule). Leads plan from r g.later) (sym none) g.leads in
+      let alike : IsLast plan now → GoOnAlike (is_asked plan) now from = λ end. subst (GoOnAlike (is_asked plan) now) (sym here) (g.last end).1 in
+      record {
+        answers = All-weaker (IsKnownOr plan old covered.visited (answers_of plan from g.rest)) Known
+            (λ a k. elim k [
+              | inl known ↦ known-more a known
+              | inr later ↦ (let none-left : Contains [] a = subst (λ (r : Schedule). Contains (answers_of plan from r) a) (sym none) later in absurd (omega (arith, none-left.1)))
+            ]) (answers_of plan (beginning plan) schedule) g.answers;
+        last = λ end. (from, Contains-append_right covered.visited (standings_of plan states) from (Contains-standing plan states g.state g.there), alike end);
+        ended = λ place answer e.
+            let end : IsLast plan now = λ client. none-next plan now client (e.done client) in
+            HasEnds-alike new may (alike end) sound f.ended place answer e;
+        stuck = λ stuck.
+            let shown = f.stuck (stuck-alike may (alike stuck.nobody) sound stuck) in
+            let deep : length schedule ≡ depth + length g.rest = (g.last stuck.nobody).0 in
+            (shown.0, shown.1, omega (arith, soon-next shown.0 shown.1, deep));
+      }
+
+  -- a client that is followed leads to a state of the next level, from which the rest of the schedule leads on
+  goes-on : (schedule : Schedule) (now : Standing) → ComesTo plan schedule now → (g : LeadsOn plan old covered.visited depth states schedule now) (chosen : ℕ → Bool)
+      → ((client : ℕ) → chosen client ≡ true → IsFollowed plan new next (standing_at plan g.state) client) → FirstGoes (is_asked plan) plan chosen (standing_at plan g.state) g.rest g.later
+      → LeadsOn plan new visited (depth + 1) next schedule now
+  goes-on schedule now comes g chosen followed f =
+      let from = standing_at plan g.state in
+      let sound-from = sound-comes plan g.state.schedule.items from (All-contains (IsState plan depth) states g.state covered.are g.there).comes in
+      let sound-start : IsSound (world_of f.start.history) = sound-made from f.client (next_line plan from f.client) f.start f.goes sound-from in
+      let one = followed f.client f.one in
+      let has = one.kept f.start f.goes in
+      let there = standing_at plan has.0 in
+      let r = leads-alike may f.rest f.start there f.to sound-start has.2 f.leads in
+      let given : LineAnswer = record { client = f.client; place = f.place; answer = f.answer } in
+      let known : Known given = record {
+        there = record {
+          now = from;
+          there = Contains-append_right covered.visited (standings_of plan states) from (Contains-standing plan states g.state g.there);
+          at = f.given.at;
+          step = f.given.step;
+          next = f.given.next;
+          made = f.given.made;
+          answer = f.given.answer;
+        };
+        listed = one.listed f.place f.answer f.given;
+      } in
+      let behind = answers_of plan there f.rest in
+      let all = All-weaker (IsOneOf given (answers_of plan f.start f.rest)) (KnownOr behind)
+      (λ a k. elim k [
+        | inl is ↦ inl (subst Known is known)
+        | inr other ↦ inr (subst (λ answers. Contains answers a) (sym r.answers) other)
+      ]) (answers_of plan from g.rest) f.answers in
+      record {
+        state = has.0;
+        there = has.1;
+        rest = f.rest;
+        later = r.last;
+        leads = r.leads;
+        answers = All-weaker (IsKnownOr plan old covered.visited (answers_of plan from g.rest)) (KnownOr behind)
+            (λ a k. elim k [
+              | inl known ↦ inl (known-more a known)
+              | inr later ↦ All-contains (KnownOr behind) (answers_of plan from g.rest) a all later
+            ]) (answers_of plan (beginning plan) schedule) g.answers;
+        last = λ end.
+            let before = g.last end in
+            let step = f.ends (last-alike may before.1 (sound-comes plan schedule now comes) end) in
+            let deep : length schedule ≡ depth + length g.rest = before.0 in
+            let one-less : length g.rest ≡ length f.rest + 1 = step.0 in
+            (omega (arith, deep, one-less), go-on-trans (go-on-trans before.1 step.1) r.alike);
+      }
+
+  -- from a state where all clients are followed, the first client of the rest goes, if there is one
+  on-all : (schedule : Schedule) (now : Standing) → ComesTo plan schedule now → (g : LeadsOn plan old covered.visited depth states schedule now) → FollowsAll plan new next (standing_at plan g.state)
+      → (rest : Schedule) → rest ≡ g.rest → IsFinished plan new visited schedule now ⊎ LeadsOn plan new visited (depth + 1) next schedule now
+  on-all schedule now comes g f [] is = inl (finished-here schedule now comes g is f)
+  on-all schedule now comes g f (client ∷ rest) is =
+      let from = standing_at plan g.state in
+      let leads = subst (λ (r : Schedule). Leads plan from r g.later) (sym is) g.leads in
+      let first = client-goes plan from client rest g.later (go-on-refl (is_asked plan) g.later) leads in
+      inr (goes-on schedule now comes g (λ k. true) (λ k is. f.followed k)
+      (subst (λ (r : Schedule). FirstGoes (is_asked plan) plan (λ k. true) from r g.later) is first))
+
+  covers-next : (schedule : Schedule) (now : Standing) → ComesTo plan schedule now → IsFinished plan new visited schedule now ⊎ LeadsOn plan new visited (depth + 1) next schedule now
+  covers-next schedule now comes = elim (covered.covers schedule now comes) [
+    | inl is ↦ inl (finished-more schedule now is)
+    | inr g ↦ elim (All-contains (IsVisited plan new next) states g.state visits g.there) [
+      | inl all ↦ on-all schedule now comes g all g.rest refl
+      | inr some ↦ (
+          let from = standing_at plan g.state in
+          let sound = sound-comes plan g.state.schedule.items from (All-contains (IsState plan depth) states g.state covered.are g.there).comes in
+          inr (goes-on schedule now comes g some.choice.chosen some.followed (chosen-goes may from some.choice some.persistent some.calm sound g.rest g.later g.leads)))
+    ]
+  ]
+
+  pub IsCovered-next : All (IsState plan (depth + 1)) next → IsCovered plan new (depth + 1) next
+  IsCovered-next are = record {
+    are = are;
+    visited = visited;
+    count = (let count : new.states ≡ old.states + length states = grows.states in omega (arith, length-append covered.visited (standings_of plan states), covered.count, length-map states (standing_at plan), count));
+    reached = All-append (IsReachable plan) covered.visited (standings_of plan states) covered.reached (reached-all plan depth states covered.are);
+    covers = covers-next;
+    soon = λ shown is. omega (arith, soon-next shown is);
+  }
+
+-- what is found is right, also if the search stops within a level
+pub IsRight-next : {plan : Lines} {bound depth : ℕ} {old new : Found} {states : List State} → IsCovered plan old depth states → Grows plan depth (counted old (length states)) new
+    → IsRight plan bound old → old.states + length states ≤ bound → IsRight plan bound new
+IsRight-next {plan} {bound} {depth} {old} {new} {states} covered grows right room =
+    let count : new.states ≡ old.states + length states = grows.states in
     record {
-      asked = is_asked plan;
-      may = may-ask can;
-      kept = c.before;
-      count = c.count;
-      reached = c.reached;
-      enough = record {
-        begins = subst (λ (kept : List Standing). HasAlike (is_asked plan) kept (beginning plan)) all c.begins;
-        goes_on = λ now next client there goes. subst (λ (kept : List Standing). HasAlike (is_asked plan) kept next) all (c.goes_on now next client there goes);
-      };
+      shown = grows.shown (IsTrue-same plan old (counted old (length states)) refl refl refl right.shown);
+      once = grows.once (record { given = right.once.given; ended = right.once.ended });
+      shortest = λ shown schedule now is comes stuck. elim (covered.covers schedule now comes) [
+        | inl is_finished ↦ (
+            let sooner = is_finished.stuck stuck in
+            let same : sooner.0 ≡ shown = same_Some sooner.0 shown (sym (grows.stuck sooner.0 sooner.1) ∙ is) in
+            omega (arith, sooner.2, ap length same))
+        | inr g ↦ (
+            let deep : length schedule ≡ depth + length g.rest = (g.last stuck.nobody).0 in
+            let soon : length shown ≤ depth = grows.soon covered.soon shown is in
+            omega (arith, soon, deep))
+      ];
+      within = omega (arith, count, room);
     }
+
+-- the last level
+
+module _ {plan : Lines} {found : Found} {depth : ℕ} (covered : IsCovered plan found depth []) where
+  finished : (schedule : Schedule) (now : Standing) → ComesTo plan schedule now → IsFinished plan found covered.visited schedule now
+  finished schedule now comes = elim (covered.covers schedule now comes) [
+    | inl is ↦ is
+    | inr g ↦ (let low = g.there.1 in absurd (omega (arith, low)))
+  ]
+
+  -- the answer is the last along the schedule with one more client
+  known : (schedule : Schedule) (client place : ℕ) (answer : Answer) → IsAnswered plan schedule client place answer
+      → IsKnown plan found covered.visited (record { client = client; place = place; answer = answer })
+  known schedule client place answer a =
+      let goes = after-answers {plan = plan} {now = a.now} {place = place} {given = answer} (record { at = a.at; step = a.step; next = a.next; made = a.made; answer = a.answer }) in
+      let later = after_line a.now client a.step in
+      let s = finished (schedule ++ client ∷ []) later (Leads-push plan (beginning plan) schedule a.now client later a.comes goes) in
+      let one : LineAnswer = record { client = client; place = place; answer = answer } in
+      let last : answers_of plan a.now (client ∷ []) ≡ one ∷ [] =
+      ap (λ o. answer_of a.now client o ++ []) a.next
+      ∙ ap (λ p. record { client = client; place = p; answer = answer_now a.now.history a.step.command } ∷ []) a.at
+      ∙ ap (λ given. record { client = client; place = place; answer = given } ∷ []) (sym a.answer) in
+      let all : answers_of plan (beginning plan) (schedule ++ client ∷ []) ≡ answers_of plan (beginning plan) schedule ++ one ∷ [] =
+      answers-append plan schedule (client ∷ []) (beginning plan) a.now a.comes ∙ ap (λ more. answers_of plan (beginning plan) schedule ++ more) last in
+      All-contains (IsKnown plan found covered.visited) (answers_of plan (beginning plan) schedule ++ one ∷ []) one (subst (All (IsKnown plan found covered.visited)) all s.answers)
+      (Contains-append_right (answers_of plan (beginning plan) schedule) (one ∷ []) one (0, omega arith, refl))
+
+  pub IsAll-covered : IsAll plan found
+  IsAll-covered = record {
+    given = λ schedule client place answer a. (known schedule client place answer a).listed;
+    ended = λ schedule place answer e. (finished schedule e.now e.comes).ended place answer (record { done = e.done; command = e.command; at = e.at; answer = e.answer });
+    stuck = λ schedule now comes stuck. (finished schedule now comes).stuck stuck;
+  }
+
+  pub Suffice-covered : CanBeExplored plan → Suffice plan found.states
+  Suffice-covered can = record {
+    asked = is_asked plan;
+    may = may-ask can;
+    kept = covered.visited;
+    count = covered.count;
+    reached = covered.reached;
+    answered = λ schedule client place given a. (known schedule client place given a).there;
+    last = λ schedule now comes end. (finished schedule now comes).last end;
+  }

@@ -1,4 +1,4 @@
--- Standings that are enough cover every schedule.
+-- Standings that are alike go on alike.
 use Rattle.std.proofs.Common.{◌≡◌, ℕ, Bool, true, false, not, ◌&&◌, refl, sym, ap, ◌∙◌, subst, List, [], ◌∷◌, ◌++◌, Option, None, Some, if◌then◌else◌, slice_get, get_or, set}
 use Rattle.std.specs.Prelude.{IsSome}
 use Rattle.std.specs.List.{AllZip}
@@ -8,7 +8,6 @@ use Rattle.point_core.specs.Agreement.{AgreesAbove}
 use Rattle.point_core.proofs.Agreement.{AgreesAbove-trans}
 use Rattle.timeline_core.specs.Timeline.{Timeline, reach_of}
 use Rattle.command_core.specs.declared.command.Command.{Command}
-use Rattle.command_core.specs.declared.answer.Answer.{Answer}
 use Rattle.desk_core.specs.theorem.World.{World, MadeWatch, empty_world, after, put_set, buffer_put_set}
 use Rattle.desk_core.specs.theorem.Answer.{is_refused}
 use Rattle.desk_core.specs.theorem.History.{world_of}
@@ -17,8 +16,8 @@ use Rattle.desk_core.proofs.Answering.{world_from-push}
 use Rattle.desk_core.proofs.Sound.{IsSound-history}
 use Rattle.explore_core.specs.declared.plan.Step.{Step}
 use Rattle.explore_core.specs.Alike.{AsksOnly, AreAlike, IsSameWatch, after_answer}
-use Rattle.explore_core.specs.Schedule.{Lines, Standing, Schedule, answer_now, history_with, history_along, beginning, lines_of, made_by, next_line, can_be_made, place_after, after_line, made_line, after_one, Leads, ComesTo, IsStuck, IsAnswered}
-use Rattle.explore_core.specs.Covering.{MayAsk, GoOnAlike, HasAlike, AreEnough, AnswersThere, IsStuckThere}
+use Rattle.explore_core.specs.Schedule.{Lines, Standing, answer_now, history_with, history_along, lines_of, made_by, next_line, can_be_made, place_after, after_line, made_line, after_one, IsLast, IsStuck}
+use Rattle.explore_core.specs.Covering.{MayAsk, GoOnAlike}
 use Rattle.explore_core.proofs.Answering.{same_answer}
 use Rattle.explore_core.proofs.Staying.{alike-answered, IsSound-answered}
 
@@ -112,7 +111,7 @@ module _ {asked : List ℕ → Bool} {plan : Lines} (may : MayAsk asked plan) {s
       let there = made-alike client (next_line plan s client) next refl goes in
       (there.0, ap (made_line t client) (sym (next-same client)) ∙ there.1, there.2)
 
-  pub none-made : (client : ℕ) (o : Option Step) → next_line plan s client ≡ o → made_line s client o ≡ None → made_line t client o ≡ None
+  none-made : (client : ℕ) (o : Option Step) → next_line plan s client ≡ o → made_line s client o ≡ None → made_line t client o ≡ None
   none-made client None is none = refl
   none-made client (Some step) is none = by (can_be_made s step) (can_be_made t step) (can-same step (asks-next client step is)) none
     where
@@ -122,10 +121,14 @@ module _ {asked : List ℕ → Bool} {plan : Lines} (may : MayAsk asked plan) {s
       by true false same none = absurd (false≢true (sym same))
       by false true same none = absurd (false≢true same)
 
+  -- in both no client can go, or in neither
+  pub last-alike : IsLast plan s → IsLast plan t
+  last-alike nobody client = ap (made_line t client) (sym (next-same client)) ∙ none-made client (next_line plan s client) refl (nobody client)
+
   -- both are stuck, or neither
   pub stuck-alike : IsStuck plan s → IsStuck plan t
   stuck-alike stuck = record {
-    nobody = λ client. ap (made_line t client) (sym (next-same client)) ∙ none-made client (next_line plan s client) refl (stuck.nobody client);
+    nobody = last-alike stuck.nobody;
     waiting = (stuck.waiting.0, subst IsSome (next-same stuck.waiting.0) stuck.waiting.1);
   }
 
@@ -144,37 +147,3 @@ sound-made s client (Some step) next goes sound = by (can_be_made s step) goes
 
 pub sound-empty : IsSound (world_of [])
 sound-empty = IsSound-history [] tt
-
-module _ {asked : List ℕ → Bool} {plan : Lines} (kept : List Standing) (may : MayAsk asked plan) (enough : AreEnough asked plan kept) where
-  led-from : (from : Standing) (schedule : Schedule) (now : Standing) → IsSound (world_of from.history) → HasAlike asked kept from → Leads plan from schedule now → HasAlike asked kept now × IsSound (world_of now.history)
-  led-from from [] now sound has leads = subst (λ (n : Standing). HasAlike asked kept n × IsSound (world_of n.history)) leads (has, sound)
-  led-from from (client ∷ clients) now sound has leads =
-      let other = one-alike may has.2 sound client leads.0 leads.1 in
-      let kept-next = enough.goes_on has.0 other.0 client has.1 other.1 in
-      led-from leads.0 clients now (sound-made from client (next_line plan from client) leads.0 leads.1 sound)
-      (kept-next.0, kept-next.1, go-on-trans other.2 kept-next.2) leads.2
-
-  pub led : (schedule : Schedule) (now : Standing) → ComesTo plan schedule now → HasAlike asked kept now × IsSound (world_of now.history)
-  led schedule now comes = led-from (beginning plan) schedule now (sound-along [] plan.first sound-empty) enough.begins comes
-
-  pub answered : (schedule : Schedule) (client place : ℕ) (given : Answer) → IsAnswered plan schedule client place given → AnswersThere plan kept client place given
-  answered schedule client place given a =
-      let comes = led schedule a.now a.comes in
-      let has = comes.0 in
-      let g = has.2 in
-      let asks = asks-next may g comes.1 client a.step a.next in
-      record {
-        now = has.0;
-        there = has.1;
-        at = ap (λ made. get_or made client 0) (sym g.made) ∙ a.at;
-        step = a.step;
-        next = sym (next-same may g comes.1 client) ∙ a.next;
-        made = sym (can-same may g comes.1 a.step asks) ∙ a.made;
-        answer = a.answer ∙ answer-same may g comes.1 a.step asks;
-      }
-
-  pub stuck-there : (schedule : Schedule) (now : Standing) → ComesTo plan schedule now → IsStuck plan now → IsStuckThere plan kept now
-  stuck-there schedule now comes stuck =
-      let at = led schedule now comes in
-      let has = at.0 in
-      (has.0, has.1, stuck-alike may has.2 at.1 stuck, has.2.made)

@@ -1,5 +1,5 @@
 -- What a visit finds: answers, states, and a schedule that gets stuck.
-use Rattle.std.proofs.Common.{◌≡◌, ◌⊎◌, ℕ, zero, suc, ◌+◌, ◌<◌, ◌≤◌, refl, sym, ap, ◌∙◌, subst, List, [], ◌∷◌, ◌++◌, length, take, Option, None, Some, option_map, unwrap_or, if◌then◌else◌, slice_get, get_or, arith, inl, inr, Contains}
+use Rattle.std.proofs.Common.{◌≡◌, ◌⊎◌, ℕ, Bool, true, false, zero, suc, ◌+◌, ◌<◌, ◌≤◌, refl, sym, ap, ◌∙◌, subst, List, [], ◌∷◌, ◌++◌, length, take, Option, None, Some, option_map, unwrap_or, if◌then◌else◌, slice_get, get_or, arith, inl, inr, Contains}
 use Rattle.std.specs.Prelude.{All, IsSome, Vec}
 use Rattle.std.specs.Global.{Global}
 use Rattle.std.specs.List.{AllPairs}
@@ -11,6 +11,8 @@ use Rattle.std.proofs.lemmas.Option.{same_Some, none-some}
 use Rattle.command_core.specs.declared.answer.Answer.{Answer}
 use Rattle.command_core.specs.declared.command.Command.{Command}
 use Rattle.explore_core.specs.declared.plan.Step.{Step}
+use Rattle.explore_core.specs.declared.choice.Choice.{Choice}
+use Rattle.explore_core.specs.declared.chooser.Chooser.{Chooser}
 use Rattle.explore_core.specs.declared.found.Found.{Found}
 use Rattle.explore_core.specs.declared.found.Given.{Given}
 use Rattle.explore_core.specs.declared.state.State.{State}
@@ -18,8 +20,13 @@ use Rattle.explore_core.specs.declared.search.Move.{Move}
 use Rattle.explore_core.specs.declared.search.Move.TheVariants as move
 use Rattle.explore_core.specs.Found.{CanBeExplored, IsOther, Lists, stuck_of}
 use Rattle.explore_core.specs.Schedule.{Lines, Standing, Schedule, answer_now, history_along, beginning, lines_of, next_line, made_by, after_line, made_line, after_one, ComesTo, IsStuck, IsAnswered, IsEndAnswered}
-use Rattle.explore_core.specs.Search.{Seen, LevelState, is_asked, standing_of, standing_at, states_of, Answers, HasLike, Grows, Extends, IsState, IsSeen, Keeps, Records, IsGiven, IsVisited, IsFollowed, IsTried, AreTried, IsMove, AreMoves, together, HasEnds, EndsAre, IsEnd, AreEndsListed}
-use Rattle.explore_core.proofs.Levels.{go-on-refl}
+use Rattle.explore_core.specs.Search.{Seen, LevelState, is_asked, standing_of, standing_at, states_of, Answers, HasLike, Grows, Extends, IsState, IsSeen, Keeps, Records, IsGiven, IsFollowed, IsTried, AreTried, IsMove, AreMoves, together, HasEnds, EndsAre, IsEnd, AreEndsListed}
+use Rattle.explore_core.specs.Choice.{choice_of}
+use Rattle.explore_core.specs.Choosing.{IsChoiceAt, IsReady}
+use Rattle.explore_core.specs.Flow.{bounds_of}
+use Rattle.explore_core.specs.Levels.{IsVisited}
+use Rattle.explore_core.proofs.Following.{calm-later}
+use Rattle.explore_core.proofs.Levels.{go-on-refl, IsFollowed-grows}
 use Rattle.explore_core.proofs.Scheduling.{Leads-is, Leads-push}
 use Rattle.explore_core.proofs.Showing.{same-state}
 
@@ -161,13 +168,6 @@ IsFollowed-made plan found next now client place given after a goes lists has = 
   kept = λ later is. subst (HasLike plan next) (same_Some after later (sym goes ∙ is)) has;
 }
 
-pub IsFollowed-grows : {plan : Lines} {depth deeper : ℕ} {old new : Found} {next more : LevelState} (now : Standing) (client : ℕ) → Grows plan depth old new → Extends plan deeper next more
-    → IsFollowed plan old (states_of next.seen) now client → IsFollowed plan new (states_of more.seen) now client
-IsFollowed-grows now client g x f = record {
-  listed = λ place answer a. g.given client place answer (f.listed place answer a);
-  kept = λ later goes. x.alike later (f.kept later goes);
-}
-
 -- what the first clients do
 
 pub AreTried-none : (plan : Lines) (found : Found) (next : List State) (state : State) → AreTried plan found next state 0 move.Done
@@ -258,14 +258,11 @@ module _ (plan : Lines) (found : Found) (next : List State) (state : State) wher
   ]
 
   pub IsVisited-goes : AreTried plan found next state (length plan.clients) move.Goes → IsVisited plan found next state
-  IsVisited-goes tried = record {
-    listed = record {
-      given = λ client place answer a. (followed-all tried client).listed place answer a;
-      ended = λ place answer e. absurd (some-next tried.are.0 tried.are.1 tried.are.2 (e.done tried.are.0));
-      stuck = λ stuck. absurd (none-some tried.are.1 (sym (stuck.nobody tried.are.0) ∙ tried.are.2));
-    };
-    expanded = λ client later goes. (followed-all tried client).kept later goes;
-  }
+  IsVisited-goes tried = inl (record {
+    followed = followed-all tried;
+    ended = λ place answer e. absurd (some-next tried.are.0 tried.are.1 tried.are.2 (e.done tried.are.0));
+    stuck = λ stuck. absurd (none-some tried.are.1 (sym (stuck.nobody tried.are.0) ∙ tried.are.2));
+  })
 
 module _ (plan : Lines) (depth : ℕ) (old found : Found) (next : List State) (state : State) (g : Grows plan depth old found) where
   abbrev there : Standing
@@ -278,24 +275,53 @@ module _ (plan : Lines) (depth : ℕ) (old found : Found) (next : List State) (s
   }
 
   pub IsVisited-waits : AreTried plan old next state (length plan.clients) move.Waits → (shown : List ℕ) → stuck_of found ≡ Some shown → IsVisited plan found next state
-  IsVisited-waits tried shown is = record {
-    listed = record {
-      given = λ client place answer a. (grown client (followed-all plan old next state tried client)).listed place answer a;
-      ended = λ place answer e. absurd (some-none (next_line plan there tried.are.1) tried.are.2 (e.done tried.are.1));
-      stuck = λ stuck. (shown, is);
-    };
-    expanded = λ client later goes. (followed-all plan old next state tried client).kept later goes;
-  }
+  IsVisited-waits tried shown is = inl (record {
+    followed = λ client. grown client (followed-all plan old next state tried client);
+    ended = λ place answer e. absurd (some-none (next_line plan there tried.are.1) tried.are.2 (e.done tried.are.1));
+    stuck = λ stuck. (shown, is);
+  })
 
   pub IsVisited-done : AreTried plan old next state (length plan.clients) move.Done → HasEnds plan found there → IsVisited plan found next state
-  IsVisited-done tried ends = record {
-    listed = record {
-      given = λ client place answer a. (grown client (followed-all plan old next state tried client)).listed place answer a;
-      ended = ends;
-      stuck = λ stuck. absurd (some-none (next_line plan there stuck.waiting.0) stuck.waiting.1 (done-all plan old next state tried stuck.waiting.0));
-    };
-    expanded = λ client later goes. (followed-all plan old next state tried client).kept later goes;
-  }
+  IsVisited-done tried ends = inl (record {
+    followed = λ client. grown client (followed-all plan old next state tried client);
+    ended = ends;
+    stuck = λ stuck. absurd (some-none (next_line plan there stuck.waiting.0) stuck.waiting.1 (done-all plan old next state tried stuck.waiting.0));
+  })
+
+-- the chosen clients
+
+pub chosen-push : {plan : Lines} {depth deeper : ℕ} {old new : Found} {next more : LevelState} (now : Standing) (n : ℕ) (chosen : ℕ → Bool)
+    → ((client : ℕ) → client < n → chosen client ≡ true → IsFollowed plan old (states_of next.seen) now client) → Grows plan depth old new → Extends plan deeper next more
+    → IsFollowed plan new (states_of more.seen) now n → (client : ℕ) → client < n + 1 → chosen client ≡ true → IsFollowed plan new (states_of more.seen) now client
+chosen-push {plan} {new = new} {more = more} now n chosen before g x last client few is = elim (below client n few) [
+  | inl less ↦ IsFollowed-grows now client g x (before client less is)
+  | inr same ↦ subst (IsFollowed plan new (states_of more.seen) now) (sym same) last
+]
+
+pub chosen-skip : {plan : Lines} {found : Found} {next : List State} (now : Standing) (n : ℕ) (chosen : ℕ → Bool)
+    → ((client : ℕ) → client < n → chosen client ≡ true → IsFollowed plan found next now client) → chosen n ≡ false
+    → (client : ℕ) → client < n + 1 → chosen client ≡ true → IsFollowed plan found next now client
+chosen-skip now n chosen before isnt client few is = elim (below client n few) [
+  | inl less ↦ before client less is
+  | inr same ↦ absurd (false≢true (sym isnt ∙ ap chosen (sym same) ∙ is))
+]
+
+pub chosen-all : (plan : Lines) {found : Found} {next : List State} (now : Standing) (n : ℕ) (chosen : ℕ → Bool) → length plan.clients ≤ n
+    → ((client : ℕ) → client < n → chosen client ≡ true → IsFollowed plan found next now client) → (client : ℕ) → chosen client ≡ true → IsFollowed plan found next now client
+chosen-all plan {found} {next} now n chosen all before client is = elim (cases_lt client n) [
+  | inl less ↦ before client less is
+  | inr not_less ↦ IsFollowed-none plan found next now client (none-next plan now client (no-next plan now client (omega (arith, not_less, all))))
+]
+
+pub IsVisited-chosen : {plan : Lines} {depth : ℕ} {found : Found} {next : List State} {chooser : Chooser} {kept : Choice} (state : State) → IsState plan depth state → IsReady plan chooser
+    → IsChoiceAt plan chooser (standing_at plan state) kept → ((client : ℕ) → (choice_of kept).chosen client ≡ true → IsFollowed plan found next (standing_at plan state) client) → IsVisited plan found next state
+IsVisited-chosen {plan} {chooser = chooser} {kept = kept} state is ready chosen followed = inr (record {
+  bounds = bounds_of chooser.flow;
+  calm = calm-later (bounds_of chooser.flow) plan state.schedule.items (standing_at plan state) (ready chosen.chooses) is.comes;
+  choice = choice_of kept;
+  persistent = chosen.persistent;
+  followed = followed;
+})
 
 -- a schedule that gets stuck is shown
 

@@ -22,7 +22,7 @@ pub mod Leaving
 pub mod Commuting
 pub mod Moving
 pub mod Persistent
-pub mod Choosing
+pub mod Following
 pub mod Flows
 pub mod Flowing
 pub mod Settling

@@ -1,6 +1,5 @@
 -- A choice of clients that passes the check is persistent.
-use Rattle.std.proofs.Common.{◌≡◌, ◌⊎◌, ℕ, zero, suc, ◌+◌, ◌-◌, ◌<◌, ◌≤◌, nat_le, max, Bool, true, false, not, ◌&&◌, if◌then◌else◌, refl, sym, ap, ◌∙◌, subst, List, [], ◌∷◌, length, map, get_or, slice_get, Option, None, Some, option_map, unwrap_or, is_some, inl, inr, arith, Contains}
-use Rattle.std.specs.Prelude.{All}
+use Rattle.std.proofs.Common.{◌≡◌, ℕ, zero, suc, ◌+◌, ◌-◌, ◌<◌, ◌≤◌, nat_le, Bool, true, false, refl, sym, ap, ◌∙◌, subst, List, [], ◌∷◌, length, get_or, slice_get, Option, None, Some, option_map, unwrap_or, is_some, inl, inr, arith, Contains}
 use Rattle.std.specs.List.{list_all}
 use Rattle.std.proofs.lemmas.Bool.{cases_lt, leb-false}
 use Rattle.std.proofs.lemmas.List.Elements.{All-contains}
@@ -23,8 +22,8 @@ use Rattle.syncfile_core.specs.Files.{has_file as has_kept_file}
 use Rattle.command_core.specs.declared.command.Command.{Command}
 use Rattle.command_core.specs.declared.command.Command.TheVariants as command
 use Rattle.desk_core.specs.Keeping.{points_at, cause_of}
-use Rattle.desk_core.specs.Sound.{IsFilePoint, IsSound}
-use Rattle.desk_core.specs.theorem.Answer.{answer_to, is_refused, refused_or, reported}
+use Rattle.desk_core.specs.Sound.{IsFilePoint}
+use Rattle.desk_core.specs.theorem.Answer.{is_refused, refused_or, reported}
 use Rattle.desk_core.specs.theorem.Desk.{DeskState, HasHistory}
 use Rattle.desk_core.specs.theorem.History.{world_of}
 use Rattle.desk_core.specs.theorem.World.{has_file, put_set}
@@ -32,12 +31,11 @@ use Rattle.desk_core.proofs.Answering.{Keeps-stands, is_refused-reported}
 use Rattle.desk_core.proofs.Keeping.{AgreesAbove-keeps, has_sync_file-names, put_set-made}
 use Rattle.desk_core.proofs.Stepping.{causes-keeps}
 use Rattle.explore_core.specs.declared.plan.Step.{Step}
-use Rattle.explore_core.specs.declared.position.Position.{Position}
-use Rattle.explore_core.specs.Choice.{IsFreeOrHeld, IsOrderly, IsSettled, IsStopped, OneGoes, StaysPending}
+use Rattle.explore_core.specs.Choice.{IsOrderly, IsSettled, OneGoes, StaysPending}
 use Rattle.explore_core.specs.Independence.{Bounds}
-use Rattle.explore_core.specs.Persistent.{Choice, IsAhead, IsFree, IsHeld, IsPendingFor, IsPersistent, StopsOthers, changes_file}
-use Rattle.explore_core.specs.Schedule.{Lines, Standing, answer_now, lines_of, made_by, next_line}
-use Rattle.explore_core.specs.Search.{IsAt, has_name, is_asked}
+use Rattle.explore_core.specs.Persistent.{Choice, IsAhead, IsPendingFor, IsPersistent, StopsOthers}
+use Rattle.explore_core.specs.Schedule.{Lines, Standing, answer_now, made_by}
+use Rattle.explore_core.specs.Search.{has_name, is_asked}
 use Rattle.explore_core.proofs.Showing.{Contains-map}
 
 some-map : {X Y : Type 0} (f : X → Y) (o : Option X) → is_some (option_map f o) ≡ is_some o

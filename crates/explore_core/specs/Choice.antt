@@ -1,5 +1,5 @@
 -- A choice of clients as a search keeps it, and what is checked of it: client by client, and line by line.
-use Rattle.std.specs.Prelude.{◌≡◌, ◌⊎◌, ℕ, ◌<◌, ◌≤◌, Bool, true, false, List, None, Some, IfSome, get_or, slice_get}
+use Rattle.std.specs.Prelude.{◌≡◌, ◌⊎◌, ℕ, ◌<◌, ◌≤◌, Bool, true, false, List, Some, IfSome, get_or, slice_get}
 use Rattle.point_core.specs.declared.entry.Point.{Point}
 use Rattle.point_core.specs.Reach.{is_reached}
 use Rattle.timeline_core.specs.Timeline.{name_at, reach_of}

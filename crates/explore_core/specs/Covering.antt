@@ -1,10 +1,10 @@
--- Standings that are enough to know where every schedule of a plan leads.
+-- Standings that continue alike, and what they are asked.
 use Rattle.std.specs.Prelude.{◌≡◌, ℕ, Bool, true, List, All, Contains, Some, slice_get}
 use Rattle.command_core.specs.declared.answer.Answer.{Answer}
 use Rattle.desk_core.specs.theorem.History.{world_of}
 use Rattle.explore_core.specs.declared.plan.Step.{Step}
 use Rattle.explore_core.specs.Alike.{AsksOnly, AreAlike}
-use Rattle.explore_core.specs.Schedule.{Lines, Standing, lines_of, beginning, next_line, made_by, can_be_made, answer_now, after_one, IsStuck}
+use Rattle.explore_core.specs.Schedule.{Lines, Standing, lines_of, next_line, made_by, can_be_made, answer_now}
 
 -- the lines of clients, and the commands at the end, ask what a file lists only of these files, and ask for no report
 pub record MayAsk (asked : List ℕ → Bool) (plan : Lines) : Type 0 where
@@ -20,12 +20,6 @@ pub record GoOnAlike (asked : List ℕ → Bool) (now other : Standing) : Type 0
 abbrev pub HasAlike : (List ℕ → Bool) → List Standing → Standing → Type 0
 HasAlike asked kept now = (other : Standing) × Contains kept other × GoOnAlike asked now other
 
--- the beginning is alike to a kept standing, and so is each standing that a client's line leads to from a kept one
-pub record AreEnough (asked : List ℕ → Bool) (plan : Lines) (kept : List Standing) : Type 0 where
-  pub begins : HasAlike asked kept (beginning plan)
-  pub goes_on : (now next : Standing) (client : ℕ) → Contains kept now →
-      after_one plan now client ≡ Some next → HasAlike asked kept next
-
 -- at a kept standing the client makes its line at this place, and gets this answer
 pub record AnswersThere (plan : Lines) (kept : List Standing) (client place : ℕ) (given : Answer) : Type 0 where
   pub now : Standing
@@ -35,7 +29,3 @@ pub record AnswersThere (plan : Lines) (kept : List Standing) (client place : �
   pub next : next_line plan now client ≡ Some step
   pub made : can_be_made now step ≡ true
   pub answer : given ≡ answer_now now.history step.command
-
--- a kept standing, at which each client is at the same line, is stuck
-abbrev pub IsStuckThere : Lines → List Standing → Standing → Type 0
-IsStuckThere plan kept now = (other : Standing) × Contains kept other × IsStuck plan other × (now.made ≡ other.made)

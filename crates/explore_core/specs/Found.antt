@@ -8,8 +8,8 @@ use Rattle.command_core.specs.declared.command.Command.TheVariants as command
 use Rattle.explore_core.specs.declared.plan.Step.{Step}
 use Rattle.explore_core.specs.declared.found.Given.{Given}
 use Rattle.explore_core.specs.declared.found.Found.{Found}
-use Rattle.explore_core.specs.Schedule.{Lines, lines_of, Standing, Schedule, ComesTo, IsStuck, IsAnswered, IsEndAnswered}
-use Rattle.explore_core.specs.Covering.{MayAsk, AreEnough}
+use Rattle.explore_core.specs.Schedule.{Lines, lines_of, Standing, Schedule, ComesTo, IsLast, IsStuck, IsAnswered, IsEndAnswered}
+use Rattle.explore_core.specs.Covering.{MayAsk, AnswersThere, HasAlike}
 
 -- the command registers no watch
 abbrev pub RegistersNone : Command → Type 0
@@ -50,14 +50,17 @@ IsShortest plan found = (shown : List ℕ) (schedule : Schedule) (now : Standing
 abbrev pub IsReachable : Lines → Standing → Type 0
 IsReachable plan now = (schedule : Schedule) × ComesTo plan schedule now
 
--- there are that many standings that schedules lead to, and they are enough to know where every schedule leads
+-- There are that many standings that schedules lead to, and they are enough to know where every schedule leads: each answer of a line
+-- is given at one of them, and where no client can go, one of them continues alike.
 pub record Suffice (plan : Lines) (states : ℕ) : Type 0 where
   pub asked : List ℕ → Bool
   pub may : MayAsk asked plan
   pub kept : List Standing
   pub count : length kept ≡ states
   pub reached : All (IsReachable plan) kept
-  pub enough : AreEnough asked plan kept
+  pub answered : (schedule : Schedule) (client place : ℕ) (given : Answer)
+      → IsAnswered plan schedule client place given → AnswersThere plan kept client place given
+  pub last : (schedule : Schedule) (now : Standing) → ComesTo plan schedule now → IsLast plan now → HasAlike asked kept now
 
 -- no more states were visited than the bound, and enough if every schedule was covered
 pub record HasVisited (plan : Lines) (bound : ℕ) (found : Found) : Type 0 where

@@ -6,6 +6,7 @@ pub mod Covering
 pub mod Flow
 pub mod Found
 pub mod Independence
+pub mod Levels
 pub mod Looks
 pub mod Moving
 pub mod Persistent

@@ -91,6 +91,10 @@ Leads plan from (client ∷ clients) to = (next : Standing) × (after_one plan f
 abbrev pub ComesTo : Lines → Schedule → Standing → Type 0
 ComesTo plan schedule to = Leads plan (beginning plan) schedule to
 
+-- no client can make its next line
+abbrev pub IsLast : Lines → Standing → Type 0
+IsLast plan now = (client : ℕ) → after_one plan now client ≡ None
+
 -- no client can make its next line, though one of them is not done
 pub record IsStuck (plan : Lines) (now : Standing) : Type 0 where
   pub nobody : (client : ℕ) → after_one plan now client ≡ None

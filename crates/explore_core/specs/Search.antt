@@ -28,9 +28,9 @@ use Rattle.explore_core.specs.declared.visit.Visit.{Visit}
 use Rattle.explore_core.specs.declared.search.Move.{Move}
 use Rattle.explore_core.specs.declared.search.Move.TheVariants as move
 use Rattle.explore_core.specs.declared.found.Given.{Given}
-use Rattle.explore_core.specs.Covering.{GoOnAlike, HasAlike}
-use Rattle.explore_core.specs.Found.{IsTrue, IsOther, ListsOnce, IsShortest, IsReachable, Lists, stuck_of}
-use Rattle.explore_core.specs.Schedule.{Lines, Standing, Schedule, answer_now, history_with, history_along, beginning, made_by, next_line, can_be_made, after_one, ComesTo, IsStuck}
+use Rattle.explore_core.specs.Covering.{GoOnAlike}
+use Rattle.explore_core.specs.Found.{IsTrue, IsOther, ListsOnce, IsShortest, Lists, stuck_of}
+use Rattle.explore_core.specs.Schedule.{Lines, Standing, Schedule, answer_now, history_with, history_along, beginning, made_by, next_line, can_be_made, after_one, ComesTo}
 
 -- the standing after the client's next line, or the same standing if it can't make one
 abbrev pub standing_after : Lines → Standing → ℕ → Standing
@@ -305,23 +305,6 @@ pub record Extends (plan : Lines) (depth : ℕ) (old new : LevelState) : Type 0 
   pub alike : (now : Standing) → HasLike plan (states_of old.seen) now → HasLike plan (states_of new.seen) now
   pub room : new.room ≡ old.room
 
--- everything that happens at the standing is listed
-pub record IsListed (plan : Lines) (found : Found) (now : Standing) : Type 0 where
-  pub given : (client place : ℕ) (answer : Answer)
-      → Answers plan now client place answer → Lists found.given.items client place answer
-  pub ended : (place : ℕ) (answer : Answer)
-      → Ends plan now place answer → Lists found.ended.items (length plan.clients) place answer
-  pub stuck : IsStuck plan now → (shown : List ℕ) × (stuck_of found ≡ Some shown)
-
--- one of the states continues as each standing does that a client's next line leads to
-abbrev pub IsExpanded : Lines → List State → Standing → Type 0
-IsExpanded plan next now = (client : ℕ) (later : Standing) → after_one plan now client ≡ Some later → HasLike plan next later
-
--- everything that happens at the state is listed, and the states that it leads to are kept
-pub record IsVisited (plan : Lines) (found : Found) (next : List State) (state : State) : Type 0 where
-  pub listed : IsListed plan found (standing_at plan state)
-  pub expanded : IsExpanded plan next (standing_at plan state)
-
 -- after the schedule the client makes its line, which leads to this state
 abbrev pub IsReached : Lines → Schedule → ℕ → Seen → Type 0
 IsReached plan schedule client seen =
@@ -394,18 +377,6 @@ pub record IsEmptyFound (found : Found) : Type 0 where
   pub stuck : found.stuck ≡ None
   pub states : found.states ≡ 0
 
--- Each schedule of that length leads to a standing that continues as one of the states does. Whatever happens in a shorter schedule
--- is listed.
-pub record IsCovered (plan : Lines) (found : Found) (depth : ℕ) (states : List State) : Type 0 where
-  pub are : All (IsState plan depth) states
-  pub reached : (schedule : Schedule) (now : Standing) →
-      length schedule ≡ depth → ComesTo plan schedule now → HasLike plan states now
-  pub listed : (schedule : Schedule) (now : Standing) →
-      length schedule < depth → ComesTo plan schedule now → IsListed plan found now
-  pub soonest : (schedule : Schedule) (now : Standing) → length schedule < depth → ComesTo plan schedule now → IsStuck plan now
-      → (shown : List ℕ) × (stuck_of found ≡ Some shown) × (length shown ≤ length schedule)
-  pub soon : (shown : List ℕ) → stuck_of found ≡ Some shown → length shown ≤ depth
-
 -- that many more states are counted as visited
 abbrev pub counted : Found → ℕ → Found
 counted found states = record found { states = found.states + states }
@@ -419,13 +390,3 @@ pub record IsRight (plan : Lines) (bound : ℕ) (found : Found) : Type 0 where
 
 abbrev pub standings_of : Lines → List State → List Standing
 standings_of plan states = map (standing_at plan) states
-
--- There were that many states before these. Where a client's line leads to from one of them continues as one of all does, and so does
--- the beginning.
-pub record IsCounted (plan : Lines) (n : ℕ) (states : List State) : Type 0 where
-  pub before : List Standing
-  pub count : length before ≡ n
-  pub reached : All (IsReachable plan) before
-  pub begins : HasAlike (is_asked plan) (before ++ standings_of plan states) (beginning plan)
-  pub goes_on : (now next : Standing) (client : ℕ) → Contains before now → after_one plan now client ≡ Some next
-      → HasAlike (is_asked plan) (before ++ standings_of plan states) next

@@ -2,6 +2,7 @@
 ghost use Rattle.std.specs.Prelude.{◌≡◌, true, is_ok, IfOk, IfErr};
 ghost use Rattle.explore_core.specs.Found.{CanBeExplored, IsTrue, ListsOnce, IsAll, IsShortest, HasVisited};
 
+use crate::chooser::Orders;
 use crate::found::Found;
 use crate::plan::Plan;
 use crate::search::{Stop, search};
@@ -11,10 +12,11 @@ use std::alloc::Global;
 /// The default bound of `explore`: how many states it visits at most.
 pub const STATES: usize = 1_000_000;
 
-/// Decides a plan over every schedule, unless it has more than `bound` states.
+/// Decides a plan over every schedule, unless more than `bound` states would be visited. `orders` says which orders of the clients are
+/// followed: it makes a difference to the number of states, and to which schedules are shown, but not to what is found.
 ///
 /// Fails with `Memory` only, also for a plan of more than `SCHEDULED_CLIENTS` clients.
-pub fn explore(alloc: Global, plan: &Plan, bound: usize) -> Result<Found, Refusal>
+pub fn explore(alloc: Global, plan: &Plan, orders: Orders, bound: usize) -> Result<Found, Refusal>
     requires explorable { CanBeExplored plan.now }
     ensures shown { IfOk result (λ found. IsTrue plan.now found) }
     ensures once { IfOk result (λ found. ListsOnce found) }
@@ -30,7 +32,7 @@ pub fn explore(alloc: Global, plan: &Plan, bound: usize) -> Result<Found, Refusa
         states: 0,
         covered: false,
     };
-    let ended = search(alloc, plan, bound, &mut found);
+    let ended = search(alloc, plan, orders, bound, &mut found);
     found.covered = is_covered(ended)?;
     Ok(found)
 }

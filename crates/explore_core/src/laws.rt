@@ -1,23 +1,20 @@
-//! Theorems about alike worlds, desks that look alike, and standings that cover all schedules. Each is the contract of a function
+//! Theorems about alike worlds, desks that look alike, and lines that may be made before others. Each is the contract of a function
 //! with an empty body, which no caller runs.
 ghost use Rattle.std.specs.Prelude.{◌≡◌, ℕ, Bool, true, false, List, Some, All};
 ghost use Rattle.command_core.specs.declared.command.Command.{Command};
 ghost use Rattle.desk_core.specs.theorem.World.{World};
 ghost use Rattle.desk_core.specs.theorem.Answer.{answer_to};
 ghost use Rattle.desk_core.specs.Sound.{IsSound};
-ghost use Rattle.std.specs.Prelude.{Contains};
 ghost use Rattle.desk_core.specs.theorem.Desk.{DeskState, HasHistory};
 ghost use Rattle.desk_core.specs.theorem.History.{world_of};
 ghost use Rattle.explore_core.specs.Looks.{LooksAlike};
-ghost use Rattle.command_core.specs.declared.answer.Answer.{Answer};
 ghost use Rattle.explore_core.specs.declared.plan.Step.{Step};
 ghost use Rattle.explore_core.specs.Moving.{IsPatient, AllGoBeside, MayGoFirst};
 ghost use Rattle.explore_core.specs.Flow.{StaysWithin};
 ghost use Rattle.explore_core.specs.Found.{CanBeExplored};
-ghost use Rattle.explore_core.specs.Choosing.{AreEnoughByChoice, IsCoveredBy, IsLast};
 ghost use Rattle.explore_core.specs.Persistent.{Choice, ChosenStandStill, IsCalm, StopsOthers};
-ghost use Rattle.explore_core.specs.Schedule.{Lines, Standing, Schedule, Leads, ComesTo, IsStuck, IsAnswered, beginning, can_be_made, next_line};
-ghost use Rattle.explore_core.specs.Covering.{MayAsk, AreEnough, HasAlike, AnswersThere, IsStuckThere};
+ghost use Rattle.explore_core.specs.Schedule.{Lines, Standing, Schedule, Leads, beginning, can_be_made, next_line};
+ghost use Rattle.explore_core.specs.Covering.{MayAsk};
 ghost use Rattle.explore_core.specs.Alike.{AsksOnly, AreAlike, after_answer, answers_along};
 ghost use Rattle.explore_core.specs.Independence.{AreIndependent, Bounds, Commute, IsRoomy, IsWithin, Passes};
 
@@ -69,33 +66,8 @@ pub fn chosen_clients_may_go_first()
         ChosenStandStill asked bounds plan now choice others later }
 {}
 
-/// A search that follows a persistent choice of clients at each standing has seen every schedule that no client can lengthen: how its
-/// lines are answered, and where it ends.
-pub fn chosen_clients_cover_every_schedule()
-    ensures { (asked : List ℕ → Bool) (bounds : Bounds) (plan : Lines) (kept : List Standing) →
-        MayAsk asked plan → AreEnoughByChoice asked bounds plan kept →
-        (schedule : Schedule) (last : Standing) → ComesTo plan schedule last → IsLast plan last →
-        IsCoveredBy asked plan kept (beginning plan) schedule last }
-{}
-
 /// Bounds hold along every schedule of a plan if each of its commands respects them. So lines of clients may be tested for independence
 /// by bounds that are tested once for a plan.
 pub fn plans_within_bounds_are_calm()
     ensures { (bounds : Bounds) (plan : Lines) → CanBeExplored plan → StaysWithin bounds plan → IsCalm bounds plan (beginning plan) }
-{}
-
-/// A search that has visited enough standings (`AreEnough`) has seen every schedule: where it leads, how its lines are answered,
-/// and whether it gets stuck.
-pub fn enough_standings_cover_every_schedule()
-    ensures led { (asked : List ℕ → Bool) (plan : Lines) (kept : List Standing) →
-        MayAsk asked plan → AreEnough asked plan kept →
-        (schedule : Schedule) (now : Standing) → ComesTo plan schedule now → HasAlike asked kept now }
-    ensures answered { (asked : List ℕ → Bool) (plan : Lines) (kept : List Standing) →
-        MayAsk asked plan → AreEnough asked plan kept →
-        (schedule : Schedule) (client place : ℕ) (given : Answer) → IsAnswered plan schedule client place given →
-        AnswersThere plan kept client place given }
-    ensures stuck { (asked : List ℕ → Bool) (plan : Lines) (kept : List Standing) →
-        MayAsk asked plan → AreEnough asked plan kept →
-        (schedule : Schedule) (now : Standing) → ComesTo plan schedule now → IsStuck plan now →
-        IsStuckThere plan kept now }
 {}

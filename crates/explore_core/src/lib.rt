@@ -6,6 +6,7 @@
 #![tactic(auto)]
 
 mod choice;
+mod chooser;
 mod explorer;
 mod flow;
 mod found;
@@ -26,6 +27,7 @@ mod table;
 mod trial;
 mod visit;
 
+pub use chooser::Orders;
 pub use explorer::{STATES, explore};
 pub use found::{Found, Given};
 pub use list::SCHEDULED_CLIENTS;

@@ -1,12 +1,18 @@
-//! The search: level by level, each state of a level with each client's next line.
-ghost use Rattle.std.specs.Prelude.{◌≡◌, ◌+◌, ◌≤◌, ◌∷◌, [], ℕ, List, All, length, None, Some, IfOk, OnOk};
+//! The search: level by level, each state of a level with the next lines of clients. If the `Chooser` finds clients that are enough at
+//! a state, only these go there, and otherwise all of them.
+ghost use Rattle.std.specs.Prelude.{◌≡◌, ◌+◌, ◌≤◌, ◌∷◌, [], ℕ, true, false, List, All, get_or, length, None, Some, IfOk, OnOk};
 ghost use Rattle.command_core.specs.declared.command.Command.{Command};
 ghost use Rattle.explore_core.specs.declared.state.State.{State as Kept};
 ghost use Rattle.desk_core.specs.theorem.Desk.{HasHistory};
 ghost use Rattle.explore_core.specs.Found.{CanBeExplored, IsAll, Suffice, stuck_of};
+ghost use Rattle.explore_core.specs.Choice.{choice_of};
+ghost use Rattle.explore_core.specs.Choosing.{IsReady};
+ghost use Rattle.explore_core.specs.Levels.{IsVisited};
 ghost use Rattle.explore_core.specs.Schedule.{IsStuck, next_line};
-ghost use Rattle.explore_core.specs.Search.{AreAsked, Grows, Extends, IsState, IsSeen, IsVisitOf, IsVisited, IsTried, AreTried, HasEnds, EndsAre, AreEndsListed, standing_of, standing_at, states_of, IsEmptyFound, IsRight, counted, together};
+ghost use Rattle.explore_core.specs.Search.{AreAsked, Grows, Extends, IsState, IsSeen, IsVisitOf, IsFollowed, IsTried, AreTried, HasEnds, EndsAre, AreEndsListed, standing_of, standing_at, states_of, IsEmptyFound, IsRight, counted, together};
 
+use crate::choice::Choice;
+use crate::chooser::{Chooser, Orders};
 use crate::found::{Found, Given};
 use crate::level::Level;
 use crate::list::shown;
@@ -42,6 +48,7 @@ enum Move {
 pub(crate) fn search(
     alloc: Global,
     plan: &Plan,
+    orders: Orders,
     bound: usize,
     found: &mut Found,
 ) -> Result<(), Stop>
@@ -54,8 +61,21 @@ pub(crate) fn search(
     let Ok(asked) = plan.asked_files(alloc) else {
         return Err(Stop::Memory);
     };
+    let Ok(chooser) = Chooser::new(alloc, plan, orders) else {
+        return Err(Stop::Memory);
+    };
+    let mut choice = Choice::new(alloc);
     let mut visit = Visit::new(alloc);
-    search_levels(alloc, plan, asked.as_slice(), bound, &mut visit, found)
+    search_levels(
+        alloc,
+        plan,
+        asked.as_slice(),
+        &chooser,
+        bound,
+        &mut choice,
+        &mut visit,
+        found,
+    )
 }
 
 /// Visits one level after another, until a level has no states.
@@ -63,12 +83,15 @@ fn search_levels(
     alloc: Global,
     plan: &Plan,
     asked: &[Name],
+    chooser: &Chooser,
     bound: usize,
+    choice: &mut Choice,
     visit: &mut Visit,
     found: &mut Found,
 ) -> Result<(), Stop>
     requires explorable { CanBeExplored plan.now }
     requires asked { AreAsked plan.now asked.now }
+    requires ready { IsReady plan.now chooser.now }
     requires empty { IsEmptyFound found.old }
     ensures right { IsRight plan.now bound found.new }
     ensures all { OnOk result (IsAll plan.now found.new) }
@@ -83,8 +106,10 @@ fn search_levels(
             alloc,
             plan,
             asked,
+            chooser,
             depth,
             level.as_slice(),
+            choice,
             visit,
             found,
             bound,
@@ -127,14 +152,17 @@ fn next_level(
     alloc: Global,
     plan: &Plan,
     asked: &[Name],
+    chooser: &Chooser,
     depth: usize,
     states: &[State],
+    choice: &mut Choice,
     visit: &mut Visit,
     found: &mut Found,
     bound: usize,
 ) -> Result<Vec<State>, Stop>
     requires explorable { CanBeExplored plan.now }
     requires asked { AreAsked plan.now asked.now }
+    requires ready { IsReady plan.now chooser.now }
     requires states { All (IsState plan.now depth) states.now }
     requires within { found.old.states + length states.now ≤ bound }
     ensures grows { Grows plan.now depth (counted found.old (length states.now)) found.new }
@@ -144,7 +172,9 @@ fn next_level(
 {
     let room = count(found, states.len(), bound);
     let mut next = Level::new(alloc, room);
-    let visited = visit_all(alloc, plan, asked, depth, states, visit, found, &mut next);
+    let visited = visit_all(
+        alloc, plan, asked, chooser, depth, states, choice, visit, found, &mut next,
+    );
     let states = next.into_states();
     match visited {
         Ok(()) => Ok(states),
@@ -167,14 +197,17 @@ fn visit_all(
     alloc: Global,
     plan: &Plan,
     asked: &[Name],
+    chooser: &Chooser,
     depth: usize,
     states: &[State],
+    choice: &mut Choice,
     visit: &mut Visit,
     found: &mut Found,
     next: &mut Level,
 ) -> Result<(), Stop>
     requires explorable { CanBeExplored plan.now }
     requires asked { AreAsked plan.now asked.now }
+    requires ready { IsReady plan.now chooser.now }
     requires states { All (IsState plan.now depth) states.now }
     requires next { All (IsSeen plan.now (depth + 1)) next.old.seen }
     ensures grows { Grows plan.now depth found.old found.new }
@@ -182,13 +215,81 @@ fn visit_all(
     ensures visited { OnOk result (All (IsVisited plan.now found.new (states_of next.new.seen)) states.now) }
 {
     for state in states {
-        visit_state(alloc, plan, asked, depth, state, visit, found, next)?;
+        visit_state(
+            alloc, plan, asked, chooser, depth, state, choice, visit, found, next,
+        )?;
     }
     Ok(())
 }
 
-/// Lists what each client's next line gives at the state, and keeps the states after it.
+/// Lists what the next lines of clients give at the state, and keeps the states after them.
 fn visit_state(
+    alloc: Global,
+    plan: &Plan,
+    asked: &[Name],
+    chooser: &Chooser,
+    depth: usize,
+    state: &State,
+    choice: &mut Choice,
+    visit: &mut Visit,
+    found: &mut Found,
+    next: &mut Level,
+) -> Result<(), Stop>
+    requires explorable { CanBeExplored plan.now }
+    requires asked { AreAsked plan.now asked.now }
+    requires ready { IsReady plan.now chooser.now }
+    requires state { IsState plan.now depth state.now }
+    requires next { All (IsSeen plan.now (depth + 1)) next.old.seen }
+    ensures grows { Grows plan.now depth found.old found.new }
+    ensures extends { Extends plan.now (depth + 1) next.old next.new }
+    ensures visited { OnOk result (IsVisited plan.now found.new (states_of next.new.seen) state.now) }
+{
+    visit.leave();
+    let Ok(()) = visit.come_back(plan, state.schedule.as_slice()) else {
+        return Err(Stop::Memory);
+    };
+    let Ok(is_enough) = chooser.choose(alloc, plan, asked, &visit.position, choice) else {
+        return Err(Stop::Memory);
+    };
+    if is_enough {
+        follow_chosen(alloc, plan, asked, depth, state, choice, visit, found, next)?;
+        return Ok(());
+    }
+    follow_all(alloc, plan, asked, depth, state, visit, found, next)
+}
+
+/// The chosen clients make their next lines at the state, if they can.
+fn follow_chosen(
+    alloc: Global,
+    plan: &Plan,
+    asked: &[Name],
+    depth: usize,
+    state: &State,
+    choice: &Choice,
+    visit: &mut Visit,
+    found: &mut Found,
+    next: &mut Level,
+) -> Result<(), Stop>
+    requires explorable { CanBeExplored plan.now }
+    requires asked { AreAsked plan.now asked.now }
+    requires state { IsState plan.now depth state.now }
+    requires at { IsVisitOf visit.old (standing_at plan.now state.now) }
+    requires next { All (IsSeen plan.now (depth + 1)) next.old.seen }
+    ensures grows { Grows plan.now depth found.old found.new }
+    ensures extends { Extends plan.now (depth + 1) next.old next.new }
+    ensures followed { OnOk result ((client : ℕ) → (choice_of choice.now).chosen client ≡ true →
+        IsFollowed plan.now found.new (states_of next.new.seen) (standing_at plan.now state.now) client) }
+{
+    for client in 0..plan.clients.len() {
+        if choice.is_chosen(client) {
+            try_client(alloc, plan, asked, depth, state, client, visit, found, next)?;
+        }
+    }
+    Ok(())
+}
+
+/// Each client makes its next line at the state. If none can, the state is stuck, or the commands at the end are made.
+fn follow_all(
     alloc: Global,
     plan: &Plan,
     asked: &[Name],
@@ -201,12 +302,12 @@ fn visit_state(
     requires explorable { CanBeExplored plan.now }
     requires asked { AreAsked plan.now asked.now }
     requires state { IsState plan.now depth state.now }
+    requires at { IsVisitOf visit.old (standing_at plan.now state.now) }
     requires next { All (IsSeen plan.now (depth + 1)) next.old.seen }
     ensures grows { Grows plan.now depth found.old found.new }
     ensures extends { Extends plan.now (depth + 1) next.old next.new }
     ensures visited { OnOk result (IsVisited plan.now found.new (states_of next.new.seen) state.now) }
 {
-    visit.leave();
     let moves = try_each(alloc, plan, asked, depth, state, visit, found, next)?;
     match moves {
         Move::Goes => Ok(()),

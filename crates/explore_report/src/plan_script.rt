@@ -16,7 +16,7 @@ use crate::row::{Row, rows_of};
 use crate::sections::plan_of;
 use crate::words::without_last_spaces;
 use command_core::Command;
-use explore_core::{Found, Plan, explore};
+use explore_core::{Found, Orders, Plan, explore};
 use line_core::{SCRIPT_BYTES, first_line, without_spaces};
 use point_core::Refusal;
 use std::alloc::{AllocError, Global};
@@ -60,10 +60,10 @@ impl<'a> PlanScript<'a> {
         Ok(Reading::Plan(PlanScript { lines, rows, plan }))
     }
 
-    /// Explores the plan, unless it has more than `bound` states.
+    /// Explores the plan by these orders of the clients, unless more than `bound` states would be visited.
     ///
     /// Fails with `Memory` only.
-    pub fn explore(&self, alloc: Global, bound: usize) -> Result<Found, Refusal>
+    pub fn explore(&self, alloc: Global, orders: Orders, bound: usize) -> Result<Found, Refusal>
         requires explorable { CanBeExplored self.now.plan }
         ensures shown { IfOk result (λ found. IsTrue self.now.plan found) }
         ensures once { IfOk result (λ found. ListsOnce found) }
@@ -72,7 +72,7 @@ impl<'a> PlanScript<'a> {
         ensures visited { IfOk result (λ found. HasVisited self.now.plan bound found) }
         ensures memory { IfErr result (λ refusal. refusal ≡ Refusal.Memory) }
     {
-        explore(alloc, &self.plan, bound)
+        explore(alloc, &self.plan, orders, bound)
     }
 
     /// The text of a row, without the spaces around it.

@@ -6,7 +6,7 @@ use crate::action::Explore;
 use crate::drawing::{report_mistake, script_of, write_output};
 use crate::fault::FAULT;
 use crate::status::{ACCEPTED, REFUSED};
-use explore_core::{Found, STATES};
+use explore_core::{Found, Orders, STATES};
 use explore_report::{Mistake, Outcome, PlanScript, Reading, Report};
 use point_core::Refusal;
 use source_core::{Input, STANDARD_INPUT, reported};
@@ -74,7 +74,7 @@ fn explore_plan(
 ) -> Result<u8, Refusal>
     requires explorable { CanBeExplored plan.now.plan }
 {
-    let found = plan.explore(rt.alloc(), bound)?;
+    let found = plan.explore(rt.alloc(), Orders::Enough, bound)?;
     report_found(rt, asked, plan, &found)
 }
 

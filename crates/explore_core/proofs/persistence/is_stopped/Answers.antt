@@ -1,4 +1,4 @@
-use Rattle.std.proofs.Common.{◌≡◌, ◌<◌, ◌≤◌, sym, ap, ◌∙◌, subst, arith, get_or, slice_get}
+use Rattle.std.proofs.Common.{◌≡◌, ap, ◌∙◌, subst, arith, get_or, slice_get}
 use Rattle.explore_core.specs.Choice.{IsOrderlyAt, choice_of}
 use Rattle.explore_core.specs.Schedule.{lines_of, made_by}
 use Rattle.explore_core.proofs.persistence.is_stopped.Goals as goal

@@ -2,7 +2,8 @@ use Rattle.std.proofs.Common.{◌+◌, All, sym, subst, arith}
 use Rattle.std.specs.Prelude.{OnOk, Result}
 use Rattle.explore_core.specs.declared.found.Found.{Found}
 use Rattle.explore_core.specs.declared.search.Stop.{Stop}
-use Rattle.explore_core.specs.Search.{Grows, IsState, IsVisited, states_of}
+use Rattle.explore_core.specs.Search.{Grows, IsState, states_of}
+use Rattle.explore_core.specs.Levels.{IsVisited}
 use Rattle.explore_core.proofs.Finding.{All-states}
 use Rattle.explore_core.proofs.Trying.{none-seen-yet}
 use Rattle.explore_core.proofs.search.next_level.Goals as goal

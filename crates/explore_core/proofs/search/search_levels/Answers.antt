@@ -1,9 +1,10 @@
 use Rattle.std.proofs.Common.{◌+◌, ◌≤◌, All, List, length, sym, ◌∙◌, subst, arith}
 use Rattle.std.proofs.lemmas.Bool.{eqb-true}
 use Rattle.explore_core.specs.declared.state.State.{State}
-use Rattle.explore_core.specs.Search.{Grows, IsCovered, IsCounted, IsState, IsVisited, counted}
-use Rattle.explore_core.proofs.Levels.{IsCovered-first, IsCovered-next, IsAll-covered, length-none}
-use Rattle.explore_core.proofs.Counting.{IsRight-empty, IsRight-next, IsCovered-counted, IsCounted-first, IsCounted-next, Suffice-counted}
+use Rattle.explore_core.specs.Levels.{IsCovered, IsVisited}
+use Rattle.explore_core.specs.Search.{Grows, IsState, counted}
+use Rattle.explore_core.proofs.Levels.{length-none}
+use Rattle.explore_core.proofs.Counting.{IsRight-empty, IsRight-next, IsCovered-first, IsCovered-next, IsAll-covered, Suffice-covered}
 use Rattle.explore_core.proofs.search.search_levels.Goals as goal
 
 pub returns-in_err-level-clause-right : goal.returns-in_err-level-clause-right
@@ -16,7 +17,6 @@ loop-depth-init c =
     record {
       right = IsRight-empty c.args.plan.now c.args.bound c.args.found.now c.requires.empty;
       covered = subst (IsCovered c.args.plan.now c.args.found.now 0) (sym first.1) (IsCovered-first c.args.plan.now c.args.found.now first.0 c.requires.empty first.2);
-      counted = subst (λ n. IsCounted c.args.plan.now n level) (sym c.requires.empty.states) (IsCounted-first c.args.plan.now level first.0 first.1 first.2);
       within = omega (arith, c.requires.empty.states, c.in_ok-level.ensures.room);
     }
 
@@ -38,9 +38,8 @@ loop-depth-preserved c =
     let grows = subst (λ (ss : List State). Grows plan c.loop-depth.depth (counted old (length ss)) new) c.as_slice.ensures.value c.next_level.ensures.grows in
     let visited = subst (All (IsVisited plan new next)) c.as_slice.ensures.value c.in_ok-level-2.ensures.visited in
     record {
-      right = IsRight-next (length level) before.right before.covered before.within grows;
-      covered = IsCovered-next c.requires.explorable (IsCovered-counted (length level) before.covered) grows visited c.in_ok-level-2.ensures.next;
-      counted = subst (λ n. IsCounted plan n next) (sym grows.states) (IsCounted-next plan new c.loop-depth.depth old.states level next before.counted before.covered.are visited);
+      right = IsRight-next before.covered grows before.right before.within;
+      covered = IsCovered-next c.requires.explorable before.covered grows visited c.in_ok-level-2.ensures.next;
       within = c.in_ok-level-2.ensures.within;
     }
 
@@ -50,7 +49,7 @@ returns-in_err-level-2-clause-right c =
     let before = c.loop-depth.invariant in
     let old = c.loop-depth.found in
     let grows = subst (λ (ss : List State). Grows plan c.loop-depth.depth (counted old (length ss)) c.next_level.new.found) c.as_slice.ensures.value c.next_level.ensures.grows in
-    IsRight-next (length c.loop-depth.level.items) before.right before.covered before.within grows
+    IsRight-next before.covered grows before.right before.within
 
 pub returns-then-is_empty-clause-right : goal.returns-then-is_empty-clause-right
 returns-then-is_empty-clause-right c = c.loop-depth.invariant.right
@@ -65,7 +64,7 @@ pub returns-then-is_empty-clause-enough : goal.returns-then-is_empty-clause-enou
 returns-then-is_empty-clause-enough c =
     let level = c.loop-depth.level in
     let none = length-none level.items (sym level.ok.0 ∙ eqb-true level.len 0 (sym c.is_empty.ensures ∙ c.if-is_empty.true)) in
-    Suffice-counted c.args.plan.now c.loop-depth.found.states level.items c.requires.explorable none c.loop-depth.invariant.counted
+    Suffice-covered (subst (IsCovered c.args.plan.now c.loop-depth.found c.loop-depth.depth) none c.loop-depth.invariant.covered) c.requires.explorable
 
 pub returns-clause-right : goal.returns-clause-right
 returns-clause-right c = c.loop-depth.invariant.right

@@ -1,7 +1,8 @@
 use Rattle.std.proofs.Common.{◌+◌, take, subst, All}
 use Rattle.std.proofs.lemmas.List.{take_all}
 use Rattle.std.proofs.lemmas.List.Elements.{All-nil, All-weaker}
-use Rattle.explore_core.specs.Search.{IsState, IsVisited, states_of}
+use Rattle.explore_core.specs.Search.{IsState, states_of}
+use Rattle.explore_core.specs.Levels.{IsVisited}
 use Rattle.explore_core.proofs.Levels.{Grows-refl, Grows-trans, Extends-refl, Extends-trans, IsVisited-grows}
 use Rattle.explore_core.proofs.Finding.{All-item, All-next}
 use Rattle.explore_core.proofs.search.visit_all.Goals as goal

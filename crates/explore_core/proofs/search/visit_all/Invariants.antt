@@ -1,5 +1,6 @@
 use Rattle.std.proofs.Common.{◌+◌, All, take}
-use Rattle.explore_core.specs.Search.{Grows, Extends, IsVisited, states_of}
+use Rattle.explore_core.specs.Search.{Grows, Extends, states_of}
+use Rattle.explore_core.specs.Levels.{IsVisited}
 use Rattle.explore_core.proofs.search.visit_all.Given as goal
 
 abbrev pub invariant-loop-state : goal.invariant-loop-state

@@ -1,63 +1,40 @@
-use Rattle.std.proofs.Common.{length, subst}
-use Rattle.explore_core.specs.Search.{AreTried, standing_at, states_of}
-use Rattle.explore_core.proofs.Levels.{Grows-trans}
-use Rattle.explore_core.proofs.Finding.{IsVisited-goes, IsVisited-waits, IsVisited-done, stuck-waits, done-all}
+use Rattle.std.proofs.Common.{sym, subst, ◌+◌}
+use Rattle.explore_core.specs.Schedule.{Schedule, ComesTo}
+use Rattle.explore_core.specs.Search.{IsAt, standing_at, standing_of}
+use Rattle.explore_core.proofs.Levels.{Grows-refl, Extends-refl}
+use Rattle.explore_core.proofs.Finding.{IsVisited-chosen}
 use Rattle.explore_core.proofs.search.visit_state.Goals as goal
 
-pub try_each-requires-clause-at : goal.try_each-requires-clause-at
-try_each-requires-clause-at c = c.leave.ensures (standing_at c.args.plan.now c.args.state.now)
+pub come_back-requires : goal.come_back-requires
+come_back-requires c = record {
+  comes = subst (λ (s : Schedule). ComesTo c.args.plan.now s (standing_of c.args.plan.now s)) (sym c.as_slice.ensures.value) c.requires.state.comes;
+}
 
-pub returns-in-Goes-clause-visited : goal.returns-in-Goes-clause-visited
-returns-in-Goes-clause-visited c =
+pub returns-in_default-clause-grows : goal.returns-in_default-clause-grows
+returns-in_default-clause-grows c = Grows-refl c.args.plan.now c.args.depth c.args.found.now
+
+pub returns-in_default-clause-extends : goal.returns-in_default-clause-extends
+returns-in_default-clause-extends c = Extends-refl c.args.plan.now (c.args.depth + 1) c.args.next.now
+
+pub returns-in_default-choose-clause-grows : goal.returns-in_default-choose-clause-grows
+returns-in_default-choose-clause-grows c = Grows-refl c.args.plan.now c.args.depth c.args.found.now
+
+pub returns-in_default-choose-clause-extends : goal.returns-in_default-choose-clause-extends
+returns-in_default-choose-clause-extends c = Extends-refl c.args.plan.now (c.args.depth + 1) c.args.next.now
+
+pub follow_chosen-requires-clause-at : goal.follow_chosen-requires-clause-at
+follow_chosen-requires-clause-at c = λ fresh.
     let plan = c.args.plan.now in
-    let found = c.try_each.new.found in
-    let next = states_of c.try_each.new.next.seen in
-    let state = c.args.state.now in
-    IsVisited-goes plan found next state (subst (AreTried plan found next state (length plan.clients)) c.in-Goes.is c.in_ok-moves.ensures.tried)
+    subst (λ (s : Schedule). IsAt c.come_back.new.self.position (standing_of plan s)) c.as_slice.ensures.value (c.in-Ok.ensures.at (c.leave.ensures (standing_of plan c.as_slice.result.now)))
 
-pub show_stuck-requires-clause-stuck : goal.show_stuck-requires-clause-stuck
-show_stuck-requires-clause-stuck c =
+pub follow_all-requires-clause-at : goal.follow_all-requires-clause-at
+follow_all-requires-clause-at c = λ fresh.
     let plan = c.args.plan.now in
-    let found = c.try_each.new.found in
-    let next = states_of c.try_each.new.next.seen in
-    let state = c.args.state.now in
-    stuck-waits plan found next state (subst (AreTried plan found next state (length plan.clients)) c.in-Waits.is c.in_ok-moves.ensures.tried)
+    subst (λ (s : Schedule). IsAt c.come_back.new.self.position (standing_of plan s)) c.as_slice.ensures.value (c.in-Ok.ensures.at (c.leave.ensures (standing_of plan c.as_slice.result.now)))
 
-pub returns-in_err-show_stuck-in-Waits-clause-grows : goal.returns-in_err-show_stuck-in-Waits-clause-grows
-returns-in_err-show_stuck-in-Waits-clause-grows c = Grows-trans c.try_each.ensures.grows c.show_stuck.ensures.grows
-
-pub returns-in_ok-show_stuck-in-Waits-clause-grows : goal.returns-in_ok-show_stuck-in-Waits-clause-grows
-returns-in_ok-show_stuck-in-Waits-clause-grows c = Grows-trans c.try_each.ensures.grows c.show_stuck.ensures.grows
-
-pub returns-in_ok-show_stuck-in-Waits-clause-visited : goal.returns-in_ok-show_stuck-in-Waits-clause-visited
-returns-in_ok-show_stuck-in-Waits-clause-visited c =
+pub returns-then-is_enough-clause-visited : goal.returns-then-is_enough-clause-visited
+returns-then-is_enough-clause-visited c =
     let plan = c.args.plan.now in
-    let found = c.try_each.new.found in
-    let next = states_of c.try_each.new.next.seen in
     let state = c.args.state.now in
-    let shown = c.in_ok-show_stuck-in-Waits.ensures.shown in
-    IsVisited-waits plan c.args.depth found c.show_stuck.new.found next state c.show_stuck.ensures.grows
-    (subst (AreTried plan found next state (length plan.clients)) c.in-Waits.is c.in_ok-moves.ensures.tried) shown.0 shown.1
-
-pub make_last-requires-clause-done : goal.make_last-requires-clause-done
-make_last-requires-clause-done c =
-    let plan = c.args.plan.now in
-    let found = c.try_each.new.found in
-    let next = states_of c.try_each.new.next.seen in
-    let state = c.args.state.now in
-    done-all plan found next state (subst (AreTried plan found next state (length plan.clients)) c.in-Done.is c.in_ok-moves.ensures.tried)
-
-pub returns-in_err-make_last-in-Done-clause-grows : goal.returns-in_err-make_last-in-Done-clause-grows
-returns-in_err-make_last-in-Done-clause-grows c = Grows-trans c.try_each.ensures.grows c.make_last.ensures.grows
-
-pub returns-in_ok-make_last-in-Done-clause-grows : goal.returns-in_ok-make_last-in-Done-clause-grows
-returns-in_ok-make_last-in-Done-clause-grows c = Grows-trans c.try_each.ensures.grows c.make_last.ensures.grows
-
-pub returns-in_ok-make_last-in-Done-clause-visited : goal.returns-in_ok-make_last-in-Done-clause-visited
-returns-in_ok-make_last-in-Done-clause-visited c =
-    let plan = c.args.plan.now in
-    let found = c.try_each.new.found in
-    let next = states_of c.try_each.new.next.seen in
-    let state = c.args.state.now in
-    IsVisited-done plan c.args.depth found c.make_last.new.found next state c.make_last.ensures.grows
-    (subst (AreTried plan found next state (length plan.clients)) c.in-Done.is c.in_ok-moves.ensures.tried) c.in_ok-make_last-in-Done.ensures.ended
+    let at = subst (λ (s : Schedule). IsAt c.come_back.new.self.position (standing_of plan s)) c.as_slice.ensures.value (c.in-Ok.ensures.at (c.leave.ensures (standing_of plan c.as_slice.result.now))) in
+    IsVisited-chosen {chooser = c.args.chooser.now} state c.requires.state c.requires.ready (c.in-Ok-choose.ensures.enough c.if-is_enough.true (standing_at plan state) at) c.in_ok-follow_chosen.ensures.followed

@@ -1,0 +1,67 @@
+-- What a search knows of every schedule once it has visited a level.
+use Rattle.std.specs.Prelude.{◌≡◌, ◌⊎◌, ℕ, ◌+◌, ◌≤◌, true, List, length, All, Contains, Some}
+use Rattle.explore_core.specs.declared.found.Found.{Found}
+use Rattle.explore_core.specs.declared.state.State.{State}
+use Rattle.explore_core.specs.Covering.{AnswersThere, GoOnAlike, HasAlike}
+use Rattle.explore_core.specs.Found.{IsReachable, Lists, stuck_of}
+use Rattle.explore_core.specs.Independence.{Bounds}
+use Rattle.explore_core.specs.Moving.{LineAnswer, answers_of}
+use Rattle.explore_core.specs.Persistent.{Choice, IsCalm, IsPersistent}
+use Rattle.explore_core.specs.Schedule.{Lines, Standing, Schedule, beginning, ComesTo, IsLast, IsStuck, Leads}
+use Rattle.explore_core.specs.Search.{HasEnds, IsFollowed, IsState, is_asked, standing_at}
+
+-- each client is followed from the standing, and what happens there in the end is listed
+pub record FollowsAll (plan : Lines) (found : Found) (next : List State) (now : Standing) : Type 0 where
+  pub followed : (client : ℕ) → IsFollowed plan found next now client
+  pub ended : HasEnds plan found now
+  pub stuck : IsStuck plan now → (shown : List ℕ) × (stuck_of found ≡ Some shown)
+
+-- the clients of a persistent choice are followed from the standing
+pub record FollowsChoice (plan : Lines) (found : Found) (next : List State) (now : Standing) : Type 0 where
+  pub bounds : Bounds
+  pub calm : IsCalm bounds plan now
+  pub choice : Choice
+  pub persistent : IsPersistent (is_asked plan) bounds plan now choice
+  pub followed : (client : ℕ) → choice.chosen client ≡ true → IsFollowed plan found next now client
+
+-- from the state all clients are followed, or enough of them
+abbrev pub IsVisited : Lines → Found → List State → State → Type 0
+IsVisited plan found next state = FollowsAll plan found next (standing_at plan state) ⊎ FollowsChoice plan found next (standing_at plan state)
+
+-- the answer is listed, and a visited standing gives it
+pub record IsKnown (plan : Lines) (found : Found) (visited : List Standing) (a : LineAnswer) : Type 0 where
+  pub there : AnswersThere plan visited a.client a.place a.answer
+  pub listed : Lists found.given.items a.client a.place a.answer
+
+abbrev pub IsKnownOr : Lines → Found → List Standing → List LineAnswer → LineAnswer → Type 0
+IsKnownOr plan found visited others a = IsKnown plan found visited a ⊎ Contains others a
+
+-- Whatever happens along the schedule, and at the standing that it leads to, is listed. If no client can go there, a visited standing
+-- continues as it does.
+pub record IsFinished (plan : Lines) (found : Found) (visited : List Standing) (schedule : Schedule) (now : Standing) : Type 0 where
+  pub answers : All (IsKnown plan found visited) (answers_of plan (beginning plan) schedule)
+  pub last : IsLast plan now → HasAlike (is_asked plan) visited now
+  pub ended : HasEnds plan found now
+  pub stuck : IsStuck plan now → (shown : List ℕ) × (stuck_of found ≡ Some shown) × (length shown ≤ length schedule)
+
+-- From one of the states a schedule gives all answers of this one that are not known yet. If no client can go where this one leads, the
+-- other leads to a standing that continues in the same way, after as many lines in all.
+pub record LeadsOn (plan : Lines) (found : Found) (visited : List Standing) (depth : ℕ) (states : List State)
+    (schedule : Schedule) (now : Standing) : Type 0 where
+  pub state : State
+  pub there : Contains states state
+  pub rest : Schedule
+  pub later : Standing
+  pub leads : Leads plan (standing_at plan state) rest later
+  pub answers : All (IsKnownOr plan found visited (answers_of plan (standing_at plan state) rest)) (answers_of plan (beginning plan) schedule)
+  pub last : IsLast plan now → (length schedule ≡ depth + length rest) × GoOnAlike (is_asked plan) now later
+
+-- as many standings are visited as are counted, and each schedule is finished or leads on from one of the states
+pub record IsCovered (plan : Lines) (found : Found) (depth : ℕ) (states : List State) : Type 0 where
+  pub are : All (IsState plan depth) states
+  pub visited : List Standing
+  pub count : length visited ≡ found.states
+  pub reached : All (IsReachable plan) visited
+  pub covers : (schedule : Schedule) (now : Standing) → ComesTo plan schedule now →
+      IsFinished plan found visited schedule now ⊎ LeadsOn plan found visited depth states schedule now
+  pub soon : (shown : List ℕ) → stuck_of found ≡ Some shown → length shown ≤ depth
