@@ -1,5 +1,5 @@
 -- A plan that stays within bounds is calm.
-use Rattle.std.proofs.Common.{◌≡◌, ℕ, zero, suc, ◌+◌, ◌<◌, ◌≤◌, Bool, true, false, not, ◌&&◌, ◌||◌, cond, refl, sym, ap, ◌∙◌, subst, List, [], ◌∷◌, ◌++◌, length, length-append, count_by, filter, get_or, set, slice_get, replicate, Option, None, Some, option_map, unwrap_or, arith, if◌then◌else◌, inl, inr}
+use Rattle.std.proofs.Common.{◌≡◌, ℕ, zero, suc, ◌+◌, ◌<◌, ◌≤◌, Bool, true, false, not, ◌&&◌, cond, refl, sym, ap, ◌∙◌, subst, List, [], ◌∷◌, ◌++◌, length, length-append, filter, get_or, set, slice_get, replicate, Option, None, Some, option_map, unwrap_or, arith, if◌then◌else◌, inl, inr}
 use Rattle.std.specs.Prelude.{All, Contains, IfSome}
 use Rattle.std.specs.List.{position_from, sum_by}
 use Rattle.std.specs.Option.{option_or}
@@ -19,7 +19,7 @@ use Rattle.point_core.specs.Agreement.{as_entry, point_of}
 use Rattle.point_core.specs.Named.{same_name}
 use Rattle.point_core.specs.Reach.{IsAtLeast, value_at}
 use Rattle.resv_core.specs.Resv.{entry_of}
-use Rattle.dmabuf_core.specs.Flags.{exported, imported, export_usage, import_usage, is_sync_flags, is_within, at_strongest, with_usage}
+use Rattle.dmabuf_core.specs.Flags.{imported, export_usage, import_usage, is_sync_flags, is_within, at_strongest, with_usage}
 use Rattle.timeline_core.specs.Timeline.{Timeline, new_timeline, names_of, has_timeline, context_of, reach_of, is_named, is_closed, raised, shut}
 use Rattle.timeline_core.proofs.Lookups.{position_from-more}
 use Rattle.timeline_core.proofs.Places.{IsPlace, place_from-has_timeline, context_of-place, name-place}
@@ -40,9 +40,9 @@ use Rattle.explore_core.specs.Alike.{after_answer}
 use Rattle.explore_core.specs.Branch.{Branching}
 use Rattle.explore_core.specs.Flow.{AllowsAll, AreBounded, LeadsForward, RespectsBounds, StaysWithin, files_by_plan, files_by_lines, files_by}
 use Rattle.explore_core.specs.Found.{CanBeExplored}
-use Rattle.explore_core.specs.Independence.{AreReached, Bounds, IsRoomy, IsWithin}
+use Rattle.explore_core.specs.Independence.{AreReached, Bounds, IsWithin}
 use Rattle.explore_core.specs.Persistent.{IsCalm}
-use Rattle.explore_core.specs.Schedule.{Lines, Standing, Schedule, answer_now, history_with, history_along, beginning, is_taken, lines_of, made_by, next_line, place_by, place_after, after_line, Leads}
+use Rattle.explore_core.specs.Schedule.{Lines, Standing, Schedule, answer_now, history_with, history_along, beginning, is_taken, made_by, next_line, place_by, place_after, after_line, Leads}
 use Rattle.explore_core.proofs.Covering.{world-with, sound-along, sound-empty, sound-with}
 use Rattle.explore_core.proofs.Leaving.{context-same}
 use Rattle.explore_core.proofs.Moving.{line-made}

@@ -23,6 +23,6 @@ pub mod Commuting
 pub mod Moving
 pub mod Persistent
 pub mod Following
-pub mod Flows
+pub mod Bounding
 pub mod Flowing
 pub mod Settling

@@ -1,5 +1,5 @@
 -- Which timelines' points may get into each file and each buffer of a plan.
-use Rattle.std.specs.Prelude.{◌≡◌, ℕ, ◌+◌, ◌<◌, ◌≤◌, Bool, true, false, ◌&&◌, List, All, Some, IfSome, slice_get, ⊤}
+use Rattle.std.specs.Prelude.{◌≡◌, ℕ, ◌+◌, ◌<◌, ◌≤◌, Bool, true, ◌&&◌, List, All, Some, IfSome, slice_get, ⊤}
 use Rattle.std.specs.List.{list_any, sum_by}
 use Rattle.point_core.specs.Named.{same_name}
 use Rattle.command_core.specs.declared.command.Command.{Command}

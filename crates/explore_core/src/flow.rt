@@ -1,7 +1,7 @@
 //! `Flow`: for each file and each buffer of a plan, the timelines whose points may get into it, whatever the schedule. A `test` of a
 //! buffer is independent of an increment of any other timeline, so a search follows fewer orders. `is_calm` promises that the flow
 //! bounds what is pending along every schedule. It tests each line of the plan, so no proof depends on how `of` found the flow.
-ghost use Rattle.std.specs.Prelude.{◌≡◌, ◌+◌, ℕ, true, Vec, List, All, IfSome};
+ghost use Rattle.std.specs.Prelude.{◌≡◌, ◌+◌, true, Vec, All, IfSome};
 ghost use Rattle.std.specs.Global.{Global};
 ghost use Rattle.std.specs.List.{sum_by};
 ghost use Rattle.explore_core.specs.declared.plan.Step.{Step as Line};

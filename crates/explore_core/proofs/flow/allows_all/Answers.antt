@@ -1,9 +1,9 @@
-use Rattle.std.proofs.Common.{List, sym, subst, ◌∙◌}
+use Rattle.std.proofs.Common.{List, subst}
 use Rattle.std.proofs.lemmas.Bool.{false≢true}
 use Rattle.std.proofs.lemmas.List.{take_all}
 use Rattle.explore_core.specs.declared.flow.Put.{Put}
 use Rattle.explore_core.specs.Flow.{AllowsAll, has_put, is_put}
-use Rattle.explore_core.proofs.Flows.{allows-next}
+use Rattle.explore_core.proofs.Bounding.{allows-next}
 use Rattle.explore_core.proofs.flow.allows_all.Goals as goal
 
 pub loop-put-init : goal.loop-put-init

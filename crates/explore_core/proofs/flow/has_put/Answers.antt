@@ -1,7 +1,7 @@
 use Rattle.std.proofs.Common.{refl, sym, ap, ◌∙◌}
 use Rattle.std.proofs.lemmas.List.{take_all}
 use Rattle.explore_core.specs.Flow.{has_put, is_put}
-use Rattle.explore_core.proofs.Flows.{any-at, none-next}
+use Rattle.explore_core.proofs.Bounding.{any-at, none-next}
 use Rattle.explore_core.proofs.flow.has_put.Goals as goal
 
 pub loop-put-init : goal.loop-put-init

@@ -1,6 +1,6 @@
 use Rattle.std.proofs.Common.{sym, ◌∙◌}
 use Rattle.explore_core.specs.Flow.{has_put}
-use Rattle.explore_core.proofs.Flows.{put-allowed, put-elsewhere}
+use Rattle.explore_core.proofs.Bounding.{put-allowed, put-elsewhere}
 use Rattle.explore_core.proofs.flow.is_allowed.Goals as goal
 
 pub returns-then-eq : goal.returns-then-eq

@@ -1,9 +1,9 @@
-use Rattle.std.proofs.Common.{List, map, ap, ◌∙◌, arith}
+use Rattle.std.proofs.Common.{map, ap, ◌∙◌, arith}
 use Rattle.std.specs.Prelude.{Vec}
 use Rattle.std.specs.Global.{Global}
 use Rattle.explore_core.specs.declared.plan.Step.{Step}
 use Rattle.explore_core.specs.Schedule.{Lines}
-use Rattle.explore_core.proofs.Flows.{room-left}
+use Rattle.explore_core.proofs.Bounding.{room-left}
 use Rattle.explore_core.proofs.flow.room_after.Goals as goal
 
 pub returns : goal.returns

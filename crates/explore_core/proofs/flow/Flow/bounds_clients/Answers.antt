@@ -4,7 +4,7 @@ use Rattle.std.specs.Global.{Global}
 use Rattle.std.proofs.lemmas.List.{take_all}
 use Rattle.explore_core.specs.declared.plan.Step.{Step}
 use Rattle.explore_core.specs.Flow.{AreBounded, bounds_of}
-use Rattle.explore_core.proofs.Flows.{all-next}
+use Rattle.explore_core.proofs.Bounding.{all-next}
 use Rattle.explore_core.proofs.flow.Flow.bounds_clients.Goals as goal
 
 pub loop-lines-preserved : goal.loop-lines-preserved

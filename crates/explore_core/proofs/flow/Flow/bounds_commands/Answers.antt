@@ -3,7 +3,7 @@ use Rattle.std.specs.Prelude.{All}
 use Rattle.std.proofs.lemmas.List.{take_all}
 use Rattle.command_core.specs.declared.command.Command.{Command}
 use Rattle.explore_core.specs.Flow.{RespectsBounds, bounds_of}
-use Rattle.explore_core.proofs.Flows.{all-next}
+use Rattle.explore_core.proofs.Bounding.{all-next}
 use Rattle.explore_core.proofs.flow.Flow.bounds_commands.Goals as goal
 
 pub loop-command-preserved : goal.loop-command-preserved

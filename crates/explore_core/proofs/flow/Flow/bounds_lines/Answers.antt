@@ -3,7 +3,7 @@ use Rattle.std.proofs.lemmas.List.{take_all}
 use Rattle.std.proofs.lemmas.Option.{none-some}
 use Rattle.explore_core.specs.declared.plan.Step.{Step}
 use Rattle.explore_core.specs.Flow.{AreBounded, LeadsForward, RespectsBounds, bounds_of}
-use Rattle.explore_core.proofs.Flows.{places-next}
+use Rattle.explore_core.proofs.Bounding.{places-next}
 use Rattle.explore_core.proofs.flow.Flow.bounds_lines.Goals as goal
 
 pub loop-place-init : goal.loop-place-init

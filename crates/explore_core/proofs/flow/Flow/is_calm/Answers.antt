@@ -5,7 +5,7 @@ use Rattle.explore_core.specs.declared.plan.Step.{Step}
 use Rattle.explore_core.specs.Flow.{bounds_of}
 use Rattle.explore_core.specs.Schedule.{Lines}
 use Rattle.explore_core.proofs.Flowing.{stays-calm}
-use Rattle.explore_core.proofs.Flows.{stays-within}
+use Rattle.explore_core.proofs.Bounding.{stays-within}
 use Rattle.explore_core.proofs.flow.Flow.is_calm.Goals as goal
 
 pub returns : goal.returns
