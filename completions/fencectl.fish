@@ -34,4 +34,5 @@ complete -c fencectl -n '__fish_seen_subcommand_from explore' -l json -d 'Write 
 complete -c fencectl -n '__fish_seen_subcommand_from explore' -x -l states -d 'Visit this many states at most'
 complete -c fencectl -n '__fish_seen_subcommand_from explore' -r -l witness -d 'Write the schedules that are shown as scripts'
 complete -c fencectl -n '__fish_seen_subcommand_from explore' -l answers -d 'List the answers of all lines'
+complete -c fencectl -n '__fish_seen_subcommand_from explore' -l all-orders -d 'Follow every order of the clients'
 complete -c fencectl -n '__fish_seen_subcommand_from help' -f -a 'run check explain trace draw clients explore'

@@ -1,5 +1,6 @@
 #!/usr/bin/env python3
-"""Random plans, each decided by `fencectl explore --json` and by running all of its schedules, which must agree.
+"""Random plans, each decided by `fencectl explore --json`, with `--all-orders` too, and by running all of its schedules, which must
+agree.
 
 usage: tests/explore/schedules.py PROGRAM [--plans N] [--from SEED]
 
@@ -162,13 +163,21 @@ def run(words, text):
 
 
 def difference(program, seed):
-    """Returns how the report of a plan differs from its schedules, or None."""
+    """Returns how a report of a plan differs from its schedules, or None."""
     plan = Plan(seed)
-    told = run([program, "explore", "--json"], plan.script())
+    there = Schedules(program, plan).decide()
+    for options in ((), ("--all-orders",)):
+        wrong = difference_of_report(run([program, "explore", "--json", *options], plan.script()), plan, there)
+        if wrong:
+            return wrong
+    return None
+
+
+def difference_of_report(told, plan, there):
+    """Returns how a report of the plan differs from all of its schedules, or None."""
     if told.returncode not in (0, 1) or told.stderr:
         return f"its status is {told.returncode}: {told.stderr}"
     objects = [json.loads(line) for line in told.stdout.splitlines()]
-    there = Schedules(program, plan).decide()
     stuck = next((it["stuck"]["steps"] for it in objects if "stuck" in it and "covered" not in it), None)
     if stuck != there.stuck:
         return f"stuck after {stuck} steps, and not {there.stuck}"

@@ -53,6 +53,7 @@ pub record AskedExplore : Type 0 where
   pub states : Option Text
   pub witness : Option Text
   pub answers : Bool
+  pub all_orders : Bool
 
 -- a script has the name of its file, or none on standard input; clients have their number, their rounds and their table
 pub data Asked : Type 0 where
@@ -137,6 +138,7 @@ explore_after rows = record {
   states = first_of (codes "states") rows;
   witness = first_of (codes "witness") rows;
   answers = flag_named (one_of (codes "answers") rows);
+  all_orders = flag_named (one_of (codes "all-orders") rows);
 }
 
 -- of a script, by the word of a subcommand
@@ -192,6 +194,7 @@ asked_of_explore explore = record {
   states = option_map (λ t. t.now) explore.states;
   witness = option_map (λ t. t.now) explore.witness;
   answers = explore.answers;
+  all_orders = explore.all_orders;
 }
 
 -- nothing if the program is to end

@@ -96,6 +96,8 @@ pub(crate) struct Explore<'a> {
     pub witness: Option<&'a str>,
     /// Whether the answers of all lines are listed.
     pub answers: bool,
+    /// Whether every order of the clients is followed.
+    pub all_orders: bool,
 }
 
 /// The number of clients, the rounds that each makes, and the table that they share.

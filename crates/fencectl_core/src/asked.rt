@@ -31,7 +31,7 @@ ghost use Rattle.fencectl_core.specs.Asked.{
 
 use crate::action::{Action, Check, CheckReport, Clients, Draw, Explore, Table, Trace};
 use crate::subcommands::{
-    ALLOW_EMPTY, ANSWERS, CHECK, CLIENTS_WORD, COUNT, DRAW, EXPLAIN, EXPLORE, FILE, FROM, GRAPH,
+    ALL_ORDERS, ALLOW_EMPTY, ANSWERS, CHECK, CLIENTS_WORD, COUNT, DRAW, EXPLAIN, EXPLORE, FILE, FROM, GRAPH,
     JSON, LINE, LINES, LOCKS, OUTPUT, PATH, PERFETTO, QUIET, ROUNDS_WORD, SCRIPT, STATES_OPTION,
     TAP, TO, TRACE, UPDATE, WITNESS,
 };
@@ -160,6 +160,7 @@ fn explore_of<'a>(matches: &ArgMatches<'a>) -> Explore<'a>
         states: text_of(matches, STATES_OPTION),
         witness: text_of(matches, WITNESS),
         answers: has_flag(matches, ANSWERS),
+        all_orders: has_flag(matches, ALL_ORDERS),
     }
 }
 

@@ -74,8 +74,17 @@ fn explore_plan(
 ) -> Result<u8, Refusal>
     requires explorable { CanBeExplored plan.now.plan }
 {
-    let found = plan.explore(rt.alloc(), Orders::Enough, bound)?;
+    let found = plan.explore(rt.alloc(), orders_of(asked), bound)?;
     report_found(rt, asked, plan, &found)
+}
+
+/// The orders of the clients that are followed.
+fn orders_of(asked: &Explore<'_>) -> Orders {
+    if asked.all_orders {
+        Orders::All
+    } else {
+        Orders::Enough
+    }
 }
 
 fn report_found(

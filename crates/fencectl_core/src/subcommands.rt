@@ -99,6 +99,8 @@ pub(crate) const WITNESS: &str = "witness";
 
 pub(crate) const ANSWERS: &str = "answers";
 
+pub(crate) const ALL_ORDERS: &str = "all-orders";
+
 /// The script that a subcommand runs.
 const SCRIPT_FILE: Argument = Argument {
     name: FILE,
@@ -272,6 +274,11 @@ static SUBCOMMANDS: &[Subcommand] = &[
                 name: ANSWERS,
                 form: ArgumentForm::Flag,
                 help: "Lists the answers of all lines",
+            },
+            Argument {
+                name: ALL_ORDERS,
+                form: ArgumentForm::Flag,
+                help: "Follows every order of the clients, also where it makes no difference",
             },
         ],
     },
