@@ -22,7 +22,7 @@ struct Trial {
     timelines: Vec<Name>,
 }
 
-/// Chooses as few clients that can go as some trial does, or none if no client can go.
+/// Makes a trial with each client that can go, and takes the choice of which the fewest can go. Chooses no client where none can go.
 pub(crate) fn choose(
     alloc: Global,
     plan: &Plan,
@@ -35,6 +35,9 @@ pub(crate) fn choose(
     let mut trial = Trial::new(alloc);
     let mut fewest = usize::MAX;
     for first in 0..plan.clients.len() {
+        if !can_client_go(plan, position, first) {
+            continue;
+        }
         let going = trial.begin_with(plan, asked, flow, position, first)?;
         if going < fewest {
             swap(choice, &mut trial.choice);
@@ -56,8 +59,7 @@ impl Trial {
         }
     }
 
-    /// Chooses this client, and all that may disturb a chosen one. Returns how many of them can go, or the greatest number if this
-    /// client can't.
+    /// Chooses this client, and all that may disturb a chosen one. Returns how many of them can go.
     fn begin_with(
         &mut self,
         plan: &Plan,
@@ -66,9 +68,6 @@ impl Trial {
         position: &Position,
         first: usize,
     ) -> Result<usize, AllocError> {
-        if !can_client_go(plan, position, first) {
-            return Ok(usize::MAX);
-        }
         self.choice.begin(position.made.as_slice())?;
         self.choice.choose(first);
         for _ in 0..plan.clients.len() {
