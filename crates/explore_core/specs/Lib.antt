@@ -1,3 +1,4 @@
+pub mod Access
 pub mod Alike
 pub mod Branch
 pub mod Choice

@@ -5,15 +5,17 @@ use Rattle.command_core.specs.declared.command.Command.{Command}
 use Rattle.command_core.specs.declared.answer.Answer.{Answer}
 use Rattle.report_core.specs.Answer.{first_line_of}
 use Rattle.explore_core.specs.Branch.{Branching}
+use Rattle.explore_core.specs.declared.access.Access.{Access}
 use Rattle.explore_core.specs.declared.plan.Step.{Step}
 use Rattle.desk_core.specs.theorem.Answer.{answer_to, is_refused}
 use Rattle.desk_core.specs.theorem.History.{world_of, history_after}
 
--- the commands that come first, the lines of each client, and the commands at the end
+-- the commands that come first, the lines of each client, the commands at the end, and what clients access
 pub record Lines : Type 0 where
   pub first : List Command
   pub clients : List (List Step)
   pub last : List Command
+  pub accesses : List Access
 
 -- how many lines each client has made or skipped, and the commands accepted so far
 pub record Standing : Type 0 where

@@ -28,6 +28,7 @@ pub fn explore(alloc: Global, plan: &Plan, orders: Orders, bound: usize) -> Resu
     let mut found = Found {
         given: Vec::new(alloc),
         ended: Vec::new(alloc),
+        races: Vec::new(alloc),
         stuck: None,
         states: 0,
         covered: false,

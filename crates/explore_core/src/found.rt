@@ -13,6 +13,17 @@ pub struct Given {
     pub schedule: Vec<usize>,
 }
 
+/// Two accesses of a plan that are a race after a schedule.
+#[derive(Drop)]
+pub struct Race {
+    /// The index of the access among the plan's accesses.
+    pub one: usize,
+    /// The index of the other, which is later in the list.
+    pub other: usize,
+    /// The clients that go before both access the buffer, one after another.
+    pub schedule: Vec<usize>,
+}
+
 /// What is found of a plan.
 #[derive(Drop)]
 pub struct Found {
@@ -20,6 +31,8 @@ pub struct Found {
     pub given: Vec<Given>,
     /// The answers of the commands at the end, each answer of a command once.
     pub ended: Vec<Given>,
+    /// The races of accesses, each two accesses once.
+    pub races: Vec<Race>,
     /// A schedule that gets stuck; none gets stuck sooner.
     pub stuck: Option<Vec<usize>>,
     /// How many states were visited: all states of each level that the search has begun.

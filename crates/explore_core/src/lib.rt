@@ -5,6 +5,7 @@
 //! apart.
 #![tactic(auto)]
 
+mod access;
 mod choice;
 mod chooser;
 mod explorer;
@@ -27,9 +28,10 @@ mod table;
 mod trial;
 mod visit;
 
+pub use access::Access;
 pub use chooser::Orders;
 pub use explorer::{STATES, explore};
-pub use found::{Found, Given};
+pub use found::{Found, Given, Race};
 pub use list::SCHEDULED_CLIENTS;
 pub use plan::{Branch, Plan, Step};
 pub use position::{line_at, make};

@@ -7,6 +7,7 @@ ghost use Rattle.explore_core.specs.declared.plan.Step.{Step as Line};
 ghost use Rattle.explore_core.specs.Schedule.{is_taken, place_after};
 ghost use Rattle.explore_core.specs.Search.{asked_file, asks_for, client_asks, AreAsked, Adds};
 
+use crate::access::Access;
 use command_core::{Answer, Command};
 use point_core::Name;
 use report_core::first_line;
@@ -41,12 +42,14 @@ impl Model for Branch {
     ghost view = { λ b. record { text = b.text.items; otherwise = b.otherwise } };
 }
 
-/// The commands that come first, the lines of each client, and the commands once all clients are done.
+/// The commands that come first, the lines of each client, the commands once all clients are done, and what clients access at their
+/// lines.
 #[derive(Drop)]
 pub struct Plan {
     pub first: Vec<Command>,
     pub clients: Vec<Vec<Step>>,
     pub last: Vec<Command>,
+    pub accesses: Vec<Access>,
 }
 
 impl Model for Plan {
@@ -61,6 +64,7 @@ impl Model for Plan {
       first = p.first.items;
       clients = map (λ (steps : Vec Step Global). steps.items) p.clients.items;
       last = p.last.items;
+      accesses = p.accesses.items;
     } };
 }
 

@@ -112,12 +112,13 @@ clients_at lines rows row = lines_begun lines rows row.context.section row.mark
 abbrev pub clients_in : List (List ℕ) → List Row → List (List Step)
 clients_in lines rows = flat_map (clients_at lines rows) rows
 
--- the commands above the first client, the lines of each client, and the commands below `#finally`
+-- the commands above the first client, the lines of each client, and the commands below `#finally`; no note says what clients access
 abbrev pub plan_of : List (List ℕ) → List Row → Lines
 plan_of lines rows = record {
   first = commands_in section.First rows;
   clients = clients_in lines rows;
   last = commands_in section.Last rows;
+  accesses = [];
 }
 
 -- the texts of borrowed lines

@@ -25,6 +25,7 @@ pub(crate) fn plan_of(alloc: Global, lines: &[&[u8]], rows: &[Row]) -> Result<Pl
         first,
         clients,
         last,
+        accesses: Vec::new(alloc),
     })
 }
 
