@@ -10,12 +10,13 @@ use Rattle.desk_core.specs.Sound.{IsSound}
 use Rattle.desk_core.specs.theorem.History.{world_of}
 use Rattle.explore_core.specs.declared.found.Found.{Found}
 use Rattle.explore_core.specs.declared.state.State.{State}
+use Rattle.explore_core.specs.Access.{RaceAt}
 use Rattle.explore_core.specs.Covering.{GoOnAlike, HasAlike, MayAsk}
-use Rattle.explore_core.specs.Found.{CanBeExplored, IsAll, IsOther, IsReachable, Suffice, stuck_of}
+use Rattle.explore_core.specs.Found.{CanBeExplored, IsAll, IsOther, IsOtherRace, IsReachable, Suffice, stuck_of}
 use Rattle.explore_core.specs.Levels.{FollowsAll, IsCovered, IsKnown, IsKnownOr, IsFinished, IsVisited, LeadsOn}
 use Rattle.explore_core.specs.Moving.{LineAnswer, answer_of, answers_of}
 use Rattle.explore_core.specs.Schedule.{Lines, Standing, Schedule, after_line, answer_now, beginning, next_line, ComesTo, IsAnswered, IsLast, Leads}
-use Rattle.explore_core.specs.Search.{is_asked, standing_of, standing_at, standings_of, Grows, IsFollowed, IsState, IsEmptyFound, IsRight, counted}
+use Rattle.explore_core.specs.Search.{is_asked, standing_of, standing_at, standings_of, HasRaces, Grows, IsFollowed, IsState, IsEmptyFound, IsRight, counted}
 use Rattle.explore_core.proofs.Asking.{may-ask}
 use Rattle.explore_core.proofs.Following.{FirstGoes, IsOneOf, answers-append, chosen-goes, client-goes}
 use Rattle.explore_core.proofs.Covering.{go-on-trans, last-alike, sound-made, stuck-alike}
@@ -36,7 +37,7 @@ none-stuck found empty = rw empty.stuck refl
 pub IsRight-empty : (plan : Lines) (bound : ℕ) (found : Found) → IsEmptyFound found → IsRight plan bound found
 IsRight-empty plan bound found empty = record {
   shown = IsTrue-empty plan found empty;
-  once = record { given = none-once IsOther found.given.items empty.given; ended = none-once IsOther found.ended.items empty.ended };
+  once = record { given = none-once IsOther found.given.items empty.given; ended = none-once IsOther found.ended.items empty.ended; races = none-once IsOtherRace found.races.items empty.races };
   shortest = λ shown schedule now is comes stuck. absurd (none-some shown (sym (none-stuck found empty) ∙ is));
   within = omega (arith, empty.states);
 }
@@ -78,6 +79,7 @@ IsCovered-first plan found state empty is = record {
         leads = subst (λ (s : Standing). Leads plan s schedule now) same comes;
         answers = subst (λ (s : Standing). All (IsKnownOr plan found [] all) (answers_of plan s schedule)) (sym same)
             (All-weaker (Contains all) (IsKnownOr plan found [] all) (λ a there. inr there) all (All-contains_itself all));
+        races = λ one other race. inr race;
         last = λ end. (omega arith, go-on-refl (is_asked plan) now);
       });
   soon = λ shown is. absurd (none-some shown (sym (none-stuck found empty) ∙ is));
@@ -115,13 +117,14 @@ module _ {plan : Lines} {old new : Found} {depth : ℕ} {states next : List Stat
     answers = All-weaker (IsKnown plan old covered.visited) Known known-more (answers_of plan (beginning plan) schedule) s.answers;
     last = λ end. has-more (is_asked plan) covered.visited (standings_of plan states) now (s.last end);
     ended = λ place answer e. grows.ended (length plan.clients) place answer (s.ended place answer e);
+    races = λ other one race. grows.races one other (s.races other one race);
     stuck = λ stuck. let shown = s.stuck stuck in (shown.0, grows.stuck shown.0 shown.1, shown.2);
   }
 
   -- a schedule that ends at a visited state
   finished-here : (schedule : Schedule) (now : Standing) → ComesTo plan schedule now → (g : LeadsOn plan old covered.visited depth states schedule now) → [] ≡ g.rest
-      → FollowsAll plan new next (standing_at plan g.state) → IsFinished plan new visited schedule now
-  finished-here schedule now comes g none f =
+      → HasRaces plan new (standing_at plan g.state) → FollowsAll plan new next (standing_at plan g.state) → IsFinished plan new visited schedule now
+  finished-here schedule now comes g none has f =
       let from = standing_at plan g.state in
       let sound = sound-comes plan schedule now comes in
       let here : from ≡ g.later = subst (λ (r : Schedule). Leads plan from r g.later) (sym none) g.leads in
@@ -136,6 +139,10 @@ module _ {plan : Lines} {old new : Found} {depth : ℕ} {states next : List Stat
         ended = λ place answer e.
             let end : IsLast plan now = λ client. none-next plan now client (e.done client) in
             HasEnds-alike new may (alike end) sound f.ended place answer e;
+        races = λ other one race. elim (g.races one other race) [
+          | inl listed ↦ grows.races one other listed
+          | inr later ↦ has other one (subst (λ (s : Standing). RaceAt plan s.made one other) (sym here) later)
+        ];
         stuck = λ stuck.
             let shown = f.stuck (stuck-alike may (alike stuck.nobody) sound stuck) in
             let deep : length schedule ≡ depth + length g.rest = (g.last stuck.nobody).0 in
@@ -144,9 +151,9 @@ module _ {plan : Lines} {old new : Found} {depth : ℕ} {states next : List Stat
 
   -- a client that is followed leads to a state of the next level, from which the rest of the schedule leads on
   goes-on : (schedule : Schedule) (now : Standing) → ComesTo plan schedule now → (g : LeadsOn plan old covered.visited depth states schedule now) (chosen : ℕ → Bool)
-      → ((client : ℕ) → chosen client ≡ true → IsFollowed plan new next (standing_at plan g.state) client) → FirstGoes (is_asked plan) plan chosen (standing_at plan g.state) g.rest g.later
+      → HasRaces plan new (standing_at plan g.state) → ((client : ℕ) → chosen client ≡ true → IsFollowed plan new next (standing_at plan g.state) client) → FirstGoes (is_asked plan) plan chosen (standing_at plan g.state) g.rest g.later
       → LeadsOn plan new visited (depth + 1) next schedule now
-  goes-on schedule now comes g chosen followed f =
+  goes-on schedule now comes g chosen has-races followed f =
       let from = standing_at plan g.state in
       let sound-from = sound-comes plan g.state.schedule.items from (All-contains (IsState plan depth) states g.state covered.are g.there).comes in
       let sound-start : IsSound (world_of f.start.history) = sound-made from f.client (next_line plan from f.client) f.start f.goes sound-from in
@@ -184,6 +191,13 @@ module _ {plan : Lines} {old new : Found} {depth : ℕ} {states next : List Stat
               | inl known ↦ inl (known-more a known)
               | inr later ↦ All-contains (KnownOr behind) (answers_of plan from g.rest) a all later
             ]) (answers_of plan (beginning plan) schedule) g.answers;
+        races = λ one other race. elim (g.races one other race) [
+          | inl listed ↦ inl (grows.races one other listed)
+          | inr later ↦ elim (f.races one other later) [
+            | inl here ↦ inl (has-races other one here)
+            | inr there ↦ inr (subst (λ (made : List ℕ). RaceAt plan made one other) r.alike.made there)
+          ]
+        ];
         last = λ end.
             let before = g.last end in
             let step = f.ends (last-alike may before.1 (sound-comes plan schedule now comes) end) in
@@ -193,26 +207,28 @@ module _ {plan : Lines} {old new : Found} {depth : ℕ} {states next : List Stat
       }
 
   -- from a state where all clients are followed, the first client of the rest goes, if there is one
-  on-all : (schedule : Schedule) (now : Standing) → ComesTo plan schedule now → (g : LeadsOn plan old covered.visited depth states schedule now) → FollowsAll plan new next (standing_at plan g.state)
+  on-all : (schedule : Schedule) (now : Standing) → ComesTo plan schedule now → (g : LeadsOn plan old covered.visited depth states schedule now) → HasRaces plan new (standing_at plan g.state) → FollowsAll plan new next (standing_at plan g.state)
       → (rest : Schedule) → rest ≡ g.rest → IsFinished plan new visited schedule now ⊎ LeadsOn plan new visited (depth + 1) next schedule now
-  on-all schedule now comes g f [] is = inl (finished-here schedule now comes g is f)
-  on-all schedule now comes g f (client ∷ rest) is =
+  on-all schedule now comes g has f [] is = inl (finished-here schedule now comes g is has f)
+  on-all schedule now comes g has f (client ∷ rest) is =
       let from = standing_at plan g.state in
       let leads = subst (λ (r : Schedule). Leads plan from r g.later) (sym is) g.leads in
       let first = client-goes plan from client rest g.later (go-on-refl (is_asked plan) g.later) leads in
-      inr (goes-on schedule now comes g (λ k. true) (λ k is. f.followed k)
+      inr (goes-on schedule now comes g (λ k. true) has (λ k is. f.followed k)
       (subst (λ (r : Schedule). FirstGoes (is_asked plan) plan (λ k. true) from r g.later) is first))
 
   covers-next : (schedule : Schedule) (now : Standing) → ComesTo plan schedule now → IsFinished plan new visited schedule now ⊎ LeadsOn plan new visited (depth + 1) next schedule now
   covers-next schedule now comes = elim (covered.covers schedule now comes) [
     | inl is ↦ inl (finished-more schedule now is)
-    | inr g ↦ elim (All-contains (IsVisited plan new next) states g.state visits g.there) [
-      | inl all ↦ on-all schedule now comes g all g.rest refl
-      | inr some ↦ (
-          let from = standing_at plan g.state in
-          let sound = sound-comes plan g.state.schedule.items from (All-contains (IsState plan depth) states g.state covered.are g.there).comes in
-          inr (goes-on schedule now comes g some.choice.chosen some.followed (chosen-goes may from some.choice some.persistent some.calm sound g.rest g.later g.leads)))
-    ]
+    | inr g ↦ (
+        let visit = All-contains (IsVisited plan new next) states g.state visits g.there in
+        elim visit.left [
+          | inl all ↦ on-all schedule now comes g visit.races all g.rest refl
+          | inr some ↦ (
+              let from = standing_at plan g.state in
+              let sound = sound-comes plan g.state.schedule.items from (All-contains (IsState plan depth) states g.state covered.are g.there).comes in
+              inr (goes-on schedule now comes g some.choice.chosen visit.races some.followed (chosen-goes may from some.choice some.persistent some.calm sound g.rest g.later g.leads)))
+        ])
   ]
 
   pub IsCovered-next : All (IsState plan (depth + 1)) next → IsCovered plan new (depth + 1) next
@@ -231,8 +247,8 @@ pub IsRight-next : {plan : Lines} {bound depth : ℕ} {old new : Found} {states 
 IsRight-next {plan} {bound} {depth} {old} {new} {states} covered grows right room =
     let count : new.states ≡ old.states + length states = grows.states in
     record {
-      shown = grows.shown (IsTrue-same plan old (counted old (length states)) refl refl refl right.shown);
-      once = grows.once (record { given = right.once.given; ended = right.once.ended });
+      shown = grows.shown (IsTrue-same plan old (counted old (length states)) refl refl refl refl right.shown);
+      once = grows.once (record { given = right.once.given; ended = right.once.ended; races = right.once.races });
       shortest = λ shown schedule now is comes stuck. elim (covered.covers schedule now comes) [
         | inl is_finished ↦ (
             let sooner = is_finished.stuck stuck in
@@ -276,6 +292,7 @@ module _ {plan : Lines} {found : Found} {depth : ℕ} (covered : IsCovered plan 
   IsAll-covered = record {
     given = λ schedule client place answer a. (known schedule client place answer a).listed;
     ended = λ schedule place answer e. (finished schedule e.now e.comes).ended place answer (record { done = e.done; command = e.command; at = e.at; answer = e.answer });
+    races = λ schedule one other r. (finished schedule r.now r.comes).races other one r.both;
     stuck = λ schedule now comes stuck. (finished schedule now comes).stuck stuck;
   }
 

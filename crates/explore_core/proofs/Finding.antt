@@ -24,7 +24,7 @@ use Rattle.explore_core.specs.Search.{Seen, LevelState, is_asked, standing_of, s
 use Rattle.explore_core.specs.Choice.{choice_of}
 use Rattle.explore_core.specs.Choosing.{IsChoiceAt, IsReady}
 use Rattle.explore_core.specs.Flow.{bounds_of}
-use Rattle.explore_core.specs.Levels.{IsVisited}
+use Rattle.explore_core.specs.Levels.{IsLeft}
 use Rattle.explore_core.proofs.Following.{calm-later}
 use Rattle.explore_core.proofs.Levels.{go-on-refl, IsFollowed-grows}
 use Rattle.explore_core.proofs.Scheduling.{Leads-is, Leads-push}
@@ -68,18 +68,20 @@ Once-grow {old} records once = elim records [
 ]
 
 pub Grows-given : (plan : Lines) (depth : ℕ) (old new : Found) (client place : ℕ) (answer : Answer) (schedule : Schedule) → Records old.given.items new.given.items client place answer schedule
-    → IsAnswered plan schedule client place answer → new.ended ≡ old.ended → new.stuck ≡ old.stuck → new.states ≡ old.states → Grows plan depth old new
-Grows-given plan depth old new client place answer schedule records comes ended stuck states = record {
-  once = λ o. record { given = Once-grow records o.given; ended = rw ended o.ended };
+    → IsAnswered plan schedule client place answer → new.ended ≡ old.ended → new.races ≡ old.races → new.stuck ≡ old.stuck → new.states ≡ old.states → Grows plan depth old new
+Grows-given plan depth old new client place answer schedule records comes ended races stuck states = record {
+  once = λ o. record { given = Once-grow records o.given; ended = rw ended o.ended; races = rw races o.races };
   states = states;
   shown = λ t. record {
     given = All-grow (λ (g : Given). IsAnswered plan g.schedule.items g.client g.place g.answer) records
         (λ g is. rw (is.schedule_is, is.client_is, is.place_is, is.answer_is) comes) t.given;
     ended = rw ended t.ended;
+    races = rw races t.races;
     stuck = rw stuck t.stuck;
   };
   given = Lists-grow records;
   ended = λ c p a lists. rw ended lists;
+  races = λ one other lists. rw races lists;
   stuck = λ shown is. ap (option_map (λ (v : Vec ℕ Global). v.items)) stuck ∙ is;
   soon = λ soon shown is. soon shown (sym (ap (option_map (λ (v : Vec ℕ Global). v.items)) stuck) ∙ is);
 }
@@ -257,8 +259,8 @@ module _ (plan : Lines) (found : Found) (next : List State) (state : State) wher
     | inr not_less ↦ no-next plan here client (omega (arith, not_less))
   ]
 
-  pub IsVisited-goes : AreTried plan found next state (length plan.clients) move.Goes → IsVisited plan found next state
-  IsVisited-goes tried = inl (record {
+  pub IsLeft-goes : AreTried plan found next state (length plan.clients) move.Goes → IsLeft plan found next state
+  IsLeft-goes tried = inl (record {
     followed = followed-all tried;
     ended = λ place answer e. absurd (some-next tried.are.0 tried.are.1 tried.are.2 (e.done tried.are.0));
     stuck = λ stuck. absurd (none-some tried.are.1 (sym (stuck.nobody tried.are.0) ∙ tried.are.2));
@@ -274,15 +276,15 @@ module _ (plan : Lines) (depth : ℕ) (old found : Found) (next : List State) (s
     kept = f.kept;
   }
 
-  pub IsVisited-waits : AreTried plan old next state (length plan.clients) move.Waits → (shown : List ℕ) → stuck_of found ≡ Some shown → IsVisited plan found next state
-  IsVisited-waits tried shown is = inl (record {
+  pub IsLeft-waits : AreTried plan old next state (length plan.clients) move.Waits → (shown : List ℕ) → stuck_of found ≡ Some shown → IsLeft plan found next state
+  IsLeft-waits tried shown is = inl (record {
     followed = λ client. grown client (followed-all plan old next state tried client);
     ended = λ place answer e. absurd (some-none (next_line plan there tried.are.1) tried.are.2 (e.done tried.are.1));
     stuck = λ stuck. (shown, is);
   })
 
-  pub IsVisited-done : AreTried plan old next state (length plan.clients) move.Done → HasEnds plan found there → IsVisited plan found next state
-  IsVisited-done tried ends = inl (record {
+  pub IsLeft-done : AreTried plan old next state (length plan.clients) move.Done → HasEnds plan found there → IsLeft plan found next state
+  IsLeft-done tried ends = inl (record {
     followed = λ client. grown client (followed-all plan old next state tried client);
     ended = ends;
     stuck = λ stuck. absurd (some-none (next_line plan there stuck.waiting.0) stuck.waiting.1 (done-all plan old next state tried stuck.waiting.0));
@@ -313,9 +315,9 @@ chosen-all plan {found} {next} now n chosen all before client is = elim (cases_l
   | inr not_less ↦ IsFollowed-none plan found next now client (none-next plan now client (no-next plan now client (omega (arith, not_less, all))))
 ]
 
-pub IsVisited-chosen : {plan : Lines} {depth : ℕ} {found : Found} {next : List State} {chooser : Chooser} {kept : Choice} (state : State) → IsState plan depth state → IsReady plan chooser
-    → IsChoiceAt plan chooser (standing_at plan state) kept → ((client : ℕ) → (choice_of kept).chosen client ≡ true → IsFollowed plan found next (standing_at plan state) client) → IsVisited plan found next state
-IsVisited-chosen {plan} {chooser = chooser} {kept = kept} state is ready chosen followed = inr (record {
+pub IsLeft-chosen : {plan : Lines} {depth : ℕ} {found : Found} {next : List State} {chooser : Chooser} {kept : Choice} (state : State) → IsState plan depth state → IsReady plan chooser
+    → IsChoiceAt plan chooser (standing_at plan state) kept → ((client : ℕ) → (choice_of kept).chosen client ≡ true → IsFollowed plan found next (standing_at plan state) client) → IsLeft plan found next state
+IsLeft-chosen {plan} {chooser = chooser} {kept = kept} state is ready chosen followed = inr (record {
   bounds = bounds_of chooser.flow;
   calm = calm-later (bounds_of chooser.flow) plan state.schedule.items (standing_at plan state) (ready chosen.chooses) is.comes;
   choice = choice_of kept;
@@ -325,16 +327,17 @@ IsVisited-chosen {plan} {chooser = chooser} {kept = kept} state is ready chosen 
 
 -- a schedule that gets stuck is shown
 
-pub Grows-stuck : (plan : Lines) (depth : ℕ) (old new : Found) (shown : Vec ℕ Global) (now : Standing) → old.stuck ≡ None → new.stuck ≡ Some shown → new.given ≡ old.given → new.ended ≡ old.ended → new.states ≡ old.states
+pub Grows-stuck : (plan : Lines) (depth : ℕ) (old new : Found) (shown : Vec ℕ Global) (now : Standing) → old.stuck ≡ None → new.stuck ≡ Some shown → new.given ≡ old.given → new.ended ≡ old.ended → new.races ≡ old.races → new.states ≡ old.states
     → ComesTo plan shown.items now → IsStuck plan now → length shown.items ≡ depth → Grows plan depth old new
-Grows-stuck plan depth old new shown now none is given ended states comes stuck deep =
+Grows-stuck plan depth old new shown now none is given ended races states comes stuck deep =
     let items : Option (Vec ℕ Global) → Option (List ℕ) = option_map (λ (v : Vec ℕ Global). v.items) in
     record {
-      shown = λ t. record { given = rw given t.given; ended = rw ended t.ended; stuck = rw is (now, comes, stuck) };
-      once = λ o. record { given = rw given o.given; ended = rw ended o.ended };
+      shown = λ t. record { given = rw given t.given; ended = rw ended t.ended; races = rw races t.races; stuck = rw is (now, comes, stuck) };
+      once = λ o. record { given = rw given o.given; ended = rw ended o.ended; races = rw races o.races };
       states = states;
       given = λ c p a lists. rw given lists;
       ended = λ c p a lists. rw ended lists;
+      races = λ one other lists. rw races lists;
       stuck = λ s was. absurd (none-some s (sym (ap items none) ∙ was));
       soon = λ soon s now_is. let same : shown.items ≡ s = same_Some shown.items s (sym (ap items is) ∙ now_is) in omega (arith, ap length same, deep);
     }
@@ -384,9 +387,9 @@ AreEndsListed-push plan {history} {old} {new} {place} {answer} command before re
 ]
 
 pub Grows-ended : (plan : Lines) (depth : ℕ) (old new : Found) (now : Standing) (schedule : Schedule) → EndsAre plan now.history schedule old.ended.items new.ended.items
-    → ComesTo plan schedule now → ((client : ℕ) → next_line plan now client ≡ None) → new.given ≡ old.given → new.stuck ≡ old.stuck → new.states ≡ old.states → Grows plan depth old new
-Grows-ended plan depth old new now schedule ends comes done given stuck states = record {
-  once = λ o. record { given = rw given o.given; ended = ends.once o.ended };
+    → ComesTo plan schedule now → ((client : ℕ) → next_line plan now client ≡ None) → new.given ≡ old.given → new.races ≡ old.races → new.stuck ≡ old.stuck → new.states ≡ old.states → Grows plan depth old new
+Grows-ended plan depth old new now schedule ends comes done given races stuck states = record {
+  once = λ o. record { given = rw given o.given; ended = ends.once o.ended; races = rw races o.races };
   states = states;
   shown = λ t. record {
     given = rw given t.given;
@@ -397,10 +400,12 @@ Grows-ended plan depth old new now schedule ends comes done given stuck states =
         (All-weaker (IsEnd plan now.history schedule) P
         (λ g end. rw end.schedule_is (record { now = now; comes = comes; done = done; command = end.command; at = end.at; answer = end.answer }))
         ends.added ends.ends));
+    races = rw races t.races;
     stuck = rw stuck t.stuck;
   };
   given = λ c p a lists. rw given lists;
   ended = λ c p a lists. subst (λ gs. Lists gs c p a) (sym ends.is) (lists.0, Contains-append_left old.ended.items ends.added lists.0 lists.1, lists.2, lists.3, lists.4);
+  races = λ one other lists. rw races lists;
   stuck = λ shown is. ap (option_map (λ (v : Vec ℕ Global). v.items)) stuck ∙ is;
   soon = λ soon shown is. soon shown (sym (ap (option_map (λ (v : Vec ℕ Global). v.items)) stuck) ∙ is);
 }

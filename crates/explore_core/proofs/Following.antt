@@ -7,6 +7,7 @@ use Rattle.command_core.specs.declared.answer.Answer.{Answer}
 use Rattle.desk_core.specs.Sound.{IsSound}
 use Rattle.desk_core.specs.theorem.Answer.{is_refused}
 use Rattle.desk_core.specs.theorem.History.{world_of}
+use Rattle.explore_core.specs.Access.{RaceAt}
 use Rattle.explore_core.specs.Covering.{GoOnAlike, MayAsk}
 use Rattle.explore_core.specs.declared.plan.Step.{Step}
 use Rattle.explore_core.specs.Independence.{Bounds}
@@ -17,6 +18,7 @@ use Rattle.explore_core.specs.Search.{Answers}
 use Rattle.explore_core.proofs.Covering.{sound-made}
 use Rattle.explore_core.proofs.Moving.{after-is, leads-alike, line-made}
 use Rattle.explore_core.proofs.Persistent.{stand-still}
+use Rattle.explore_core.proofs.Racing.{race-kept}
 use Rattle.explore_core.proofs.Scheduling.{Leads-split, sound-leads}
 
 -- a schedule up to its first chosen client
@@ -82,6 +84,7 @@ pub record FirstGoes (asked : List ℕ → Bool) (plan : Lines) (chosen : ℕ �
   pub to : Standing
   pub leads : Leads plan start rest to
   pub answers : All (IsOneOf (record { client = client; place = place; answer = answer }) (answers_of plan start rest)) (answers_of plan from schedule)
+  pub races : (one other : ℕ) → RaceAt plan last.made one other → RaceAt plan from.made one other ⊎ RaceAt plan to.made one other
   pub ends : IsLast plan last → (length schedule ≡ length rest + 1) × GoOnAlike asked last to
 
 all-others : (one : LineAnswer) (others : List LineAnswer) → All (IsOneOf one others) others
@@ -156,6 +159,7 @@ module _ {asked : List ℕ → Bool} {bounds : Bounds} {plan : Lines} (may : May
         to = r.last;
         leads = Leads-append plan f.others f.rest start w.first.last r.last w.first.leads r.leads;
         answers = subst (λ given. All (IsOneOf line given) (answers_of plan now schedule)) (sym same) (subst (All (IsOneOf line (before ++ behind))) (sym all) (all-between line before behind));
+        races = λ one other race. inr (subst (λ (made : List ℕ). RaceAt plan made one other) r.alike.made race);
         ends = λ end. (ap length f.is ∙ length-shorter f.others f.rest f.client, r.alike);
       }
 
@@ -164,7 +168,8 @@ module _ {asked : List ℕ → Bool} {bounds : Bounds} {plan : Lines} (may : May
   added schedule last leads unchosen =
       let client = p.goes.0 in
       let line = p.goes.2 in
-      let m = (stand-still may calm p.stops schedule last unchosen leads).free client line p.goes.1 p.goes.3 p.goes.4 in
+      let still = stand-still may calm p.stops schedule last unchosen leads in
+      let m = still.free client line p.goes.1 p.goes.3 p.goes.4 in
       let can : can_be_made last line ≡ true = ap (λ given. not (line.waits && is_refused given)) m.answer ∙ p.goes.4.can in
       let goes : after_one plan last client ≡ Some (after_line last client line) = ap (made_line last client) m.next ∙ ap (λ b. if b then Some (after_line last client line) else None) can in
       record {
@@ -182,6 +187,10 @@ module _ {asked : List ℕ → Bool} {bounds : Bounds} {plan : Lines} (may : May
             let one : LineAnswer = record { client = client; place = made_by now client; answer = answer_now now.history line.command } in
             let given = answers_of plan now schedule in
             subst (λ others. All (IsOneOf one others) given) (sym m.answers) (all-others one given);
+        races = λ one other race. elim (race-kept plan now last choice client line (answer_now last.history line.command) p.goes.1 still.still still.further p.goes.5 one other race) [
+          | inl here ↦ inl here
+          | inr behind ↦ inr (subst (λ (made : List ℕ). RaceAt plan made one other) m.alike.made behind)
+        ];
         ends = λ end. absurd (none-some (after_line last client line) (sym (end client) ∙ goes));
       }
 
@@ -214,5 +223,6 @@ client-goes {asked} plan now client rest last alike leads =
       answers =
           let others = answers_of plan leads.0 rest in
           subst (All (IsOneOf line others)) (sym all) (All-cons (IsOneOf line others) line others (inl refl) (all-others line others));
+      races = λ one other race. inr race;
       ends = λ end. (omega arith, alike);
     }

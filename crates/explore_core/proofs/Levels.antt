@@ -12,13 +12,15 @@ use Rattle.desk_core.specs.theorem.History.{world_of}
 use Rattle.desk_core.specs.Sound.{IsSound}
 use Rattle.explore_core.specs.declared.found.Found.{Found}
 use Rattle.explore_core.specs.declared.found.Given.{Given}
+use Rattle.explore_core.specs.declared.found.Race.{Race}
+use Rattle.explore_core.specs.Access.{IsRace}
 use Rattle.explore_core.specs.declared.state.State.{State}
 use Rattle.explore_core.specs.Alike.{AsksOnly, AreAlike, IsSameWatch}
 use Rattle.explore_core.specs.Covering.{MayAsk, GoOnAlike}
 use Rattle.explore_core.specs.Found.{IsTrue}
 use Rattle.explore_core.specs.Schedule.{Lines, Standing, answer_now, history_with, history_along, IsAnswered, IsEndAnswered}
-use Rattle.explore_core.specs.Levels.{IsVisited}
-use Rattle.explore_core.specs.Search.{LevelState, is_asked, standing_at, states_of, HasEnds, Grows, Extends, IsFollowed, IsEmptyFound}
+use Rattle.explore_core.specs.Levels.{IsLeft, IsVisited}
+use Rattle.explore_core.specs.Search.{LevelState, is_asked, standing_at, states_of, HasEnds, HasRaces, Grows, Extends, IsFollowed, IsEmptyFound}
 use Rattle.explore_core.proofs.Answering.{same_answer}
 use Rattle.explore_core.proofs.Staying.{alike-answered}
 use Rattle.explore_core.proofs.Covering.{world-with, sound-with, next-same}
@@ -32,6 +34,7 @@ Grows-refl plan depth found = record {
   states = refl;
   given = λ client place answer h. h;
   ended = λ client place answer h. h;
+  races = λ one other h. h;
   stuck = λ shown h. h;
   soon = λ h. h;
 }
@@ -43,6 +46,7 @@ Grows-trans g h = record {
   states = h.states ∙ g.states;
   given = λ client place answer l. h.given client place answer (g.given client place answer l);
   ended = λ client place answer l. h.ended client place answer (g.ended client place answer l);
+  races = λ one other l. h.races one other (g.races one other l);
   stuck = λ shown is. h.stuck shown (g.stuck shown is);
   soon = λ s. h.soon (g.soon s);
 }
@@ -116,6 +120,9 @@ HasEnds-alike {plan} found {now} {other} may g sound ends place answer e =
 pub HasEnds-grows : {plan : Lines} {depth : ℕ} {old new : Found} (now : Standing) → Grows plan depth old new → HasEnds plan old now → HasEnds plan new now
 HasEnds-grows {plan} now g ends = λ place answer e. g.ended (length plan.clients) place answer (ends place answer e)
 
+pub HasRaces-grows : {plan : Lines} {depth : ℕ} {old new : Found} (now : Standing) → Grows plan depth old new → HasRaces plan old now → HasRaces plan new now
+HasRaces-grows now g has = λ other one race. g.races one other (has other one race)
+
 pub IsFollowed-grows : {plan : Lines} {depth deeper : ℕ} {old new : Found} {next more : LevelState} (now : Standing) (client : ℕ) → Grows plan depth old new → Extends plan deeper next more
     → IsFollowed plan old (states_of next.seen) now client → IsFollowed plan new (states_of more.seen) now client
 IsFollowed-grows now client g x f = record {
@@ -123,9 +130,9 @@ IsFollowed-grows now client g x f = record {
   kept = λ later goes. x.alike later (f.kept later goes);
 }
 
-pub IsVisited-grows : {plan : Lines} {depth deeper : ℕ} {old new : Found} {next more : LevelState} (state : State) → Grows plan depth old new → Extends plan deeper next more
-    → IsVisited plan old (states_of next.seen) state → IsVisited plan new (states_of more.seen) state
-IsVisited-grows {plan} state g x v = elim v [
+IsLeft-grows : {plan : Lines} {depth deeper : ℕ} {old new : Found} {next more : LevelState} (state : State) → Grows plan depth old new → Extends plan deeper next more
+    → IsLeft plan old (states_of next.seen) state → IsLeft plan new (states_of more.seen) state
+IsLeft-grows {plan} state g x v = elim v [
   | inl all ↦ inl (record {
     followed = λ client. IsFollowed-grows (standing_at plan state) client g x (all.followed client);
     ended = HasEnds-grows (standing_at plan state) g all.ended;
@@ -140,6 +147,10 @@ IsVisited-grows {plan} state g x v = elim v [
   })
 ]
 
+pub IsVisited-grows : {plan : Lines} {depth deeper : ℕ} {old new : Found} {next more : LevelState} (state : State) → Grows plan depth old new → Extends plan deeper next more
+    → IsVisited plan old (states_of next.seen) state → IsVisited plan new (states_of more.seen) state
+IsVisited-grows {plan} state g x v = record { races = HasRaces-grows (standing_at plan state) g v.races; left = IsLeft-grows state g x v.left }
+
 pub length-none : {X : Type 0} (xs : List X) → length xs ≡ 0 → xs ≡ []
 length-none [] is = refl
 length-none (x ∷ xs) is = absurd (omega (arith, is))
@@ -148,5 +159,6 @@ pub IsTrue-empty : (plan : Lines) (found : Found) → IsEmptyFound found → IsT
 IsTrue-empty plan found empty = record {
   given = rw empty.given (All-nil (λ (g : Given). IsAnswered plan g.schedule.items g.client g.place g.answer));
   ended = rw empty.ended (All-nil (λ (g : Given). IsEndAnswered plan g.schedule.items g.place g.answer));
+  races = rw empty.races (All-nil (λ (r : Race). IsRace plan r.schedule.items r.one r.other));
   stuck = rw empty.stuck tt;
 }

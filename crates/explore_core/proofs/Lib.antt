@@ -8,6 +8,7 @@ pub mod Scheduling
 pub mod Levels
 pub mod Showing
 pub mod Finding
+pub mod ListingRaces
 pub mod Same
 pub mod Trying
 pub mod Positions
@@ -22,6 +23,7 @@ pub mod Leaving
 pub mod Commuting
 pub mod Moving
 pub mod Persistent
+pub mod Racing
 pub mod Following
 pub mod Bounding
 pub mod Flowing

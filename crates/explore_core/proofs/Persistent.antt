@@ -68,7 +68,7 @@ answered-by P w c true before behind = before
 answered-by P w c false before behind = behind
 
 -- a client's place after a line, or its place before if the list has no number of it
-set-either : (P : ℕ → Type 0) (xs : List ℕ) (i x : ℕ) → P x → P (get_or xs i 0) → P (get_or (set xs i x) i 0)
+pub set-either : (P : ℕ → Type 0) (xs : List ℕ) (i x : ℕ) → P x → P (get_or xs i 0) → P (get_or (set xs i x) i 0)
 set-either P [] i x new old = old
 set-either P (y ∷ xs) zero x new old = new
 set-either P (y ∷ xs) (suc i) x new old = set-either P xs i x new old
@@ -263,6 +263,9 @@ stand-still {asked} {bounds} {plan} {now} {choice} may calm stops others later u
           go-first may client line free.patient bounds others now later is free.can sound
           (go-beside plan now choice sound stops asked bounds calm others [] now later refl (stays-first plan now choice sound stops) unchosen leads client line chosen free) leads;
       still = λ client chosen. (stay-along plan now choice sound stops others now later (stays-first plan now choice sound stops) unchosen leads).still client chosen;
+      further = λ client isnt.
+          let s = stay-along plan now choice sound stops others now later (stays-first plan now choice sound stops) unchosen leads in
+          (s.from client isnt, s.within client isnt);
       held = λ client line chosen is held.
           let s = stay-along plan now choice sound stops others now later (stays-first plan now choice sound stops) unchosen leads in
           not-made plan later client line (still-next plan now choice later client s chosen ∙ is) (stays-held plan now choice sound later s line held);

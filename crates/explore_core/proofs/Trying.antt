@@ -96,11 +96,11 @@ module _ {plan : Lines} {state : State} {schedule : Schedule} {client : ℕ} (is
     comes-here : ComesTo plan schedule (standing_of plan schedule)
     comes-here = subst (λ (s : Schedule). ComesTo plan s (standing_of plan s)) (sym is) from.comes
 
-    pub Grows-answered : (old new : Found) → Records old.given.items new.given.items client place given schedule → new.ended ≡ old.ended → new.stuck ≡ old.stuck → new.states ≡ old.states → Grows plan depth old new
-    Grows-answered old new records ended stuck states =
+    pub Grows-answered : (old new : Found) → Records old.given.items new.given.items client place given schedule → new.ended ≡ old.ended → new.races ≡ old.races → new.stuck ≡ old.stuck → new.states ≡ old.states → Grows plan depth old new
+    Grows-answered old new records ended races stuck states =
         let answered : IsAnswered plan schedule client place given =
         record { now = standing_of plan schedule; comes = comes-here; at = a.at; step = a.step; next = a.next; made = a.made; answer = a.answer } in
-        Grows-given plan depth old new client place given schedule records answered ended stuck states
+        Grows-given plan depth old new client place given schedule records answered ended races stuck states
 
     pub later-reached : {later : Seen} {position : Position} → IsAt position (standing_after plan (standing_of plan schedule) client) → later.state.schedule.items ≡ schedule ++ client ∷ []
         → (ComesTo plan (schedule ++ client ∷ []) (standing_of plan (schedule ++ client ∷ [])) → IsAt position (standing_of plan (schedule ++ client ∷ []))
@@ -163,12 +163,13 @@ pub when-ok : {X : Type 0} (r : Result (Unit {0}) Stop) → OnOk r X → IsOk r 
 when-ok (Ok v) x ok = x
 when-ok (Err e) x ok = absurd (false≢true ok)
 
-pub IsTrue-same : (plan : Lines) (found new : Found) → new.given ≡ found.given → new.ended ≡ found.ended → new.stuck ≡ found.stuck → IsTrue plan found → IsTrue plan new
-IsTrue-same plan found new given ended stuck t = record { given = rw given t.given; ended = rw ended t.ended; stuck = rw stuck t.stuck }
+pub IsTrue-same : (plan : Lines) (found new : Found) → new.given ≡ found.given → new.ended ≡ found.ended → new.races ≡ found.races → new.stuck ≡ found.stuck → IsTrue plan found → IsTrue plan new
+IsTrue-same plan found new given ended races stuck t = record { given = rw given t.given; ended = rw ended t.ended; races = rw races t.races; stuck = rw stuck t.stuck }
 
-pub IsAll-same : (plan : Lines) (found new : Found) → new.given ≡ found.given → new.ended ≡ found.ended → new.stuck ≡ found.stuck → IsAll plan found → IsAll plan new
-IsAll-same plan found new given ended stuck a = record {
+pub IsAll-same : (plan : Lines) (found new : Found) → new.given ≡ found.given → new.ended ≡ found.ended → new.races ≡ found.races → new.stuck ≡ found.stuck → IsAll plan found → IsAll plan new
+IsAll-same plan found new given ended races stuck a = record {
   given = λ schedule client place answer is. rw given (a.given schedule client place answer is);
   ended = λ schedule place answer is. rw ended (a.ended schedule place answer is);
+  races = λ schedule one other is. rw races (a.races schedule one other is);
   stuck = λ schedule now comes is. rw stuck (a.stuck schedule now comes is);
 }

@@ -12,7 +12,7 @@ use Rattle.explore_core.specs.declared.persistence.Matter.TheVariants as matter
 use Rattle.explore_core.specs.declared.plan.Step.{Step}
 use Rattle.explore_core.specs.Independence.{AreIndependent, Bounds, IsNarrow}
 use Rattle.explore_core.specs.Moving.{IsPatient}
-use Rattle.explore_core.specs.Persistent.{Choice, IsAhead, IsFree, IsHeld, changes_file, changes_timeline}
+use Rattle.explore_core.specs.Persistent.{Choice, IsAhead, IsFree, IsHeld, changes_file, changes_timeline, leaves_no_race}
 use Rattle.explore_core.specs.Schedule.{Lines, Standing, lines_of, made_by, next_line}
 
 -- the clients that are chosen, and the limits of the others
@@ -71,10 +71,11 @@ pub record IsSettled (asked : List ℕ → Bool) (bounds : Bounds) (plan : Lines
   pub chosen : choice.chosen client ≡ true → IsFreeOrHeld asked bounds plan now choice client
   pub other : choice.chosen client ≡ false → IsStopped plan now choice client
 
--- one of the chosen clients is free to go
+-- one of the chosen clients is free to go, and leaves no race
 abbrev pub OneGoes : (List ℕ → Bool) → Bounds → Lines → Standing → Choice → Type 0
 OneGoes asked bounds plan now choice = (client : ℕ) × (choice.chosen client ≡ true) × (line : Step)
     × (next_line plan now client ≡ Some line) × IsFree asked bounds plan now choice line
+    × (leaves_no_race plan.accesses choice client now.made line ≡ true)
 
 -- The point is of a timeline that has not reached it, and no line ahead changes that timeline.
 pub record StaysPending (plan : Lines) (now : Standing) (choice : Choice) (point : Point) : Type 0 where

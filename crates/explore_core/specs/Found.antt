@@ -8,6 +8,8 @@ use Rattle.command_core.specs.declared.command.Command.TheVariants as command
 use Rattle.explore_core.specs.declared.plan.Step.{Step}
 use Rattle.explore_core.specs.declared.found.Given.{Given}
 use Rattle.explore_core.specs.declared.found.Found.{Found}
+use Rattle.explore_core.specs.declared.found.Race.{Race}
+use Rattle.explore_core.specs.Access.{IsRace}
 use Rattle.explore_core.specs.Schedule.{Lines, lines_of, Standing, Schedule, ComesTo, IsLast, IsStuck, IsAnswered, IsEndAnswered}
 use Rattle.explore_core.specs.Covering.{MayAsk, AnswersThere, HasAlike}
 
@@ -26,16 +28,22 @@ pub record CanBeExplored (plan : Lines) : Type 0 where
 pub record IsTrue (plan : Lines) (found : Found) : Type 0 where
   pub given : All (λ (g : Given). IsAnswered plan g.schedule.items g.client g.place g.answer) found.given.items
   pub ended : All (λ (g : Given). IsEndAnswered plan g.schedule.items g.place g.answer) found.ended.items
+  pub races : All (λ (r : Race). IsRace plan r.schedule.items r.one r.other) found.races.items
   pub stuck : IfSome found.stuck (λ shown. (now : Standing) × ComesTo plan shown.items now × IsStuck plan now)
 
 -- not the same answer of the same line
 abbrev pub IsOther : Given → Given → Type 0
 IsOther g h = g.client ≡ h.client → g.place ≡ h.place → g.answer ≡ h.answer → ⊥
 
--- each answer of a line is listed once
+-- not of the same two accesses
+abbrev pub IsOtherRace : Race → Race → Type 0
+IsOtherRace r s = r.one ≡ s.one → r.other ≡ s.other → ⊥
+
+-- each answer of a line is listed once, and each two accesses that race
 pub record ListsOnce (found : Found) : Type 0 where
   pub given : AllPairs IsOther found.given.items
   pub ended : AllPairs IsOther found.ended.items
+  pub races : AllPairs IsOtherRace found.races.items
 
 -- the schedule that is shown as one that gets stuck
 abbrev pub stuck_of : Found → Option (List ℕ)
@@ -72,12 +80,17 @@ abbrev pub Lists : List Given → ℕ → ℕ → Answer → Type 0
 Lists given client place answer =
     (g : Given) × Contains given g × (g.client ≡ client) × (g.place ≡ place) × (g.answer ≡ answer)
 
--- Nothing else happens in any schedule: each answer of each line is listed. If a schedule gets stuck, one is shown, and none gets
+-- a race of the two accesses is listed
+abbrev pub ListsRace : List Race → ℕ → ℕ → Type 0
+ListsRace races one other = (r : Race) × Contains races r × (r.one ≡ one) × (r.other ≡ other)
+
+-- Nothing else happens in any schedule: each answer of each line is listed, and each race. If a schedule gets stuck, one is shown, and none gets
 -- stuck sooner.
 pub record IsAll (plan : Lines) (found : Found) : Type 0 where
   pub given : (schedule : Schedule) (client place : ℕ) (answer : Answer)
       → IsAnswered plan schedule client place answer → Lists found.given.items client place answer
   pub ended : (schedule : Schedule) (place : ℕ) (answer : Answer)
       → IsEndAnswered plan schedule place answer → Lists found.ended.items (length plan.clients) place answer
+  pub races : (schedule : Schedule) (one other : ℕ) → IsRace plan schedule one other → ListsRace found.races.items one other
   pub stuck : (schedule : Schedule) (now : Standing) → ComesTo plan schedule now → IsStuck plan now
       → (shown : List ℕ) × (stuck_of found ≡ Some shown) × (length shown ≤ length schedule)

@@ -2,13 +2,14 @@
 use Rattle.std.specs.Prelude.{◌≡◌, ◌⊎◌, ℕ, ◌+◌, ◌≤◌, true, List, length, All, Contains, Some}
 use Rattle.explore_core.specs.declared.found.Found.{Found}
 use Rattle.explore_core.specs.declared.state.State.{State}
+use Rattle.explore_core.specs.Access.{RaceAt}
 use Rattle.explore_core.specs.Covering.{AnswersThere, GoOnAlike, HasAlike}
-use Rattle.explore_core.specs.Found.{IsReachable, Lists, stuck_of}
+use Rattle.explore_core.specs.Found.{IsReachable, Lists, ListsRace, stuck_of}
 use Rattle.explore_core.specs.Independence.{Bounds}
 use Rattle.explore_core.specs.Moving.{LineAnswer, answers_of}
 use Rattle.explore_core.specs.Persistent.{Choice, IsCalm, IsPersistent}
 use Rattle.explore_core.specs.Schedule.{Lines, Standing, Schedule, beginning, ComesTo, IsLast, IsStuck, Leads}
-use Rattle.explore_core.specs.Search.{HasEnds, IsFollowed, IsState, is_asked, standing_at}
+use Rattle.explore_core.specs.Search.{HasEnds, HasRaces, IsFollowed, IsState, is_asked, standing_at}
 
 -- each client is followed from the standing, and what happens there in the end is listed
 pub record FollowsAll (plan : Lines) (found : Found) (next : List State) (now : Standing) : Type 0 where
@@ -25,8 +26,13 @@ pub record FollowsChoice (plan : Lines) (found : Found) (next : List State) (now
   pub followed : (client : ℕ) → choice.chosen client ≡ true → IsFollowed plan found next now client
 
 -- from the state all clients are followed, or enough of them
-abbrev pub IsVisited : Lines → Found → List State → State → Type 0
-IsVisited plan found next state = FollowsAll plan found next (standing_at plan state) ⊎ FollowsChoice plan found next (standing_at plan state)
+abbrev pub IsLeft : Lines → Found → List State → State → Type 0
+IsLeft plan found next state = FollowsAll plan found next (standing_at plan state) ⊎ FollowsChoice plan found next (standing_at plan state)
+
+-- the races at the state are listed, and from it enough clients are followed
+pub record IsVisited (plan : Lines) (found : Found) (next : List State) (state : State) : Type 0 where
+  pub races : HasRaces plan found (standing_at plan state)
+  pub left : IsLeft plan found next state
 
 -- the answer is listed, and a visited standing gives it
 pub record IsKnown (plan : Lines) (found : Found) (visited : List Standing) (a : LineAnswer) : Type 0 where
@@ -42,9 +48,10 @@ pub record IsFinished (plan : Lines) (found : Found) (visited : List Standing) (
   pub answers : All (IsKnown plan found visited) (answers_of plan (beginning plan) schedule)
   pub last : IsLast plan now → HasAlike (is_asked plan) visited now
   pub ended : HasEnds plan found now
+  pub races : HasRaces plan found now
   pub stuck : IsStuck plan now → (shown : List ℕ) × (stuck_of found ≡ Some shown) × (length shown ≤ length schedule)
 
--- From one of the states a schedule gives all answers of this one that are not known yet. If no client can go where this one leads, the
+-- From one of the states a schedule gives all answers of this one that are not known yet, and leads to the same races. If no client can go where this one leads, the
 -- other leads to a standing that continues in the same way, after as many lines in all.
 pub record LeadsOn (plan : Lines) (found : Found) (visited : List Standing) (depth : ℕ) (states : List State)
     (schedule : Schedule) (now : Standing) : Type 0 where
@@ -54,6 +61,7 @@ pub record LeadsOn (plan : Lines) (found : Found) (visited : List Standing) (dep
   pub later : Standing
   pub leads : Leads plan (standing_at plan state) rest later
   pub answers : All (IsKnownOr plan found visited (answers_of plan (standing_at plan state) rest)) (answers_of plan (beginning plan) schedule)
+  pub races : (one other : ℕ) → RaceAt plan now.made one other → ListsRace found.races.items one other ⊎ RaceAt plan later.made one other
   pub last : IsLast plan now → (length schedule ≡ depth + length rest) × GoOnAlike (is_asked plan) now later
 
 -- as many standings are visited as are counted, and each schedule is finished or leads on from one of the states

@@ -1,5 +1,6 @@
 -- Clients whose next lines may be made before the lines of all others.
-use Rattle.std.specs.Prelude.{◌≡◌, ◌⊎◌, ℕ, ◌<◌, ◌≤◌, Bool, true, false, List, None, Some, IfSome, Contains, slice_get}
+use Rattle.std.specs.Prelude.{◌≡◌, ◌⊎◌, ℕ, ◌<◌, ◌≤◌, ◌==◌, nat_lt, Bool, true, false, not, ◌&&◌, ◌||◌, List, get_or, Option, None, Some, IfSome, Contains, slice_get}
+use Rattle.std.specs.List.{list_all}
 use Rattle.point_core.specs.declared.entry.Entry.{Entry}
 use Rattle.point_core.specs.Named.{same_name}
 use Rattle.point_core.specs.Reach.{value_at}
@@ -8,7 +9,9 @@ use Rattle.command_core.specs.declared.command.Command.{Command}
 use Rattle.command_core.specs.declared.command.Command.TheVariants as command
 use Rattle.desk_core.specs.theorem.History.{world_of}
 use Rattle.desk_core.specs.theorem.World.{has_file, put_set}
+use Rattle.explore_core.specs.Access.{conflict, holds, is_inside}
 use Rattle.explore_core.specs.Branch.{Branching}
+use Rattle.explore_core.specs.declared.access.Access.{Access}
 use Rattle.explore_core.specs.declared.plan.Step.{Step}
 use Rattle.explore_core.specs.Independence.{AreIndependent, Bounds, IsNarrow, IsRoomy, IsWithin}
 use Rattle.explore_core.specs.Moving.{IsPatient, MayGoFirst}
@@ -78,24 +81,51 @@ pub record IsFree (asked : List ℕ → Bool) (bounds : Bounds) (plan : Lines) (
   pub independent : (client place : ℕ) (ahead : Step) → IsAhead plan now choice client place ahead →
       AreIndependent asked bounds line.command ahead.command
 
--- Each chosen client that is not done is free to go or held, and one is free.
+-- after the client's line at this place, whatever its answer is, the client makes the access still
+abbrev pub continues : Access → ℕ → Option Branching → Bool
+continues a place None = nat_lt place a.last
+continues a place (Some branch) = nat_lt place a.last && holds a branch.otherwise
+
+-- the client makes the access, and may end it by the line
+abbrev pub may_end : ℕ → List ℕ → Step → Access → Bool
+may_end client made line a = (a.client == client) && (is_inside a made && not (continues a (get_or made client 0) line.branch))
+
+-- the client doesn't come to the access while the chosen clients stand still
+abbrev pub is_far : Choice → List ℕ → Access → Bool
+is_far choice made a = nat_lt (choice.limit a.client) a.first || nat_lt a.last (get_or made a.client 0)
+
+-- If the first access ends now, no race with the other is missed: they are at once now, or aren't before a chosen client goes.
+abbrev pub misses_none : Choice → List ℕ → Access → Access → Bool
+misses_none choice made a b = not (conflict a b) || (choice.chosen b.client || (is_inside b made || is_far choice made b))
+
+abbrev pub ends_in_time : List Access → Choice → ℕ → List ℕ → Step → Access → Bool
+ends_in_time accesses choice client made line a = not (may_end client made line a) || list_all (misses_none choice made a) accesses
+
+-- the client's line may be made before the lines of others, and no race is missed
+abbrev pub leaves_no_race : List Access → Choice → ℕ → List ℕ → Step → Bool
+leaves_no_race accesses choice client made line = list_all (ends_in_time accesses choice client made line) accesses
+
+-- Each chosen client that is not done is free to go or held, and one is free, and leaves no race.
 pub record IsPersistent (asked : List ℕ → Bool) (bounds : Bounds) (plan : Lines) (now : Standing) (choice : Choice) : Type 0 where
   pub stops : StopsOthers plan now choice
   pub chosen : (client : ℕ) (line : Step) → choice.chosen client ≡ true → next_line plan now client ≡ Some line →
       IsFree asked bounds plan now choice line ⊎ IsHeld plan now choice line
   pub goes : (client : ℕ) × (choice.chosen client ≡ true) × (line : Step) × (next_line plan now client ≡ Some line)
-      × IsFree asked bounds plan now choice line
+      × IsFree asked bounds plan now choice line × (leaves_no_race plan.accesses choice client now.made line ≡ true)
 
 -- along every schedule from here, each world has room and is within the bounds
 abbrev pub IsCalm : Bounds → Lines → Standing → Type 0
 IsCalm bounds plan now = (schedule : Schedule) (later : Standing) → Leads plan now schedule later →
     IsRoomy (world_of later.history) × IsWithin bounds (world_of later.history)
 
--- After a schedule of other clients, each chosen client that was free may still go, and might have gone first. No held client can.
+-- After a schedule of other clients, each chosen client that was free may still go, and might have gone first. No held client can. The
+-- others come further, up to their limits.
 pub record ChosenStandStill (asked : List ℕ → Bool) (bounds : Bounds) (plan : Lines) (now : Standing) (choice : Choice)
     (others : Schedule) (later : Standing) : Type 0 where
   pub free : (client : ℕ) (line : Step) → choice.chosen client ≡ true → next_line plan now client ≡ Some line →
       IsFree asked bounds plan now choice line → MayGoFirst asked plan client line now others later
   pub still : (client : ℕ) → choice.chosen client ≡ true → made_by later client ≡ made_by now client
+  pub further : (client : ℕ) → choice.chosen client ≡ false →
+      (made_by now client ≤ made_by later client) × (made_by later client ≤ choice.limit client)
   pub held : (client : ℕ) (line : Step) → choice.chosen client ≡ true → next_line plan now client ≡ Some line →
       IsHeld plan now choice line → after_one plan later client ≡ None

@@ -1,5 +1,5 @@
 -- A search by levels: the states of a level are the states after schedules of one length.
-use Rattle.std.specs.Prelude.{◌≡◌, ◌⊎◌, ℕ, ◌+◌, ◌<◌, ◌≤◌, Bool, true, false, not, ◌||◌, if◌then◌else◌, filter, List, [], ◌∷◌, ◌++◌, length, map, take, All, Contains, Option, None, Some, IsSome, slice_get, get_or, unwrap_or}
+use Rattle.std.specs.Prelude.{◌≡◌, ◌⊎◌, ℕ, ◌+◌, ◌<◌, ◌≤◌, ◌==◌, Bool, true, false, not, ◌&&◌, ◌||◌, if◌then◌else◌, filter, List, [], ◌∷◌, ◌++◌, length, map, take, All, Contains, Option, None, Some, IsSome, slice_get, get_or, unwrap_or}
 use Rattle.std.specs.List.{list_any, AllPairs}
 use Rattle.point_core.specs.declared.entry.Point.{Point}
 use Rattle.point_core.specs.declared.timeline_row.TimelineRow.{TimelineRow}
@@ -28,8 +28,10 @@ use Rattle.explore_core.specs.declared.visit.Visit.{Visit}
 use Rattle.explore_core.specs.declared.search.Move.{Move}
 use Rattle.explore_core.specs.declared.search.Move.TheVariants as move
 use Rattle.explore_core.specs.declared.found.Given.{Given}
+use Rattle.explore_core.specs.declared.found.Race.{Race}
+use Rattle.explore_core.specs.Access.{RaceAt}
 use Rattle.explore_core.specs.Covering.{GoOnAlike}
-use Rattle.explore_core.specs.Found.{IsTrue, IsOther, ListsOnce, IsShortest, Lists, stuck_of}
+use Rattle.explore_core.specs.Found.{IsTrue, IsOther, ListsOnce, ListsRace, IsShortest, Lists, stuck_of}
 use Rattle.explore_core.specs.Schedule.{Lines, Standing, Schedule, answer_now, history_with, history_along, beginning, made_by, next_line, can_be_made, after_one, ComesTo}
 
 -- the standing after the client's next line, or the same standing if it can't make one
@@ -281,6 +283,7 @@ pub record Grows (plan : Lines) (depth : ℕ) (old new : Found) : Type 0 where
       Lists old.given.items client place answer → Lists new.given.items client place answer
   pub ended : (client place : ℕ) (answer : Answer) →
       Lists old.ended.items client place answer → Lists new.ended.items client place answer
+  pub races : (one other : ℕ) → ListsRace old.races.items one other → ListsRace new.races.items one other
   pub stuck : (shown : List ℕ) → stuck_of old ≡ Some shown → stuck_of new ≡ Some shown
   pub soon : ((shown : List ℕ) → stuck_of old ≡ Some shown → length shown ≤ depth)
       → (shown : List ℕ) → stuck_of new ≡ Some shown → length shown ≤ depth
@@ -297,6 +300,21 @@ abbrev pub Records : List Given → List Given → ℕ → ℕ → Answer → Sc
 Records old new client place answer schedule =
     (new ≡ old)
     ⊎ ((g : Given) × (new ≡ old ++ g ∷ []) × IsGiven client place answer schedule g × (Lists old client place answer → ⊥))
+
+-- the race of the two accesses
+abbrev pub is_of : ℕ → ℕ → Race → Bool
+is_of one other race = (race.one == one) && (race.other == other)
+
+-- the two accesses with that schedule
+pub record IsRaceOf (one other : ℕ) (schedule : Schedule) (r : Race) : Type 0 where
+  pub one_is : r.one ≡ one
+  pub other_is : r.other ≡ other
+  pub schedule_is : r.schedule.items ≡ schedule
+
+-- the race was listed last, with that schedule, and was not listed before; or nothing was listed
+abbrev pub RecordsRace : List Race → List Race → ℕ → ℕ → Schedule → Type 0
+RecordsRace old new one other schedule =
+    (new ≡ old) ⊎ ((r : Race) × (new ≡ old ++ r ∷ []) × IsRaceOf one other schedule r × (ListsRace old one other → ⊥))
 
 -- Each look is one that is seen if each was before. A standing that continued as a state did still continues as one does. There may
 -- be as many states as before.
@@ -370,10 +388,19 @@ abbrev pub HasEnds : Lines → Found → Standing → Type 0
 HasEnds plan found now = (place : ℕ) (answer : Answer) →
     Ends plan now place answer → Lists found.ended.items (length plan.clients) place answer
 
+-- the races of the access with those before it are listed
+abbrev pub HasRacesOf : Lines → Found → Standing → ℕ → Type 0
+HasRacesOf plan found now other = (one : ℕ) → RaceAt plan now.made one other → ListsRace found.races.items one other
+
+-- all races at the standing are listed
+abbrev pub HasRaces : Lines → Found → Standing → Type 0
+HasRaces plan found now = (other : ℕ) → HasRacesOf plan found now other
+
 -- nothing is found
 pub record IsEmptyFound (found : Found) : Type 0 where
   pub given : found.given.items ≡ []
   pub ended : found.ended.items ≡ []
+  pub races : found.races.items ≡ []
   pub stuck : found.stuck ≡ None
   pub states : found.states ≡ 0
 

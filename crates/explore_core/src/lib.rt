@@ -22,6 +22,7 @@ mod persistence;
 mod plan;
 mod position;
 mod progress;
+mod races;
 mod search;
 mod state;
 mod table;

@@ -18,6 +18,7 @@ ghost use Rattle.explore_core.specs.Persistent.{IsAhead, IsFree, IsHeld, IsPendi
 ghost use Rattle.explore_core.specs.Schedule.{Standing, answer_now, can_be_made, lines_of};
 ghost use Rattle.explore_core.specs.Search.{AreAsked, IsAt, has_name, is_asked};
 
+use crate::access::leaves_no_race;
 use crate::choice::Choice;
 use crate::flow::Flow;
 use crate::independence::{are_independent, is_narrow};
@@ -112,7 +113,7 @@ fn is_free_or_held(
         || is_free(plan, asked, flow, position, choice, line)
 }
 
-/// Whether one of the chosen clients is free to go.
+/// Whether one of the chosen clients is free to go, and leaves no race.
 fn one_goes(plan: &Plan, asked: &[Name], flow: &Flow, position: &Position, choice: &Choice) -> bool
     ensures { result ≡ true → (now : Standing) → IsAt position.now now →
         OneGoes (has_name asked.now) (bounds_of flow.now) plan.now now (choice_of choice.now) }
@@ -144,6 +145,13 @@ fn goes(
         return false;
     };
     is_free(plan, asked, flow, position, choice, line)
+        && leaves_no_race(
+            plan.accesses.as_slice(),
+            choice,
+            client,
+            position.made.as_slice(),
+            line,
+        )
 }
 
 /// Whether the line can be made, and is independent of all lines that may be made before it.

@@ -1,6 +1,6 @@
 //! `Plan`: the lines of each client, and the commands before and after them. Some lines are in a branch, which the client makes only
 //! after one answer to the line above it. `explore_report` makes a plan from a script, and `explore` decides it.
-ghost use Rattle.std.specs.Prelude.{◌≡◌, ◌+◌, Vec, IfOk, OnOk};
+ghost use Rattle.std.specs.Prelude.{◌≡◌, ◌+◌, Vec, IfOk, OnOk, slice_get};
 ghost use Rattle.std.specs.Global.{Global};
 ghost use Rattle.std.specs.List.{list_any};
 ghost use Rattle.explore_core.specs.declared.plan.Step.{Step as Line};
@@ -95,6 +95,13 @@ impl Branch {
 }
 
 impl Plan {
+    /// The access of that index.
+    pub(crate) fn access(&self, index: usize) -> Option<Access>
+        ensures { result ≡ slice_get self.now.accesses index }
+    {
+        self.accesses.get(index).copied()
+    }
+
     /// The names of the files for which a line of a client, or a command at the end, asks what they list.
     pub(crate) fn asked_files(&self, alloc: Global) -> Result<Vec<Name>, AllocError>
         ensures asked { IfOk result (λ asked. AreAsked self.now asked.items) }

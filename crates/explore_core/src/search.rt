@@ -7,7 +7,7 @@ ghost use Rattle.desk_core.specs.theorem.Desk.{HasHistory};
 ghost use Rattle.explore_core.specs.Found.{CanBeExplored, IsAll, Suffice, stuck_of};
 ghost use Rattle.explore_core.specs.Choice.{choice_of};
 ghost use Rattle.explore_core.specs.Choosing.{IsReady};
-ghost use Rattle.explore_core.specs.Levels.{IsVisited};
+ghost use Rattle.explore_core.specs.Levels.{IsLeft, IsVisited};
 ghost use Rattle.explore_core.specs.Schedule.{IsStuck, next_line};
 ghost use Rattle.explore_core.specs.Search.{AreAsked, Grows, Extends, IsState, IsSeen, IsVisitOf, IsFollowed, IsTried, AreTried, HasEnds, EndsAre, AreEndsListed, standing_of, standing_at, states_of, IsEmptyFound, IsRight, counted, together};
 
@@ -20,6 +20,7 @@ use crate::listing::record;
 use crate::plan::Plan;
 use crate::position::{Position, line_at, make};
 use crate::progress::{clear_made, place_of};
+use crate::races::list_races;
 use crate::state::State;
 use crate::visit::Visit;
 use point_core::Name;
@@ -222,7 +223,7 @@ fn visit_all(
     Ok(())
 }
 
-/// Lists what the next lines of clients give at the state, and keeps the states after them.
+/// Lists the races at the state, and what the next lines of clients give there, and keeps the states after them.
 fn visit_state(
     alloc: Global,
     plan: &Plan,
@@ -243,6 +244,37 @@ fn visit_state(
     ensures grows { Grows plan.now depth found.old found.new }
     ensures extends { Extends plan.now (depth + 1) next.old next.new }
     ensures visited { OnOk result (IsVisited plan.now found.new (states_of next.new.seen) state.now) }
+{
+    let Ok(()) = list_races(plan, depth, state, found) else {
+        return Err(Stop::Memory);
+    };
+    follow_enough(
+        alloc, plan, asked, chooser, depth, state, choice, visit, found, next,
+    )?;
+    Ok(())
+}
+
+/// Enough clients make their next lines at the state: those that the chooser chooses, or all.
+fn follow_enough(
+    alloc: Global,
+    plan: &Plan,
+    asked: &[Name],
+    chooser: &Chooser,
+    depth: usize,
+    state: &State,
+    choice: &mut Choice,
+    visit: &mut Visit,
+    found: &mut Found,
+    next: &mut Level,
+) -> Result<(), Stop>
+    requires explorable { CanBeExplored plan.now }
+    requires asked { AreAsked plan.now asked.now }
+    requires ready { IsReady plan.now chooser.now }
+    requires state { IsState plan.now depth state.now }
+    requires next { All (IsSeen plan.now (depth + 1)) next.old.seen }
+    ensures grows { Grows plan.now depth found.old found.new }
+    ensures extends { Extends plan.now (depth + 1) next.old next.new }
+    ensures left { OnOk result (IsLeft plan.now found.new (states_of next.new.seen) state.now) }
 {
     visit.leave();
     let Ok(()) = visit.come_back(plan, state.schedule.as_slice()) else {
@@ -306,7 +338,7 @@ fn follow_all(
     requires next { All (IsSeen plan.now (depth + 1)) next.old.seen }
     ensures grows { Grows plan.now depth found.old found.new }
     ensures extends { Extends plan.now (depth + 1) next.old next.new }
-    ensures visited { OnOk result (IsVisited plan.now found.new (states_of next.new.seen) state.now) }
+    ensures left { OnOk result (IsLeft plan.now found.new (states_of next.new.seen) state.now) }
 {
     let moves = try_each(alloc, plan, asked, depth, state, visit, found, next)?;
     match moves {

@@ -1,6 +1,7 @@
 //! Proposes which clients go at a state: few of them, and so that the choice is persistent (`persistence.rt`). A trial begins with one
-//! client that can go, and adds each client that may disturb a chosen one before that goes, until none may. No proof depends on what is
-//! proposed, since the search tests each choice before it follows it.
+//! client that can go, and adds each client that may disturb a chosen one before that goes, or whose race with the first would be
+//! missed, until there is none. No proof depends on what is proposed, since the search tests each choice before it follows it.
+use crate::access::Access;
 use crate::choice::Choice;
 use crate::flow::Flow;
 use crate::look::has_name;
@@ -59,7 +60,8 @@ impl Trial {
         }
     }
 
-    /// Chooses this client, and all that may disturb a chosen one. Returns how many of them can go.
+    /// Chooses this client, all that may disturb a chosen one, and all whose races with this one would be missed. Returns how many of
+    /// them can go.
     fn begin_with(
         &mut self,
         plan: &Plan,
@@ -72,7 +74,9 @@ impl Trial {
         self.choice.choose(first);
         for _ in 0..plan.clients.len() {
             self.move_limits(plan, position)?;
-            if !self.add_disturbing(plan, asked, flow, position) {
+            let has_disturbing = self.add_disturbing(plan, asked, flow, position);
+            let has_racing = self.add_racing(plan, position, first);
+            if !has_disturbing && !has_racing {
                 break;
             }
         }
@@ -208,6 +212,32 @@ impl Trial {
             return has_added;
         };
         self.add_all(plan, asked, flow, position, &Matter::Timeline(timeline)) || has_added
+    }
+
+    /// Chooses the clients whose races are missed if this one ends an access before they go. Returns whether there are any.
+    fn add_racing(&mut self, plan: &Plan, position: &Position, client: usize) -> bool {
+        let Some(line) = next_line(plan, position, client) else {
+            return false;
+        };
+        let made = position.made.as_slice();
+        let mut has_added = false;
+        for access in plan.accesses.as_slice() {
+            if access.may_end(client, made, line) && self.add_racing_with(plan, made, access) {
+                has_added = true;
+            }
+        }
+        has_added
+    }
+
+    fn add_racing_with(&mut self, plan: &Plan, made: &[usize], access: &Access) -> bool {
+        let mut has_added = false;
+        for other in plan.accesses.as_slice() {
+            if !access.misses_none(&self.choice, made, other) {
+                self.choice.choose(other.client);
+                has_added = true;
+            }
+        }
+        has_added
     }
 
     /// The timeline of a pending point of the file that the fewest clients may change.

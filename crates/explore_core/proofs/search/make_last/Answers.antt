@@ -21,7 +21,7 @@ returns-in_default-answer_last-clause-grows c =
     let is = c.as_slice-schedule.ensures.value in
     let at = subst (λ (s : Schedule). IsAt c.restart.new.self (standing_of plan s)) is c.in-Ok.ensures.at in
     let comes = subst (λ (s : Schedule). ComesTo plan s (standing_at plan state)) (sym is) c.requires.state.comes in
-    Grows-ended plan c.args.depth c.args.found.now _ (standing_at plan state) schedule (c.answer_last.ensures.records (standing_at plan state).history at.desk) comes c.requires.done refl refl refl
+    Grows-ended plan c.args.depth c.args.found.now _ (standing_at plan state) schedule (c.answer_last.ensures.records (standing_at plan state).history at.desk) comes c.requires.done refl refl refl refl
 
 pub returns-clause-grows : goal.returns-clause-grows
 returns-clause-grows c =
@@ -31,7 +31,7 @@ returns-clause-grows c =
     let is = c.as_slice-schedule.ensures.value in
     let at = subst (λ (s : Schedule). IsAt c.restart.new.self (standing_of plan s)) is c.in-Ok.ensures.at in
     let comes = subst (λ (s : Schedule). ComesTo plan s (standing_at plan state)) (sym is) c.requires.state.comes in
-    Grows-ended plan c.args.depth c.args.found.now _ (standing_at plan state) schedule (c.answer_last.ensures.records (standing_at plan state).history at.desk) comes c.requires.done refl refl refl
+    Grows-ended plan c.args.depth c.args.found.now _ (standing_at plan state) schedule (c.answer_last.ensures.records (standing_at plan state).history at.desk) comes c.requires.done refl refl refl refl
 
 pub returns-clause-ended : goal.returns-clause-ended
 returns-clause-ended c =

@@ -20,7 +20,7 @@ returns-clause-grows c =
     let plan = c.args.plan.now in
     let state = c.args.state.now in
     let is = c.in-Ok.ensures.shown ∙ c.as_slice.ensures.value in
-    Grows-stuck plan c.args.depth c.args.found.now _ c.in-Ok.schedule (standing_at plan state) (not-stuck c.args.found.now.stuck (sym c.is_some.ensures ∙ c.if-is_some.false)) refl refl refl refl
+    Grows-stuck plan c.args.depth c.args.found.now _ c.in-Ok.schedule (standing_at plan state) (not-stuck c.args.found.now.stuck (sym c.is_some.ensures ∙ c.if-is_some.false)) refl refl refl refl refl
     (subst (λ (s : Schedule). ComesTo plan s (standing_at plan state)) (sym is) c.requires.state.comes) c.requires.stuck (ap length is ∙ c.requires.state.deep)
 
 pub returns-clause-shown : goal.returns-clause-shown

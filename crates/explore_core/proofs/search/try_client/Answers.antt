@@ -52,7 +52,7 @@ returns-in_default-record-clause-grows c =
     let next = ap (slice_get (lines_of plan c.args.client)) here ∙ sym c.line_at.ensures ∙ ap option_copied c.in-Some.is in
     let turn = c.in-Ok-go.ensures.made plan now at here next in
     let made = subst (λ (o : Option Answer). IsTurn plan now c.args.client c.place_of-place.result o c.go.new.self) c.in-Some-made.is turn in
-    Grows-answered is c.requires.state made.0 c.args.found.now _ c.record.ensures.records refl refl refl
+    Grows-answered is c.requires.state made.0 c.args.found.now _ c.record.ensures.records refl refl refl refl
 
 pub returns-in_default-record-clause-extends : goal.returns-in_default-record-clause-extends
 returns-in_default-record-clause-extends c =
@@ -69,7 +69,7 @@ returns-in_default-after-clause-grows c =
     let next = ap (slice_get (lines_of plan c.args.client)) here ∙ sym c.line_at.ensures ∙ ap option_copied c.in-Some.is in
     let turn = c.in-Ok-go.ensures.made plan now at here next in
     let made = subst (λ (o : Option Answer). IsTurn plan now c.args.client c.place_of-place.result o c.go.new.self) c.in-Some-made.is turn in
-    Grows-answered is c.requires.state made.0 c.args.found.now _ c.record.ensures.records refl refl refl
+    Grows-answered is c.requires.state made.0 c.args.found.now _ c.record.ensures.records refl refl refl refl
 
 pub returns-in_default-after-clause-extends : goal.returns-in_default-after-clause-extends
 returns-in_default-after-clause-extends c =
@@ -122,7 +122,7 @@ returns-in_err-keep-clause-grows c =
     let next = ap (slice_get (lines_of plan c.args.client)) here ∙ sym c.line_at.ensures ∙ ap option_copied c.in-Some.is in
     let turn = c.in-Ok-go.ensures.made plan now at here next in
     let made = subst (λ (o : Option Answer). IsTurn plan now c.args.client c.place_of-place.result o c.go.new.self) c.in-Some-made.is turn in
-    Grows-answered is c.requires.state made.0 c.args.found.now _ c.record.ensures.records refl refl refl
+    Grows-answered is c.requires.state made.0 c.args.found.now _ c.record.ensures.records refl refl refl refl
 
 pub returns-clause-grows : goal.returns-clause-grows
 returns-clause-grows c =
@@ -135,7 +135,7 @@ returns-clause-grows c =
     let next = ap (slice_get (lines_of plan c.args.client)) here ∙ sym c.line_at.ensures ∙ ap option_copied c.in-Some.is in
     let turn = c.in-Ok-go.ensures.made plan now at here next in
     let made = subst (λ (o : Option Answer). IsTurn plan now c.args.client c.place_of-place.result o c.go.new.self) c.in-Some-made.is turn in
-    Grows-answered is c.requires.state made.0 c.args.found.now _ c.record.ensures.records refl refl refl
+    Grows-answered is c.requires.state made.0 c.args.found.now _ c.record.ensures.records refl refl refl refl
 
 pub returns-in_err-keep-clause-extends : goal.returns-in_err-keep-clause-extends
 returns-in_err-keep-clause-extends c =
