@@ -124,7 +124,5 @@ pub(crate) fn leaves_no_race(
 ) -> bool
     ensures { result ≡ leaves_no_race accesses.now (choice_of choice.now) client made.now line.now }
 {
-    accesses
-        .iter()
-        .all(|access| access.ends_in_time(accesses, choice, client, made, line))
+    accesses.iter().all(|access| access.ends_in_time(accesses, choice, client, made, line))
 }
