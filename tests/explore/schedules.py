@@ -48,14 +48,15 @@ def command(rng):
 
 
 class Plan:
-    """A random plan: its commands by number of line, the lines of its sections, and the branches below lines of its clients."""
+    """A random plan: its commands by number of line, and for each client what it does: a line; below a line, where it continues after
+    another answer than a text; or where it continues in any case."""
 
     def __init__(self, seed):
         rng = random.Random(seed)
         self.text, self.commands = [], {}
         self.first = [self.add(line) for line in ["timeline t", "timeline u", "buffer b", "buffer c"][:rng.randint(2, 4)]]
         self.first += [self.add(f"fence {name} {rng.choice(TIMELINES)} {rng.randint(1, 3)}") for name in FILES[:rng.randint(0, 2)]]
-        self.clients, self.waits, self.branches = [], set(), {}
+        self.clients, self.waits = [], set()
         for client, most in enumerate(rng.choice(((4, 4), (3, 4), (2, 2, 2), (3, 3)))):
             self.text.append(f"#client c{client}")
             self.clients.append([])
@@ -68,26 +69,43 @@ class Plan:
         self.commands[len(self.text)] = line
         return len(self.text)
 
-    def add_lines(self, rng, lines, most):
-        """Adds so many lines, some of them in branches."""
-        most += len(lines)
-        while len(lines) < most:
+    def add_lines(self, rng, steps, most):
+        """Adds this many lines, some of them in branches."""
+        while most > 0:
             number = self.add_line(rng)
-            lines.append(number)
-            if len(lines) < most and rng.random() < 0.5:
+            steps.append(number)
+            most -= 1
+            if most and rng.random() < 0.5:
                 counts = self.commands[number].startswith(COUNTING)
                 text = rng.choice(("ok 0", "ok 1", "ok 2") if counts else ("ok", "ok", "err 2 NoEntry", "err 3 Exists"))
-                self.text.append(f"#if {text}")
-                self.add_lines(rng, lines, rng.randint(1, most - len(lines)))
-                self.text.append("#end")
-                self.branches[number] = text, len(lines)
+                most -= self.add_branch(rng, steps, text, rng.randint(1, most), rng.random() < 0.4)
+
+    def add_branch(self, rng, steps, text, most, has_other):
+        """Adds the lines of a branch, and of its other part if it has one, and returns how many they are."""
+        other = rng.randint(0, most - 1) if has_other else 0
+        self.text.append(f"#if {text}")
+        branch = len(steps)
+        steps.append(None)
+        self.add_lines(rng, steps, most - other)
+        if has_other:
+            self.text.append("#else")
+            steps.append(None)
+            jump = len(steps) - 1
+            steps[branch] = text, len(steps)
+            self.add_lines(rng, steps, other)
+            steps[jump] = None, len(steps)
+        else:
+            steps[branch] = text, len(steps)
+        self.text.append("#end")
+        return most
 
     def add_line(self, rng):
-        awaited = rng.random() < 0.1
-        if awaited:
-            self.text.append("#await")
-        number = self.add(command(rng))
-        if awaited or self.commands[number].startswith("wait "):
+        how = rng.choice(("#await", "#once", "", "", "", "", "", ""))
+        line = f"wait {rng.choice(FILES)}" if how == "#once" else command(rng)
+        if how:
+            self.text.append(how)
+        number = self.add(line)
+        if how == "#await" or how != "#once" and line.startswith("wait "):
             self.waits.add(number)
         return number
 
@@ -118,13 +136,16 @@ class Schedules:
         made, at = tuple(self.plan.first), [0 for _ in self.plan.clients]
         for client in schedule:
             made += (self.plan.clients[client][at[client]],)
-            at[client] = self.place_after(made, at[client])
+            at[client] = self.place_after(made, client, at[client])
         return made
 
-    def place_after(self, made, place):
-        """Returns the place of a client's next line, once it has made the last of these lines, which is at this place."""
-        text, otherwise = self.plan.branches.get(made[-1], (None, place + 1))
-        return place + 1 if self.answers(made)[-1][0] == text else otherwise
+    def place_after(self, made, client, place):
+        """Returns the place of the client's next line, once it has made the last of these lines, which is at this place."""
+        steps, place = self.plan.clients[client], place + 1
+        while place < len(steps) and isinstance(steps[place], tuple):
+            text, otherwise = steps[place]
+            place = place + 1 if self.answers(made)[-1][0] == text else otherwise
+        return place
 
     def decide(self):
         first = tuple(self.plan.first)
@@ -144,7 +165,7 @@ class Schedules:
                 continue
             moved = True
             self.given.add((number, answer))
-            place = self.place_after(made + (number,), at[client])
+            place = self.place_after(made + (number,), client, at[client])
             self.go(made + (number,), at[:client] + (place,) + at[client + 1:])
         if not moved:
             self.end(made, at)

@@ -21,7 +21,7 @@ use Rattle.explore_report.specs.declared.cause.TheConstants.{PLAN_CLIENTS}
 use Rattle.explore_report.specs.declared.context.Above.{Above}
 use Rattle.explore_report.specs.declared.context.Above.TheVariants as above
 use Rattle.explore_report.specs.declared.context.Context.{Context}
-use Rattle.explore_report.specs.Mistake.{IsPlaced, cause_of, client_below, command_cause, unless_awaited}
+use Rattle.explore_report.specs.Mistake.{IsPlaced, cause_of, client_below, command_cause, section_cause, unless_awaited}
 use Rattle.explore_report.specs.Plan.{clients_at, clients_in, commands_at, commands_in, lines_begun, plan_of, step_of, steps_at, steps_from, steps_in}
 use Rattle.explore_report.specs.Rows.{command_in, command_said}
 
@@ -36,25 +36,34 @@ may_stand section.First c = RegistersNone c
 may_stand (section.Client number) c = IsQuiet c
 may_stand section.Last c = AsksOnly (λ name. true) c
 
-in_first : (c : Command) → command_cause section.First c ≡ None → RegistersNone c
+in_first : (c : Command) → section_cause section.First c ≡ None → RegistersNone c
 in_first (command.Watch f cookie) is = none-some cause.Watch (sym is)
 in_first _ is = tt
 
-in_last : (c : Command) → command_cause section.Last c ≡ None → AsksOnly (λ name. true) c
+in_last : (c : Command) → section_cause section.Last c ≡ None → AsksOnly (λ name. true) c
 in_last command.Report is = none-some cause.Report (sym is)
 in_last (command.Info f) is = refl
 in_last _ is = tt
 
-in_client : (number : ℕ) (c : Command) → command_cause (section.Client number) c ≡ None → IsQuiet c
+in_client : (number : ℕ) (c : Command) → section_cause (section.Client number) c ≡ None → IsQuiet c
 in_client number command.Report is = absurd (none-some cause.Report (sym is))
 in_client number (command.Watch f cookie) is = absurd (none-some cause.Watch (sym is))
 in_client number (command.Info f) is = record { asks = refl; registers = tt }
 in_client number _ is = record { asks = tt; registers = tt }
 
-stands : (s : Section) (c : Command) → command_cause s c ≡ None → may_stand s c
+stands : (s : Section) (c : Command) → section_cause s c ≡ None → may_stand s c
 stands section.First c is = in_first c is
 stands (section.Client number) c is = in_client number c is
 stands section.Last c is = in_last c is
+
+-- a command that is checked once is a `wait`, which may be in any section
+once_stands : (s : Section) (c : Command) → command_cause above.Once s c ≡ None → section_cause s c ≡ None
+once_stands s (command.Wait f) is = refl
+once_stands s _ is = absurd (none-some cause.ChecksNothing (sym is))
+
+section_allows : (a : Above) (s : Section) (c : Command) → command_cause a s c ≡ None → section_cause s c ≡ None
+section_allows above.Once s c is = once_stands s c is
+section_allows _ s c is = is
 
 -- all elements that a function gives satisfy it
 pub All-flat_map : {A B : Type 0} (P : B → Type 0) (Q : A → Type 0) (f : A → List B) → ((a : A) → Q a → All P (f a))
@@ -85,15 +94,9 @@ if_said true o c is = is
 if_said false o c is = absurd (none-some c is)
 
 mark_stands : (at : Context) (m : Mark) (c : Command) → cause_of at m ≡ None → command_said m ≡ Some c → may_stand at.section c
-mark_stands at (mark.Command d) c placed is = subst (may_stand at.section) (same_Some d c is) (stands at.section d placed)
-mark_stands at (mark.Client name) c placed is = absurd (none-some c is)
-mark_stands at mark.Finally c placed is = absurd (none-some c is)
-mark_stands at mark.Await c placed is = absurd (none-some c is)
-mark_stands at mark.If c placed is = absurd (none-some c is)
-mark_stands at mark.End c placed is = absurd (none-some c is)
-mark_stands at mark.Expected c placed is = absurd (none-some c is)
-mark_stands at mark.OrExpected c placed is = absurd (none-some c is)
-mark_stands at (mark.Wrong why) c placed is = absurd (none-some c is)
+mark_stands at (mark.Command d) c placed is =
+    subst (may_stand at.section) (same_Some d c is) (stands at.section d (section_allows at.above at.section d placed))
+mark_stands at _ c placed is = absurd (none-some c is)
 
 row_stands : (s : Section) (row : Row) (c : Command) → IsPlaced row → command_in s row ≡ Some c → may_stand s c
 row_stands s row c placed is =
@@ -137,10 +140,9 @@ next_is_client : (a : Above) (inside : Bool) (s : Section) → unless_awaited a 
 next_is_client a inside section.First is = (0, refl)
 next_is_client a inside (section.Client n) is = next_of (nat_lt n PLAN_CLIENTS) n
 next_is_client above.Await inside section.Last is = absurd (none-some cause.AwaitsNothing (sym is))
-next_is_client above.Nothing true section.Last is = absurd (none-some cause.NotEnded (sym is))
-next_is_client above.Nothing false section.Last is = absurd (none-some cause.ClientBelowFinally (sym is))
-next_is_client above.Command true section.Last is = absurd (none-some cause.NotEnded (sym is))
-next_is_client above.Command false section.Last is = absurd (none-some cause.ClientBelowFinally (sym is))
+next_is_client above.Once inside section.Last is = absurd (none-some cause.ChecksNothing (sym is))
+next_is_client _ true section.Last is = absurd (none-some cause.NotEnded (sym is))
+next_is_client _ false section.Last is = absurd (none-some cause.ClientBelowFinally (sym is))
 
 begun_quiet : (lines : List (List ℕ)) (rows : List Row) → All IsPlaced rows → (at : Context) (m : Mark) → cause_of at m ≡ None
     → All (All quiet_step) (lines_begun lines rows at.section m)
@@ -148,14 +150,7 @@ begun_quiet lines rows all at (mark.Client name) placed =
     let next = next_is_client at.above (nat_lt 0 at.depth) at.section placed in
     All-cons (All quiet_step) (steps_in lines (next_client at.section) rows) []
     (subst (λ s. All quiet_step (steps_in lines s rows)) (sym next.1) (steps_quiet lines next.0 0 rows all)) (All-nil (All quiet_step))
-begun_quiet lines rows all at mark.Finally placed = All-nil (All quiet_step)
-begun_quiet lines rows all at mark.Await placed = All-nil (All quiet_step)
-begun_quiet lines rows all at mark.If placed = All-nil (All quiet_step)
-begun_quiet lines rows all at mark.End placed = All-nil (All quiet_step)
-begun_quiet lines rows all at mark.Expected placed = All-nil (All quiet_step)
-begun_quiet lines rows all at mark.OrExpected placed = All-nil (All quiet_step)
-begun_quiet lines rows all at (mark.Command command) placed = All-nil (All quiet_step)
-begun_quiet lines rows all at (mark.Wrong why) placed = All-nil (All quiet_step)
+begun_quiet lines rows all at _ placed = All-nil (All quiet_step)
 
 clients_quiet : (lines : List (List ℕ)) (rows : List Row) → All IsPlaced rows → All (All quiet_step) (clients_in lines rows)
 clients_quiet lines rows all =

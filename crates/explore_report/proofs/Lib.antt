@@ -8,3 +8,4 @@ mod Replaying
 mod Rows
 mod Scheduled
 mod Steps
+mod Ways

@@ -24,7 +24,7 @@ IsName-is_name word is =
 pub client_named-name : (word name : List ℕ) → IsName word → name ≡ word → mark.Client name ≡ client_named word
 client_named-name word name named same = rw (is_name-IsName word named) (ap mark.Client same)
 
-pub client_named-other : (word : List ℕ) → (IsName word → false ≡ true) → mark.Wrong cause.NoName ≡ client_named word
+pub client_named-other : (word : List ℕ) → (IsName word → false ≡ true) → mark.Wrong (cause.NoName NAME_BYTES) ≡ client_named word
 client_named-other word other =
     elim (cases_Bool (is_name word)) [
       | inl named ↦ absurd (false≢true (other (IsName-is_name word named)))

@@ -1,16 +1,16 @@
 -- Why rows make no plan, row by row.
-use Rattle.std.proofs.Common.{◌≡◌, ◌⊎◌, inl, inr, ℕ, ◌+◌, ◌-◌, ◌<◌, ◌≤◌, Bool, true, false, true≢false, cond, refl, sym, ap, subst, ◌∙◌, List, [], ◌∷◌, ◌++◌, length, get_or, slice_get, take, All, Option, None, Some, arith, below_more}
+use Rattle.std.proofs.Common.{◌≡◌, ◌⊎◌, inl, inr, ℕ, ◌+◌, ◌-◌, ◌<◌, ◌≤◌, Bool, true, false, true≢false, cond, refl, sym, ap, subst, ◌∙◌, List, [], ◌∷◌, ◌++◌, length, get_or, slice_get, drop, take, All, Option, None, Some, arith, below_more}
 use Rattle.std.specs.Prelude.{MatchOption, count_by, nat_lt}
-use Rattle.std.proofs.lemmas.List.{take_all, take_more}
+use Rattle.std.proofs.lemmas.List.{drop_all, take_all, take_more}
 use Rattle.std.proofs.lemmas.List.Elements.{All-push}
 use Rattle.std.proofs.lemmas.List.Sums.{count_by_more_yes, sum_by-take-le}
 use Rattle.std.proofs.lemmas.Option.{get_or_from_slice_get, none-some, same_Some, slice_get_read, slice_get_within}
-use Rattle.explore_report.specs.declared.cause.Cause.TheVariants as cause
 use Rattle.explore_report.specs.declared.cause.TheConstants.{PLAN_LINES}
 use Rattle.explore_report.specs.declared.mistake.Mistake.{Mistake}
 use Rattle.explore_report.specs.declared.row.Row.{Row}
-use Rattle.explore_report.specs.Mistake.{AreFew, EndsClosed, EndsWhole, HasOwnName, HaveOwnNames, IsClientless, IsLaterMistake, IsMisplaced, IsMissing, IsMistake, IsOpen, IsPastLimit, IsPlaced, IsPlan, IsRow, IsTaken, IsWhole, cause_of, is_await, is_line, is_taken, depth_below}
+use Rattle.explore_report.specs.Mistake.{AreFew, AreOwn, EndsClosed, EndsWhole, IsClientless, IsLaterMistake, IsMisplaced, IsMissing, IsMistake, IsOpen, IsOwn, IsPastLimit, IsPlaced, IsPlan, IsRepeated, IsRow, IsWhole, cause_of, depth_below, else_after, in_else, is_line, repeated, unfollowed}
 use Rattle.explore_report.proofs.Exploring.{All-at}
+use Rattle.explore_report.proofs.Expectations.{drop-at}
 
 row-at : (rows : List Row) (i : ℕ) (row : Row) → i < length rows → row ≡ get_or rows i row → IsRow rows i row
 row-at rows i row low at = slice_get_read rows (length rows) i row refl low at
@@ -27,21 +27,20 @@ pub placed-next : (rows : List Row) (i : ℕ) (row : Row) → i < length rows �
     → All IsPlaced (take i rows) → IsPlaced row → All IsPlaced (take (i + 1) rows)
 placed-next rows i row low at before here = subst (All IsPlaced) (sym (rows-more rows i row low at)) (All-push IsPlaced (take i rows) row before here)
 
-pub taken-at : (rows : List Row) (i : ℕ) (row : Row) (m : Mistake) → i < length rows → row ≡ get_or rows i row
-    → m.line ≡ row.number → m.cause ≡ cause.NameTaken → is_taken (take i rows) row.mark ≡ true
-    → ((k : ℕ) → k < i → HasOwnName rows k) → IsTaken rows m
-taken-at rows i row m low at line why taken first =
-    record { index = i; row = row; at = row-at rows i row low at; line = line; taken = taken; first = first; why = why }
+pub repeated-at : (rows : List Row) (i : ℕ) (row : Row) (m : Mistake) → i < length rows → row ≡ get_or rows i row
+    → m.line ≡ row.number → repeated (take i rows) row ≡ Some m.cause → ((k : ℕ) → k < i → IsOwn rows k) → IsRepeated rows m
+repeated-at rows i row m low at line why first =
+    record { index = i; row = row; at = row-at rows i row low at; line = line; why = why; first = first }
 
--- a row whose name is its own
-own-here : (rows : List Row) (i : ℕ) (row : Row) → IsRow rows i row → is_taken (take i rows) row.mark ≡ false → HasOwnName rows i
-own-here rows i row at own other is = subst (λ r. is_taken (take i rows) r.mark ≡ false) (same_Some row other (sym at ∙ is)) own
+-- a row that the rows above allow
+own-here : (rows : List Row) (i : ℕ) (row : Row) → IsRow rows i row → repeated (take i rows) row ≡ None → IsOwn rows i
+own-here rows i row at own other is = subst (λ r. repeated (take i rows) r ≡ None) (same_Some row other (sym at ∙ is)) own
 
 pub own-next : (rows : List Row) (i : ℕ) (row : Row) → i < length rows → row ≡ get_or rows i row
-    → ((k : ℕ) → k < i → HasOwnName rows k) → is_taken (take i rows) row.mark ≡ false → (k : ℕ) → k < i + 1 → HasOwnName rows k
-own-next rows i row low at before own = below_more (HasOwnName rows) i before (own-here rows i row (row-at rows i row low at) own)
+    → ((k : ℕ) → k < i → IsOwn rows k) → repeated (take i rows) row ≡ None → (k : ℕ) → k < i + 1 → IsOwn rows k
+own-next rows i row low at before own = below_more (IsOwn rows) i before (own-here rows i row (row-at rows i row low at) own)
 
-pub own-all : (rows : List Row) (i : ℕ) → length rows ≤ i → ((k : ℕ) → k < i → HasOwnName rows k) → HaveOwnNames rows
+pub own-all : (rows : List Row) (i : ℕ) → length rows ≤ i → ((k : ℕ) → k < i → IsOwn rows k) → AreOwn rows
 own-all rows i past before k row at = before k (omega (arith, slice_get_within rows k row at)) row at
 
 pub few-all : (rows : List Row) (i left : ℕ) → length rows ≤ i → left + count_by is_line (take i rows) ≡ PLAN_LINES → AreFew rows
@@ -49,18 +48,27 @@ few-all rows i left past sum =
     let few : count_by is_line (take i rows) ≤ PLAN_LINES = omega arith in
     subst (λ rs. count_by is_line rs ≤ PLAN_LINES) (take_all i rows past) few
 
--- no last row, or one that is no `#await`
+-- the rows up to one, and this one, leave it to the others whether a branch is in its `#else`
+pub in_else-next : (depth : ℕ) (rows : List Row) (i : ℕ) (row : Row) (inside next all : Bool) → i < length rows → row ≡ get_or rows i row
+    → next ≡ else_after depth inside row → in_else depth inside (drop i rows) ≡ all → in_else depth next (drop (i + 1) rows) ≡ all
+in_else-next depth rows i row inside next all low at is same =
+    ap (λ b. in_else depth b (drop (i + 1) rows)) is ∙ ap (in_else depth inside) (sym (drop-at rows i row low at)) ∙ same
+
+pub in_else-end : (depth : ℕ) (rows : List Row) (i : ℕ) (inside all : Bool) → length rows ≤ i → in_else depth inside (drop i rows) ≡ all → inside ≡ all
+in_else-end depth rows i inside all past same = ap (in_else depth inside) (sym (drop_all i rows past)) ∙ same
+
+-- no last row, or one that is about no line that follows
 pub ends-none : (rows : List Row) → None ≡ slice_get rows (length rows - 1) → EndsWhole rows
 ends-none rows is row at = absurd (none-some row (is ∙ at))
 
-pub ends-row : (rows : List Row) (last : Row) → Some last ≡ slice_get rows (length rows - 1) → is_await last.mark ≡ false → EndsWhole rows
-ends-row rows last is other row at = subst (λ r. is_await r.mark ≡ false) (same_Some last row (is ∙ at)) other
+pub ends-row : (rows : List Row) (last : Row) → Some last ≡ slice_get rows (length rows - 1) → unfollowed last.mark ≡ None → EndsWhole rows
+ends-row rows last is other row at = subst (λ r. unfollowed r.mark ≡ None) (same_Some last row (is ∙ at)) other
 
 -- rows in which only what is missing may be wrong
-pub or_missing : (rows : List Row) (last : ℕ) (o : Option Mistake) → All IsPlaced rows → HaveOwnNames rows → AreFew rows
+pub or_missing : (rows : List Row) (last : ℕ) (o : Option Mistake) → All IsPlaced rows → AreOwn rows → AreFew rows
     → MatchOption o (IsWhole rows) (IsMissing rows last) → MatchOption o (IsPlan rows) (IsMistake rows last)
-or_missing rows last None placed named few whole = record { placed = placed; named = named; few = few; whole = whole }
-or_missing rows last (Some m) placed named few found = inr (placed, inr (named, inr (few, found)))
+or_missing rows last None placed own few whole = record { placed = placed; own = own; few = few; whole = whole }
+or_missing rows last (Some m) placed own few found = inr (placed, inr (own, inr (few, found)))
 
 -- no `#if` is open below the last row, if there is one
 
@@ -81,8 +89,8 @@ counted-at p xs i x at passes =
 not-misplaced : (rows : List Row) (m : Mistake) → IsMisplaced rows m → All IsPlaced rows → ⊥
 not-misplaced rows m found placed = none-some m.cause (sym (All-at IsPlaced rows found.index found.row placed found.at) ∙ found.why)
 
-not-taken : (rows : List Row) (m : Mistake) → IsTaken rows m → HaveOwnNames rows → ⊥
-not-taken rows m found named = true≢false (sym found.taken ∙ named found.index found.row found.at)
+not-repeated : (rows : List Row) (m : Mistake) → IsRepeated rows m → AreOwn rows → ⊥
+not-repeated rows m found own = none-some m.cause (sym (own found.index found.row found.at) ∙ found.why)
 
 not-past : (rows : List Row) (m : Mistake) → IsPastLimit rows m → AreFew rows → ⊥
 not-past rows m found few = absurd (omega (arith, found.full, counted-at is_line rows found.index found.row found.at found.counted))
@@ -92,7 +100,7 @@ not-incomplete rows last m (inl found) whole = true≢false (sym found.inside �
 not-incomplete rows last m (inr found) whole = true≢false (sym whole.client ∙ found.1.none)
 
 not-missing : (rows : List Row) (last : ℕ) (m : Mistake) → IsMissing rows last m → IsWhole rows → ⊥
-not-missing rows last m (inl found) whole = true≢false (sym found.await ∙ whole.ended found.row found.last)
+not-missing rows last m (inl found) whole = none-some m.cause (sym (whole.ended found.row found.last) ∙ found.why)
 not-missing rows last m (inr found) whole = not-incomplete rows last m found.1 whole
 
 not-last : (rows : List Row) (last : ℕ) (m : Mistake) → IsPastLimit rows m ⊎ (AreFew rows × IsMissing rows last m) → IsPlan rows → ⊥
@@ -100,7 +108,7 @@ not-last rows last m (inl found) plan = not-past rows m found plan.few
 not-last rows last m (inr found) plan = not-missing rows last m found.1 plan.whole
 
 not-later : (rows : List Row) (last : ℕ) (m : Mistake) → IsLaterMistake rows last m → IsPlan rows → ⊥
-not-later rows last m (inl found) plan = not-taken rows m found plan.named
+not-later rows last m (inl found) plan = not-repeated rows m found plan.own
 not-later rows last m (inr found) plan = not-last rows last m found.1 plan
 
 -- rows with a mistake make no plan

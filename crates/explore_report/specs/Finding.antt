@@ -15,30 +15,17 @@ use Rattle.explore_report.specs.Mark.{expected_text}
 
 -- a note that expects a line of an answer
 abbrev pub is_expectation : Mark → Bool
-is_expectation (mark.Client name) = false
-is_expectation mark.Finally = false
-is_expectation mark.Await = false
-is_expectation mark.If = false
-is_expectation mark.End = false
 is_expectation mark.Expected = true
 is_expectation mark.OrExpected = true
-is_expectation (mark.Command command) = false
-is_expectation (mark.Wrong why) = false
+is_expectation _ = false
 
 abbrev pub expects : Row → Bool
 expects row = is_expectation row.mark
 
 -- a note `#|`, which begins another answer
 abbrev pub is_beginning : Mark → Bool
-is_beginning (mark.Client name) = false
-is_beginning mark.Finally = false
-is_beginning mark.Await = false
-is_beginning mark.If = false
-is_beginning mark.End = false
-is_beginning mark.Expected = false
 is_beginning mark.OrExpected = true
-is_beginning (mark.Command command) = false
-is_beginning (mark.Wrong why) = false
+is_beginning _ = false
 
 abbrev pub begins_answer : Row → Bool
 begins_answer row = is_beginning row.mark

@@ -2,6 +2,7 @@
 use Rattle.std.specs.Prelude.{ℕ, ◌==◌, length, Bool, false, is_some, if◌then◌else◌, List, [], ◌∷◌, Option, None, Some, codes, unwrap_or}
 use Rattle.std.specs.Char.{is_ascii_alphabetic}
 use Rattle.std.specs.Str.{bytes_eq}
+use Rattle.point_core.specs.declared.name.TheConstants.{NAME_BYTES}
 use Rattle.line_core.specs.Following.{is_name}
 use Rattle.line_core.specs.Fronts.{drop_spaces, strip_prefix}
 use Rattle.line_core.specs.Line.{body_of}
@@ -20,11 +21,11 @@ begins_directive (a ∷ b ∷ word) = is_ascii_alphabetic b
 
 -- a client of that name, if it is one
 abbrev pub client_named : List ℕ → Mark
-client_named name = if is_name name then mark.Client name else mark.Wrong cause.NoName
+client_named name = if is_name name then mark.Client name else mark.Wrong (cause.NoName NAME_BYTES)
 
 -- if one word follows, and no other
 abbrev pub client_mark : List ℕ → Mark
-client_mark words = if length (words_after words) == 0 then client_named (first_word words) else mark.Wrong cause.NoName
+client_mark words = if length (words_after words) == 0 then client_named (first_word words) else mark.Wrong (cause.NoName NAME_BYTES)
 
 -- that mark, if no word follows
 abbrev pub without_words : List ℕ → Mark → Mark
@@ -54,7 +55,9 @@ directive_of word words =
     if bytes_eq word (codes "#client") then Some (client_mark words)
     else if bytes_eq word (codes "#finally") then Some (without_words words mark.Finally)
     else if bytes_eq word (codes "#await") then Some (without_words words mark.Await)
+    else if bytes_eq word (codes "#once") then Some (without_words words mark.Once)
     else if bytes_eq word (codes "#if") then Some (if_mark words)
+    else if bytes_eq word (codes "#else") then Some (without_words words mark.Else)
     else if bytes_eq word (codes "#end") then Some (without_words words mark.End)
     else if bytes_eq word (codes "#") then blank_note words
     else if begins_directive word then Some (mark.Wrong cause.NoDirective)

@@ -1,5 +1,5 @@
 -- Why a script is no plan.
-use Rattle.std.specs.Prelude.{◌≡◌, ◌⊎◌, ◌<◌, ◌≤◌, ℕ, ◌-◌, ◌&&◌, nat_le, nat_lt, All, Bool, true, false, if◌then◌else◌, List, length, take, count_by, slice_get, Option, None, Some, is_some}
+use Rattle.std.specs.Prelude.{◌≡◌, ◌⊎◌, ◌<◌, ◌≤◌, ℕ, ◌-◌, ◌&&◌, ◌||◌, ◌==◌, nat_le, nat_lt, All, Bool, true, false, if◌then◌else◌, List, [], ◌∷◌, length, take, count_by, slice_get, Option, None, Some, is_some}
 use Rattle.std.specs.List.{list_any}
 use Rattle.std.specs.Str.{bytes_eq}
 use Rattle.command_core.specs.declared.command.Command.{Command}
@@ -17,13 +17,13 @@ use Rattle.explore_report.specs.declared.mark.Mark.TheVariants as mark
 use Rattle.explore_report.specs.declared.mistake.Mistake.{Mistake}
 use Rattle.explore_report.specs.declared.row.Row.{Row}
 use Rattle.explore_report.specs.Context.{after}
-use Rattle.explore_report.specs.Rows.{command_said}
+use Rattle.explore_report.specs.Rows.{command_said, is_else, is_if}
 
--- a command has to follow `#await` directly; else that cause counts
+-- a command has to follow `#await` directly, and a `wait` has to follow `#once`; else that cause counts
 abbrev pub unless_awaited : Above → Option Cause → Option Cause
-unless_awaited above.Nothing other = other
-unless_awaited above.Command other = other
 unless_awaited above.Await other = Some cause.AwaitsNothing
+unless_awaited above.Once other = Some cause.ChecksNothing
+unless_awaited _ other = other
 
 -- no `#if` is open where a section ends
 abbrev pub unless_open : ℕ → Option Cause → Option Cause
@@ -40,10 +40,11 @@ finally_below section.First = None
 finally_below (section.Client number) = None
 finally_below section.Last = Some cause.FinallyTwice
 
-abbrev pub await_in : Section → Option Cause
-await_in section.First = Some cause.AwaitOutside
-await_in (section.Client number) = None
-await_in section.Last = Some cause.AwaitOutside
+-- a line that waits, or checks once, is a client's
+abbrev pub waiting_in : Section → Option Cause
+waiting_in section.First = Some cause.AwaitOutside
+waiting_in (section.Client number) = None
+waiting_in section.Last = Some cause.AwaitOutside
 
 -- branches are of clients only
 abbrev pub branch_in : Section → Option Cause → Option Cause
@@ -54,8 +55,13 @@ branch_in section.Last other = Some cause.BranchOutside
 -- an `#if` is about the answer to the client's command directly above
 abbrev pub if_below : Above → Option Cause
 if_below above.Nothing = Some cause.IfBelowNothing
-if_below above.Command = None
-if_below above.Await = None
+if_below above.If = Some cause.IfBelowNothing
+if_below _ = None
+
+-- some line is in an `#if`, and between it and the `#else`
+abbrev pub else_below : Above → ℕ → Option Cause
+else_below above.If depth = Some cause.ElseBelowIf
+else_below _ depth = if nat_lt 0 depth then None else Some cause.ElseOfNothing
 
 abbrev pub end_below : ℕ → Option Cause
 end_below depth = if nat_lt 0 depth then None else Some cause.EndsNothing
@@ -63,8 +69,8 @@ end_below depth = if nat_lt 0 depth then None else Some cause.EndsNothing
 -- an answer is expected of a command of the same section
 abbrev pub expected_below : Above → Option Cause
 expected_below above.Nothing = Some cause.ExpectsNothing
-expected_below above.Command = None
-expected_below above.Await = None
+expected_below above.If = Some cause.ExpectsNothing
+expected_below _ = None
 
 -- a report's rows are in the order of making, which differs in every schedule
 abbrev pub report_in : Section → Option Cause
@@ -78,10 +84,16 @@ watch_in section.First = Some cause.Watch
 watch_in (section.Client number) = Some cause.Watch
 watch_in section.Last = None
 
-abbrev pub command_cause : Section → Command → Option Cause
-command_cause section command.Report = report_in section
-command_cause section (command.Watch f cookie) = watch_in section
-command_cause section _ = None
+abbrev pub section_cause : Section → Command → Option Cause
+section_cause section command.Report = report_in section
+section_cause section (command.Watch f cookie) = watch_in section
+section_cause section _ = None
+
+-- only a `wait` can be checked once
+abbrev pub command_cause : Above → Section → Command → Option Cause
+command_cause above.Once section (command.Wait f) = None
+command_cause above.Once section _ = Some cause.ChecksNothing
+command_cause _ section c = section_cause section c
 
 abbrev pub client_cause : Context → Option Cause
 client_cause at = unless_awaited at.above (unless_open at.depth (client_below at.section))
@@ -89,11 +101,14 @@ client_cause at = unless_awaited at.above (unless_open at.depth (client_below at
 abbrev pub finally_cause : Context → Option Cause
 finally_cause at = unless_awaited at.above (unless_open at.depth (finally_below at.section))
 
-abbrev pub await_cause : Context → Option Cause
-await_cause at = unless_awaited at.above (await_in at.section)
+abbrev pub waiting_cause : Context → Option Cause
+waiting_cause at = unless_awaited at.above (waiting_in at.section)
 
 abbrev pub if_cause : Context → Option Cause
 if_cause at = unless_awaited at.above (branch_in at.section (if_below at.above))
+
+abbrev pub else_cause : Context → Option Cause
+else_cause at = unless_awaited at.above (branch_in at.section (else_below at.above at.depth))
 
 abbrev pub end_cause : Context → Option Cause
 end_cause at = unless_awaited at.above (branch_in at.section (end_below at.depth))
@@ -105,12 +120,14 @@ expected_cause at = unless_awaited at.above (expected_below at.above)
 abbrev pub cause_of : Context → Mark → Option Cause
 cause_of at (mark.Client name) = client_cause at
 cause_of at mark.Finally = finally_cause at
-cause_of at mark.Await = await_cause at
+cause_of at mark.Await = waiting_cause at
+cause_of at mark.Once = waiting_cause at
 cause_of at mark.If = if_cause at
+cause_of at mark.Else = else_cause at
 cause_of at mark.End = end_cause at
 cause_of at mark.Expected = expected_cause at
 cause_of at mark.OrExpected = expected_cause at
-cause_of at (mark.Command command) = command_cause at.section command
+cause_of at (mark.Command command) = command_cause at.above at.section command
 cause_of at (mark.Wrong why) = Some why
 
 -- the row of that index is this one
@@ -133,14 +150,7 @@ pub record IsMisplaced (rows : List Row) (m : Mistake) : Type 0 where
 -- whether a row begins the lines of a client with that name
 abbrev pub is_named : List ℕ → Mark → Bool
 is_named name (mark.Client other) = bytes_eq other name
-is_named name mark.Finally = false
-is_named name mark.Await = false
-is_named name mark.If = false
-is_named name mark.End = false
-is_named name mark.Expected = false
-is_named name mark.OrExpected = false
-is_named name (mark.Command command) = false
-is_named name (mark.Wrong why) = false
+is_named name _ = false
 
 abbrev pub is_client_named : List ℕ → Row → Bool
 is_client_named name row = is_named name row.mark
@@ -149,35 +159,49 @@ is_client_named name row = is_named name row.mark
 abbrev pub has_client : List Row → List ℕ → Bool
 has_client rows name = list_any (is_client_named name) rows
 
--- a row that begins the lines of a client, whose name a client above has
-abbrev pub is_taken : List Row → Mark → Bool
-is_taken above (mark.Client name) = has_client above name
-is_taken above mark.Finally = false
-is_taken above mark.Await = false
-is_taken above mark.If = false
-is_taken above mark.End = false
-is_taken above mark.Expected = false
-is_taken above mark.OrExpected = false
-is_taken above (mark.Command command) = false
-is_taken above (mark.Wrong why) = false
+-- how many `#if` are open below the row
+abbrev pub depth_below : Row → ℕ
+depth_below row = (after row.context row.mark).depth
 
--- the row of that index begins no client, or one whose name no client above has
-abbrev pub HasOwnName : List Row → ℕ → Type 0
-HasOwnName rows index = (row : Row) → IsRow rows index row → is_taken (take index rows) row.mark ≡ false
+-- the row begins a part of a branch in which this many `#if` are open
+abbrev pub begins_part : ℕ → Row → Bool
+begins_part depth row = (is_if row.mark || is_else row.mark) && (depth_below row == depth)
 
--- no two clients have the same name
-abbrev pub HaveOwnNames : List Row → Type 0
-HaveOwnNames rows = (index : ℕ) → HasOwnName rows index
+abbrev pub else_after : ℕ → Bool → Row → Bool
+else_after depth inside row = if begins_part depth row then is_else row.mark else inside
 
--- a client has the name of one above it, and it is the first such client
-pub record IsTaken (rows : List Row) (m : Mistake) : Type 0 where
+-- The innermost of that many branches is in its `#else` below these rows: the last part that they begin is one. Above them it is, if
+-- `inside`.
+abbrev pub in_else : ℕ → Bool → List Row → Bool
+in_else depth inside [] = inside
+in_else depth inside (row ∷ rows) = in_else depth (else_after depth inside row) rows
+
+-- Why the rows above do not allow a row that they would allow by its context: the row begins the lines of a client whose name a client
+-- above has, or it is the second `#else` of an `#if`.
+abbrev pub repeated_by : List Row → Row → Mark → Option Cause
+repeated_by above row (mark.Client name) = if has_client above name then Some cause.NameTaken else None
+repeated_by above row mark.Else = if in_else row.context.depth false above then Some cause.ElseTwice else None
+repeated_by above row _ = None
+
+abbrev pub repeated : List Row → Row → Option Cause
+repeated above row = repeated_by above row row.mark
+
+-- the rows above allow the row of that index
+abbrev pub IsOwn : List Row → ℕ → Type 0
+IsOwn rows index = (row : Row) → IsRow rows index row → repeated (take index rows) row ≡ None
+
+-- no two clients have the same name, and no `#if` has two `#else`
+abbrev pub AreOwn : List Row → Type 0
+AreOwn rows = (index : ℕ) → IsOwn rows index
+
+-- the rows above do not allow the row, and it is the first such row
+pub record IsRepeated (rows : List Row) (m : Mistake) : Type 0 where
   pub index : ℕ
   pub row : Row
   pub at : IsRow rows index row
   pub line : m.line ≡ row.number
-  pub taken : is_taken (take index rows) row.mark ≡ true
-  pub first : (above : ℕ) → above < index → HasOwnName rows above
-  pub why : m.cause ≡ cause.NameTaken
+  pub why : repeated (take index rows) row ≡ Some m.cause
+  pub first : (above : ℕ) → above < index → IsOwn rows above
 
 abbrev pub is_in_client : Section → Bool
 is_in_client section.First = false
@@ -204,14 +228,7 @@ pub record IsPastLimit (rows : List Row) (m : Mistake) : Type 0 where
 
 abbrev pub begins_client : Mark → Bool
 begins_client (mark.Client name) = true
-begins_client mark.Finally = false
-begins_client mark.Await = false
-begins_client mark.If = false
-begins_client mark.End = false
-begins_client mark.Expected = false
-begins_client mark.OrExpected = false
-begins_client (mark.Command command) = false
-begins_client (mark.Wrong why) = false
+begins_client _ = false
 
 abbrev pub is_client_row : Row → Bool
 is_client_row row = begins_client row.mark
@@ -219,27 +236,18 @@ is_client_row row = begins_client row.mark
 abbrev pub has_some_client : List Row → Bool
 has_some_client rows = list_any is_client_row rows
 
-abbrev pub is_await : Mark → Bool
-is_await (mark.Client name) = false
-is_await mark.Finally = false
-is_await mark.Await = true
-is_await mark.If = false
-is_await mark.End = false
-is_await mark.Expected = false
-is_await mark.OrExpected = false
-is_await (mark.Command command) = false
-is_await (mark.Wrong why) = false
+-- why nothing may end below the mark: it is about the line that follows
+abbrev pub unfollowed : Mark → Option Cause
+unfollowed mark.Await = Some cause.AwaitsNothing
+unfollowed mark.Once = Some cause.ChecksNothing
+unfollowed _ = None
 
 abbrev pub IsLastRow : List Row → Row → Type 0
 IsLastRow rows row = slice_get rows (length rows - 1) ≡ Some row
 
--- the last row is no `#await`, which a command would have to follow
+-- the last row is about no line that follows
 abbrev pub EndsWhole : List Row → Type 0
-EndsWhole rows = (row : Row) → IsLastRow rows row → is_await row.mark ≡ false
-
--- how many `#if` are open below the row
-abbrev pub depth_below : Row → ℕ
-depth_below row = (after row.context row.mark).depth
+EndsWhole rows = (row : Row) → IsLastRow rows row → unfollowed row.mark ≡ None
 
 -- no `#if` is open below the last row
 abbrev pub EndsClosed : List Row → Type 0
@@ -251,13 +259,12 @@ pub record IsWhole (rows : List Row) : Type 0 where
   pub closed : EndsClosed rows
   pub client : has_some_client rows ≡ true
 
--- the last row is `#await`, which no command follows
-pub record IsAwaiting (rows : List Row) (m : Mistake) : Type 0 where
+-- the last row is `#await` or `#once`, which no command follows
+pub record IsUnfollowed (rows : List Row) (m : Mistake) : Type 0 where
   pub row : Row
   pub last : IsLastRow rows row
   pub line : m.line ≡ row.number
-  pub await : is_await row.mark ≡ true
-  pub why : m.cause ≡ cause.AwaitsNothing
+  pub why : unfollowed row.mark ≡ Some m.cause
 
 -- an `#if` is open below the last row
 pub record IsOpen (rows : List Row) (m : Mistake) : Type 0 where
@@ -274,19 +281,19 @@ pub record IsClientless (rows : List Row) (last : ℕ) (m : Mistake) : Type 0 wh
   pub why : m.cause ≡ cause.NoClient
 
 abbrev pub IsMissing : List Row → ℕ → Mistake → Type 0
-IsMissing rows last m = IsAwaiting rows m ⊎ (EndsWhole rows × (IsOpen rows m ⊎ (EndsClosed rows × IsClientless rows last m)))
+IsMissing rows last m = IsUnfollowed rows m ⊎ (EndsWhole rows × (IsOpen rows m ⊎ (EndsClosed rows × IsClientless rows last m)))
 
 -- rows that make a plan
 pub record IsPlan (rows : List Row) : Type 0 where
   pub placed : All IsPlaced rows
-  pub named : HaveOwnNames rows
+  pub own : AreOwn rows
   pub few : AreFew rows
   pub whole : IsWhole rows
 
--- why rows that are placed make no plan: a name that is taken; else too many lines; else what is missing at the end
+-- why rows that are placed make no plan: a name or an `#else` that is there already; else too many lines; else what is missing at the end
 abbrev pub IsLaterMistake : List Row → ℕ → Mistake → Type 0
 IsLaterMistake rows last m =
-    IsTaken rows m ⊎ (HaveOwnNames rows × (IsPastLimit rows m ⊎ (AreFew rows × IsMissing rows last m)))
+    IsRepeated rows m ⊎ (AreOwn rows × (IsPastLimit rows m ⊎ (AreFew rows × IsMissing rows last m)))
 
 -- Why the rows make no plan, and the first line of that kind: a row that its context does not allow; else a later mistake. The last
 -- line has that number.

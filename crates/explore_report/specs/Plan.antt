@@ -1,5 +1,5 @@
 -- The plan that rows make.
-use Rattle.std.specs.Prelude.{ℕ, ◌+◌, ◌-◌, ◌==◌, ◌&&◌, not, Bool, true, false, if◌then◌else◌, List, [], ◌∷◌, ◌++◌, length, take, drop, map, count_by, position, slice_get, Option, None, Some, option_map, unwrap_or}
+use Rattle.std.specs.Prelude.{ℕ, ◌+◌, ◌-◌, ◌==◌, ◌&&◌, ◌||◌, not, Bool, true, false, if◌then◌else◌, List, [], ◌∷◌, ◌++◌, length, drop, map, position, slice_get, Option, None, Some, option_map, unwrap_or}
 use Rattle.std.specs.Borrow.{Bor}
 use Rattle.std.specs.List.{flat_map}
 use Rattle.std.specs.Option.{option_to_list}
@@ -15,11 +15,13 @@ use Rattle.explore_report.specs.declared.context.Section.TheVariants as section
 use Rattle.explore_report.specs.declared.mark.Mark.{Mark}
 use Rattle.explore_report.specs.declared.mark.Mark.TheVariants as mark
 use Rattle.explore_report.specs.declared.row.Row.{Row}
+use Rattle.explore_report.specs.declared.way.Way.{Way}
+use Rattle.explore_report.specs.declared.way.Way.TheVariants as way
 use Rattle.explore_report.specs.Context.{next_client}
 use Rattle.explore_report.specs.Finding.{expects}
 use Rattle.explore_report.specs.Mark.{branch_text}
 use Rattle.explore_report.specs.Mistake.{is_line, depth_below}
-use Rattle.explore_report.specs.Rows.{command_in, is_end, is_if}
+use Rattle.explore_report.specs.Rows.{command_in, is_else, is_end, is_if}
 
 -- the command of a row of that section
 abbrev pub commands_at : Section → Row → List Command
@@ -29,19 +31,45 @@ commands_at section row = option_to_list (command_in section row)
 abbrev pub commands_in : Section → List Row → List Command
 commands_in section rows = flat_map (commands_at section) rows
 
--- a `wait` waits, and so does a line directly below `#await`
+-- a `wait` waits unless `#once` is directly above it, and so does a line directly below `#await`
 abbrev pub waits : Above → Command → Bool
 waits above.Await c = true
+waits above.Once c = false
 waits _ (command.Wait f) = true
 waits _ _ = false
 
--- an `#end` below which that many `#if` are open
-abbrev pub closes : ℕ → Row → Bool
-closes depth row = is_end row.mark && (depth_below row == depth)
+-- the row ends a part of a branch in which that many `#if` are open
+abbrev pub ends_part : ℕ → Row → Bool
+ends_part depth row = (is_else row.mark || is_end row.mark) && (row.context.depth == depth)
 
--- the rows of a branch, up to its `#end`; that many other branches are open around it
-abbrev pub branch_rows : ℕ → List Row → List Row
-branch_rows depth rows = take (unwrap_or (position (closes depth) rows) (length rows)) rows
+-- below a row that a client comes to: an `#else` ends the lines of its `#if`, so the client passes the other lines
+abbrev pub way_past : Row → Way
+way_past row = if is_else row.mark then way.Passes row.context.depth else if is_end row.mark then way.Comes else way.Stays
+
+-- the way below a row
+abbrev pub way_below : Way → Row → Way
+way_below way.Comes row = way_past row
+way_below (way.Passes depth) row = if ends_part depth row then way.Comes else way.Passes depth
+way_below way.Stays row = way.Stays
+
+abbrev pub lines_at : Row → ℕ
+lines_at row = if is_line row then 1 else 0
+
+-- the client has come to its line
+abbrev pub is_settled : Way → Bool
+is_settled way.Stays = true
+is_settled _ = false
+
+-- how many lines the client leaves out at a row
+abbrev pub passed_at : Way → Row → ℕ
+passed_at way.Comes row = 0
+passed_at (way.Passes depth) row = lines_at row
+passed_at way.Stays row = 0
+
+-- how many lines the client leaves out among the rows before it makes one
+abbrev pub left_out : Way → List Row → ℕ
+left_out to [] = 0
+left_out to (row ∷ rows) = passed_at to row + left_out (way_below to row) rows
 
 -- the text of the line of that number
 abbrev pub text_at : List (List ℕ) → ℕ → List ℕ
@@ -51,17 +79,22 @@ text_at lines number = unwrap_or (slice_get lines (number - 1)) []
 abbrev pub branch_line : List (List ℕ) → Row → List ℕ
 branch_line lines row = branch_text (text_at lines row.number) ++ 10 ∷ []
 
+-- A line below which the client leaves lines out, whatever the answer: the other lines of an `#else`. No answer has an empty first line.
+abbrev pub jump : ℕ → ℕ → Option Branching
+jump above passed = if passed == 0 then None else Some (record { text = []; otherwise = above + passed })
+
 -- The branch of an `#if`, which has these rows below it, and that many lines of its client above. After any other answer the client
--- continues behind the lines of the branch.
-abbrev pub branch_of : List (List ℕ) → ℕ → Row → List Row → Branching
-branch_of lines above row below = record {
-  text = branch_line lines row;
-  otherwise = above + count_by is_line (branch_rows row.context.depth below);
-}
+-- continues behind the lines up to the `#else` or the `#end`. If the `#if` has no lines, the client jumps over what it would pass anyway.
+abbrev pub branch_of : List (List ℕ) → ℕ → Row → List Row → Option Branching
+branch_of lines above row below =
+    if left_out way.Comes below == 0
+    then Some (record { text = branch_line lines row; otherwise = above + left_out (way.Passes (depth_below row)) below })
+    else jump above (left_out way.Comes below)
 
 abbrev pub branch_at : List (List ℕ) → ℕ → List Row → Option Branching
 branch_at lines above [] = None
-branch_at lines above (row ∷ below) = if is_if row.mark then Some (branch_of lines above row below) else None
+branch_at lines above (row ∷ below) =
+    if is_if row.mark then branch_of lines above row below else jump above (left_out way.Comes (row ∷ below))
 
 -- the rows from the first on that expects no answer
 abbrev pub after_notes : List Row → List Row
@@ -95,14 +128,7 @@ steps_in lines section rows = steps_from lines section 0 rows
 
 abbrev pub lines_begun : List (List ℕ) → List Row → Section → Mark → List (List Step)
 lines_begun lines rows section (mark.Client name) = steps_in lines (next_client section) rows ∷ []
-lines_begun lines rows section mark.Finally = []
-lines_begun lines rows section mark.Await = []
-lines_begun lines rows section mark.If = []
-lines_begun lines rows section mark.End = []
-lines_begun lines rows section mark.Expected = []
-lines_begun lines rows section mark.OrExpected = []
-lines_begun lines rows section (mark.Command command) = []
-lines_begun lines rows section (mark.Wrong why) = []
+lines_begun lines rows section _ = []
 
 -- the lines of the client that the row begins
 abbrev pub clients_at : List (List ℕ) → List Row → Row → List (List Step)

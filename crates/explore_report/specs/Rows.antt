@@ -35,38 +35,21 @@ abbrev pub rows_of : List (List ℕ) → List Row
 rows_of lines = rows_from start 1 lines
 
 abbrev pub command_said : Mark → Option Command
-command_said (mark.Client name) = None
-command_said mark.Finally = None
-command_said mark.Await = None
-command_said mark.If = None
-command_said mark.End = None
-command_said mark.Expected = None
-command_said mark.OrExpected = None
 command_said (mark.Command command) = Some command
-command_said (mark.Wrong why) = None
+command_said _ = None
 
 -- the command of a row, if it is in that section
 abbrev pub command_in : Section → Row → Option Command
 command_in section row = if is_same row.context.section section then command_said row.mark else None
 
 abbrev pub is_if : Mark → Bool
-is_if (mark.Client name) = false
-is_if mark.Finally = false
-is_if mark.Await = false
 is_if mark.If = true
-is_if mark.End = false
-is_if mark.Expected = false
-is_if mark.OrExpected = false
-is_if (mark.Command command) = false
-is_if (mark.Wrong why) = false
+is_if _ = false
+
+abbrev pub is_else : Mark → Bool
+is_else mark.Else = true
+is_else _ = false
 
 abbrev pub is_end : Mark → Bool
-is_end (mark.Client name) = false
-is_end mark.Finally = false
-is_end mark.Await = false
-is_end mark.If = false
 is_end mark.End = true
-is_end mark.Expected = false
-is_end mark.OrExpected = false
-is_end (mark.Command command) = false
-is_end (mark.Wrong why) = false
+is_end _ = false

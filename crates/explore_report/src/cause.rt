@@ -15,13 +15,13 @@ pub const PLAN_LINES: usize = 4096;
 pub enum Cause {
     #[error("the line is not a command; fencectl explain says why")]
     NoCommand,
-    #[error("there is no such directive; a note has a space after its #")]
+    #[error("there is no such directive, only #client, #finally, #await, #once, #if, #else and #end; a note has a space after its #")]
     NoDirective,
     #[error("a blank after the # makes this a note; #client, #finally and #await have none")]
     BlankFollows,
-    #[error("#client takes one name")]
-    NoName,
-    #[error("#finally, #await and #end take no words")]
+    #[error("#client takes one name of 1 to {0} letters, digits, _, . and -")]
+    NoName(usize),
+    #[error("#finally, #await, #once, #else and #end take no words")]
     WordFollows,
     #[error("#if takes the first line of an answer")]
     NoText,
@@ -35,14 +35,22 @@ pub enum Cause {
     ClientBelowFinally,
     #[error("there is already a #finally")]
     FinallyTwice,
-    #[error("#await is only allowed in a client's section")]
+    #[error("#await and #once are only allowed in a client's section")]
     AwaitOutside,
     #[error("a command of the client has to follow #await directly")]
     AwaitsNothing,
-    #[error("#if and #end are only allowed in a client's section")]
+    #[error("a wait of the client has to follow #once directly")]
+    ChecksNothing,
+    #[error("#if, #else and #end are only allowed in a client's section")]
     BranchOutside,
     #[error("a command of the client has to be directly above #if")]
     IfBelowNothing,
+    #[error("there is no #if above this #else")]
+    ElseOfNothing,
+    #[error("a command of the client has to be between #if and #else")]
+    ElseBelowIf,
+    #[error("there is already an #else of this #if")]
+    ElseTwice,
     #[error("there is no #if above it that this could end")]
     EndsNothing,
     #[error("an #if has no #end in its client's section")]

@@ -25,6 +25,10 @@ pub enum Above {
     Command,
     /// `#await`.
     Await,
+    /// `#once`.
+    Once,
+    /// `#if`.
+    If,
 }
 
 /// The section of a line, what is directly above it, and how many branches it is in.
@@ -64,21 +68,21 @@ impl Context {
                 depth: 0,
             },
             Mark::Await => self.below(Above::Await),
-            Mark::If => self.with_depth(one_more(self.depth)),
-            Mark::End => self.with_depth(self.depth.saturating_sub(1)),
+            Mark::Once => self.below(Above::Once),
+            Mark::If => Context {
+                section: self.section,
+                above: Above::If,
+                depth: one_more(self.depth),
+            },
+            Mark::Else => self.below(Above::Nothing),
+            Mark::End => Context {
+                section: self.section,
+                above: Above::Nothing,
+                depth: self.depth.saturating_sub(1),
+            },
             Mark::Expected | Mark::OrExpected | Mark::Command(_) | Mark::Wrong(_) => {
                 self.below(Above::Command)
             }
-        }
-    }
-
-    fn with_depth(self, depth: usize) -> Context
-        ensures { result ≡ record { section = self.section; above = Above.Nothing; depth = depth } }
-    {
-        Context {
-            section: self.section,
-            above: Above::Nothing,
-            depth,
         }
     }
 

@@ -1,14 +1,14 @@
 //! `Mark`: what a line says to the reader of a plan. `row.rt` asks for it line by line.
 ghost use Rattle.std.specs.Prelude.{◌≡◌};
-ghost use Rattle.explore_report.specs.Mistake.{is_await, is_named};
-ghost use Rattle.explore_report.specs.Rows.{command_said, is_end, is_if};
+ghost use Rattle.explore_report.specs.Mistake.{is_named, unfollowed};
+ghost use Rattle.explore_report.specs.Rows.{command_said, is_else, is_end, is_if};
 ghost use Rattle.explore_report.specs.Mark.{after_mark, begins_directive, blank_note, branch_text, client_mark, client_named, directive_of, expected_text, if_mark, is_directive, mark_of, mark_of_body, note_of, without_words};
 
 use crate::cause::Cause;
 use crate::words::{first_word, words_after};
 use command_core::Command;
 use line_core::{Body, body_of, strip_prefix, without_spaces};
-use point_core::Name;
+use point_core::{NAME_BYTES, Name};
 
 /// What a line says to the reader of a plan.
 #[derive(Clone, Copy)]
@@ -19,9 +19,13 @@ pub enum Mark {
     Finally,
     /// `#await`: the next line waits until it would be accepted.
     Await,
+    /// `#once`: the `wait` on the next line doesn't wait, but checks the file once.
+    Once,
     /// `#if TEXT`: the client makes the lines below only if TEXT is the first line of the answer above.
     If,
-    /// `#end`: ends the lines of an `#if`.
+    /// `#else`: the client makes the lines below after any other answer.
+    Else,
+    /// `#end`: ends the lines of an `#if`, or of its `#else`.
     End,
     /// `#= TEXT`: a line of the answer that is expected of the line above.
     Expected,
@@ -52,16 +56,27 @@ impl Mark {
         }
     }
 
-    pub(crate) fn is_await(&self) -> bool
-        ensures { result ≡ is_await self.now }
+    /// Why nothing may end directly below it: it is about the line that follows.
+    pub(crate) fn unfollowed(&self) -> Option<Cause>
+        ensures { result ≡ unfollowed self.now }
     {
-        matches!(self, Mark::Await)
+        match self {
+            Mark::Await => Some(Cause::AwaitsNothing),
+            Mark::Once => Some(Cause::ChecksNothing),
+            _ => None,
+        }
     }
 
     pub(crate) fn is_if(&self) -> bool
         ensures { result ≡ is_if self.now }
     {
         matches!(self, Mark::If)
+    }
+
+    pub(crate) fn is_else(&self) -> bool
+        ensures { result ≡ is_else self.now }
+    {
+        matches!(self, Mark::Else)
     }
 
     pub(crate) fn is_end(&self) -> bool
@@ -77,7 +92,11 @@ const FINALLY: &[u8] = b"#finally";
 
 const AWAIT: &[u8] = b"#await";
 
+const ONCE: &[u8] = b"#once";
+
 const IF: &[u8] = b"#if";
+
+const ELSE: &[u8] = b"#else";
 
 const END: &[u8] = b"#end";
 
@@ -141,8 +160,14 @@ fn directive_of(word: &[u8], rest: &[u8]) -> Option<Mark>
     if word == AWAIT {
         return Some(without_words(rest, Mark::Await));
     }
+    if word == ONCE {
+        return Some(without_words(rest, Mark::Once));
+    }
     if word == IF {
         return Some(if_mark(rest));
+    }
+    if word == ELSE {
+        return Some(without_words(rest, Mark::Else));
     }
     if word == END {
         return Some(without_words(rest, Mark::End));
@@ -190,7 +215,7 @@ fn client_mark(rest: &[u8]) -> Mark
     if words_after(rest).is_empty() {
         client_named(first_word(rest))
     } else {
-        Mark::Wrong(Cause::NoName)
+        Mark::Wrong(Cause::NoName(NAME_BYTES))
     }
 }
 
@@ -199,7 +224,7 @@ fn client_named(name: &[u8]) -> Mark
 {
     match Name::read(name) {
         Some(name) => Mark::Client(name),
-        None => Mark::Wrong(Cause::NoName),
+        None => Mark::Wrong(Cause::NoName(NAME_BYTES)),
     }
 }
 

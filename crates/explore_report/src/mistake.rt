@@ -1,6 +1,6 @@
 //! `Mistake`: the first line that makes a script no plan, and why. `PlanScript::read` looks for one.
-ghost use Rattle.std.specs.Prelude.{◌≡◌, All, MatchOption};
-ghost use Rattle.explore_report.specs.Mistake.{AreFew, EndsClosed, EndsWhole, HaveOwnNames, IsAwaiting, IsMisplaced, IsMissing, IsMistake, IsOpen, IsPastLimit, IsPlaced, IsPlan, IsTaken, IsWhole, await_cause, cause_of, client_cause, command_cause, end_cause, expected_cause, finally_cause, has_client, has_some_client, if_cause, is_taken};
+ghost use Rattle.std.specs.Prelude.{◌≡◌, All, MatchOption, false};
+ghost use Rattle.explore_report.specs.Mistake.{AreFew, AreOwn, EndsClosed, EndsWhole, IsMisplaced, IsMissing, IsMistake, IsOpen, IsPastLimit, IsPlaced, IsPlan, IsRepeated, IsUnfollowed, IsWhole, branch_in, cause_of, client_below, client_cause, command_cause, else_after, else_below, else_cause, end_below, end_cause, expected_cause, finally_below, finally_cause, has_client, has_some_client, if_below, if_cause, in_else, repeated, section_cause, unless_awaited, unless_open, waiting_cause};
 
 use crate::cause::{Cause, LAST_CLIENT, PLAN_CLIENTS, PLAN_LINES};
 use crate::context::{Above, Context, Section};
@@ -17,15 +17,15 @@ pub struct Mistake {
     pub cause: Cause,
 }
 
-/// The first mistake of the rows: a row that its context does not allow; else a name that is taken; else a line past the limit;
-/// else what is missing at the end, with the number of the last line.
+/// The first mistake of the rows: a row that its context does not allow; else a name or an `#else` that is there already; else a
+/// line past the limit; else what is missing at the end, with the number of the last line.
 pub(crate) fn mistake_of(rows: &[Row], last: usize) -> Option<Mistake>
     ensures found { MatchOption result (IsPlan rows.now) (IsMistake rows.now last) }
 {
     if let Some(mistake) = misplaced(rows) {
         return Some(mistake);
     }
-    if let Some(mistake) = taken(rows) {
+    if let Some(mistake) = twice(rows) {
         return Some(mistake);
     }
     if let Some(mistake) = too_many(rows) {
@@ -56,23 +56,51 @@ fn cause_of(context: &Context, mark: &Mark) -> Option<Cause>
     match mark {
         Mark::Client(_) => client_cause(context),
         Mark::Finally => finally_cause(context),
-        Mark::Await => await_cause(context),
+        Mark::Await | Mark::Once => waiting_cause(context),
         Mark::If => if_cause(context),
+        Mark::Else => else_cause(context),
         Mark::End => end_cause(context),
         Mark::Expected | Mark::OrExpected => expected_cause(context),
-        Mark::Command(command) => command_cause(context.section, command),
+        Mark::Command(command) => command_cause(context, command),
         Mark::Wrong(cause) => Some(*cause),
+    }
+}
+
+/// A command has to follow `#await` directly, and a `wait` has to follow `#once`; else that cause counts.
+fn unless_awaited(above: Above, other: Option<Cause>) -> Option<Cause>
+    ensures cause { result ≡ unless_awaited above other }
+{
+    match above {
+        Above::Await => Some(Cause::AwaitsNothing),
+        Above::Once => Some(Cause::ChecksNothing),
+        _ => other,
+    }
+}
+
+/// No `#if` is open where a section ends; else that cause counts.
+fn unless_open(depth: usize, other: Option<Cause>) -> Option<Cause>
+    ensures cause { result ≡ unless_open depth other }
+{
+    if depth > 0 {
+        Some(Cause::NotEnded)
+    } else {
+        other
     }
 }
 
 fn client_cause(context: &Context) -> Option<Cause>
     ensures cause { result ≡ client_cause context.now }
 {
-    match (context.above, context.section) {
-        (Above::Await, _) => Some(Cause::AwaitsNothing),
-        _ if context.depth > 0 => Some(Cause::NotEnded),
-        (_, Section::Last) => Some(Cause::ClientBelowFinally),
-        (_, Section::Client(number)) if number >= LAST_CLIENT => Some(Cause::Clients(PLAN_CLIENTS)),
+    let cause = unless_open(context.depth, client_below(context.section));
+    unless_awaited(context.above, cause)
+}
+
+fn client_below(section: Section) -> Option<Cause>
+    ensures cause { result ≡ client_below section }
+{
+    match section {
+        Section::Last => Some(Cause::ClientBelowFinally),
+        Section::Client(number) if number >= LAST_CLIENT => Some(Cause::Clients(PLAN_CLIENTS)),
         _ => None,
     }
 }
@@ -80,59 +108,114 @@ fn client_cause(context: &Context) -> Option<Cause>
 fn finally_cause(context: &Context) -> Option<Cause>
     ensures cause { result ≡ finally_cause context.now }
 {
-    match (context.above, context.section) {
-        (Above::Await, _) => Some(Cause::AwaitsNothing),
-        _ if context.depth > 0 => Some(Cause::NotEnded),
-        (_, Section::Last) => Some(Cause::FinallyTwice),
+    let cause = unless_open(context.depth, finally_below(context.section));
+    unless_awaited(context.above, cause)
+}
+
+fn finally_below(section: Section) -> Option<Cause>
+    ensures cause { result ≡ finally_below section }
+{
+    match section {
+        Section::Last => Some(Cause::FinallyTwice),
         _ => None,
     }
 }
 
-fn await_cause(context: &Context) -> Option<Cause>
-    ensures cause { result ≡ await_cause context.now }
+/// Of `#await` and `#once`.
+fn waiting_cause(context: &Context) -> Option<Cause>
+    ensures cause { result ≡ waiting_cause context.now }
 {
-    match (context.above, context.section) {
-        (Above::Await, _) => Some(Cause::AwaitsNothing),
-        (_, Section::Client(_)) => None,
+    let cause = match context.section {
+        Section::Client(_) => None,
         _ => Some(Cause::AwaitOutside),
-    }
+    };
+    unless_awaited(context.above, cause)
 }
 
 fn if_cause(context: &Context) -> Option<Cause>
     ensures cause { result ≡ if_cause context.now }
 {
-    match (context.above, context.section) {
-        (Above::Await, _) => Some(Cause::AwaitsNothing),
-        (Above::Command, Section::Client(_)) => None,
-        (_, Section::Client(_)) => Some(Cause::IfBelowNothing),
+    let cause = if_below(context.above);
+    unless_awaited(context.above, branch_in(context.section, cause))
+}
+
+fn if_below(above: Above) -> Option<Cause>
+    ensures cause { result ≡ if_below above }
+{
+    match above {
+        Above::Nothing | Above::If => Some(Cause::IfBelowNothing),
+        _ => None,
+    }
+}
+
+/// Branches are of clients only; else that cause counts.
+fn branch_in(section: Section, other: Option<Cause>) -> Option<Cause>
+    ensures cause { result ≡ branch_in section other }
+{
+    match section {
+        Section::Client(_) => other,
         _ => Some(Cause::BranchOutside),
+    }
+}
+
+fn else_cause(context: &Context) -> Option<Cause>
+    ensures cause { result ≡ else_cause context.now }
+{
+    let cause = else_below(context.above, context.depth);
+    unless_awaited(context.above, branch_in(context.section, cause))
+}
+
+fn else_below(above: Above, depth: usize) -> Option<Cause>
+    ensures cause { result ≡ else_below above depth }
+{
+    match above {
+        Above::If => Some(Cause::ElseBelowIf),
+        _ if depth > 0 => None,
+        _ => Some(Cause::ElseOfNothing),
     }
 }
 
 fn end_cause(context: &Context) -> Option<Cause>
     ensures cause { result ≡ end_cause context.now }
 {
-    match (context.above, context.section) {
-        (Above::Await, _) => Some(Cause::AwaitsNothing),
-        (_, Section::Client(_)) if context.depth > 0 => None,
-        (_, Section::Client(_)) => Some(Cause::EndsNothing),
-        _ => Some(Cause::BranchOutside),
+    let cause = end_below(context.depth);
+    unless_awaited(context.above, branch_in(context.section, cause))
+}
+
+fn end_below(depth: usize) -> Option<Cause>
+    ensures cause { result ≡ end_below depth }
+{
+    if depth > 0 {
+        None
+    } else {
+        Some(Cause::EndsNothing)
     }
 }
 
 fn expected_cause(context: &Context) -> Option<Cause>
     ensures cause { result ≡ expected_cause context.now }
 {
-    match context.above {
-        Above::Command => None,
-        Above::Await => Some(Cause::AwaitsNothing),
-        Above::Nothing => Some(Cause::ExpectsNothing),
+    let cause = match context.above {
+        Above::Nothing | Above::If => Some(Cause::ExpectsNothing),
+        _ => None,
+    };
+    unless_awaited(context.above, cause)
+}
+
+/// Only a `wait` can be checked once.
+fn command_cause(context: &Context, command: &Command) -> Option<Cause>
+    ensures cause { result ≡ command_cause context.now.above context.now.section command.now }
+{
+    match (context.above, command) {
+        (Above::Once, Command::Wait(_)) => None,
+        (Above::Once, _) => Some(Cause::ChecksNothing),
+        _ => section_cause(context.section, command),
     }
 }
 
 /// A report is only allowed in the first section, and a watch only in the last one.
-fn command_cause(section: Section, command: &Command) -> Option<Cause>
-    ensures cause { result ≡ command_cause section command.now }
+fn section_cause(section: Section, command: &Command) -> Option<Cause>
+    ensures cause { result ≡ section_cause section command.now }
 {
     match (section, command) {
         (Section::First, Command::Report) => None,
@@ -143,28 +226,50 @@ fn command_cause(section: Section, command: &Command) -> Option<Cause>
     }
 }
 
-/// The first client whose name a client above it has.
-fn taken(rows: &[Row]) -> Option<Mistake>
-    ensures found { MatchOption result (HaveOwnNames rows.now) (IsTaken rows.now) }
+/// The first row that the rows above it do not allow.
+fn twice(rows: &[Row]) -> Option<Mistake>
+    ensures found { MatchOption result (AreOwn rows.now) (IsRepeated rows.now) }
 {
     for (index, row) in rows.iter().enumerate() {
-        if is_taken(&rows[..index], &row.mark) {
+        if let Some(cause) = repeated(&rows[..index], row) {
             return Some(Mistake {
                 line: row.number,
-                cause: Cause::NameTaken,
+                cause,
             });
         }
     }
     None
 }
 
-/// Whether a row begins the lines of a client whose name a client above has.
-fn is_taken(above: &[Row], mark: &Mark) -> bool
-    ensures { result ≡ is_taken above.now mark.now }
+/// Why the rows above do not allow a row that they would allow by its context: a name or an `#else` is there already.
+fn repeated(above: &[Row], row: &Row) -> Option<Cause>
+    ensures cause { result ≡ repeated above.now row.now }
 {
-    match mark {
-        Mark::Client(name) => has_client(above, name),
-        _ => false,
+    match &row.mark {
+        Mark::Client(name) if has_client(above, name) => Some(Cause::NameTaken),
+        Mark::Else if is_in_else(above, row.context.depth) => Some(Cause::ElseTwice),
+        _ => None,
+    }
+}
+
+/// Whether the innermost of that many branches is in its `#else` below these rows.
+fn is_in_else(rows: &[Row], depth: usize) -> bool
+    ensures inside { result ≡ in_else depth false rows.now }
+{
+    let mut inside = false;
+    for row in rows {
+        inside = else_after(depth, inside, row);
+    }
+    inside
+}
+
+fn else_after(depth: usize, inside: bool, row: &Row) -> bool
+    ensures { result ≡ else_after depth inside row.now }
+{
+    if row.begins_part(depth) {
+        row.is_else()
+    } else {
+        inside
     }
 }
 
@@ -198,7 +303,7 @@ fn too_many(rows: &[Row]) -> Option<Mistake>
 fn missing(rows: &[Row], last: usize) -> Option<Mistake>
     ensures found { MatchOption result (IsWhole rows.now) (IsMissing rows.now last) }
 {
-    if let Some(mistake) = awaiting(rows) {
+    if let Some(mistake) = unfollowed(rows) {
         return Some(mistake);
     }
     if let Some(mistake) = unclosed(rows) {
@@ -213,18 +318,16 @@ fn missing(rows: &[Row], last: usize) -> Option<Mistake>
     })
 }
 
-/// The last row, if it is `#await`.
-fn awaiting(rows: &[Row]) -> Option<Mistake>
-    ensures found { MatchOption result (EndsWhole rows.now) (IsAwaiting rows.now) }
+/// The last row, if it is about a line that has to follow.
+fn unfollowed(rows: &[Row]) -> Option<Mistake>
+    ensures found { MatchOption result (EndsWhole rows.now) (IsUnfollowed rows.now) }
 {
     let row = rows.last()?;
-    if row.mark.is_await() {
-        return Some(Mistake {
-            line: row.number,
-            cause: Cause::AwaitsNothing,
-        });
-    }
-    None
+    let cause = row.mark.unfollowed()?;
+    Some(Mistake {
+        line: row.number,
+        cause,
+    })
 }
 
 /// The last row, if an `#if` is open below it.

@@ -5,8 +5,7 @@ use crate::expected::Finding;
 use crate::plan_script::PlanScript;
 use crate::report::Report;
 use crate::schedule::Making;
-use crate::why::{Form, add_stuck_lines, add_why};
-use desk_core::Desk;
+use crate::why::{Form, Waiting, add_stuck_lines};
 use std::alloc::AllocError;
 use text_core::Page;
 
@@ -41,15 +40,17 @@ fn add_stuck(report: &Report<'_>, schedule: &[usize], making: &mut Making, page:
 }
 
 /// A line at which a client waits, and why.
-pub(crate) fn add_waiting(report: &Report<'_>, index: usize, desk: &mut Desk, page: &mut Page) {
+pub(crate) fn add_waiting(
+    report: &Report<'_>,
+    waiting: &Waiting,
+    making: &mut Making,
+    page: &mut Page,
+) {
     page.text("{");
-    add_line(report.plan, index, page);
-    if let Some(command) = report.plan.command_of(index) {
-        page.text(",\"why\":\"");
-        add_why(desk, &command, page);
-        page.text("\"");
-    }
-    page.text("}");
+    add_line(report.plan, waiting.row, page);
+    page.text(",\"why\":\"");
+    waiting.add_why(report.plan, making, page);
+    page.text("\"}");
 }
 
 /// The object of a line.

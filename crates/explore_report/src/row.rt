@@ -3,9 +3,9 @@ ghost use Rattle.std.specs.Prelude.{◌≡◌, ◌+◌, ◌++◌, OnOk, IfOk, So
 ghost use Rattle.explore_report.specs.Cases.{command_rows, index_at};
 ghost use Rattle.explore_report.specs.Context.{after};
 ghost use Rattle.explore_report.specs.Finding.{begins_answer, expects};
-ghost use Rattle.explore_report.specs.Mistake.{is_client_row, is_line, depth_below};
-ghost use Rattle.explore_report.specs.Plan.{closes};
-ghost use Rattle.explore_report.specs.Rows.{command_in, command_said, context_below, is_if, row_if, rows_at, rows_of};
+ghost use Rattle.explore_report.specs.Mistake.{begins_part, depth_below, is_client_row, is_line};
+ghost use Rattle.explore_report.specs.Plan.{ends_part};
+ghost use Rattle.explore_report.specs.Rows.{command_in, command_said, context_below, is_else, is_end, is_if, row_if, rows_at, rows_of};
 
 use crate::context::{Context, Section};
 use crate::mark::{Mark, mark_of};
@@ -72,11 +72,30 @@ impl Row {
         self.mark.is_if()
     }
 
-    /// Whether it is an `#end` below which this many `#if` are open.
-    pub(crate) fn closes(&self, depth: usize) -> bool
-        ensures { result ≡ closes depth self.now }
+    pub(crate) fn is_else(&self) -> bool
+        ensures { result ≡ is_else self.now.mark }
     {
-        self.mark.is_end() && self.depth_below() == depth
+        self.mark.is_else()
+    }
+
+    pub(crate) fn is_end(&self) -> bool
+        ensures { result ≡ is_end self.now.mark }
+    {
+        self.mark.is_end()
+    }
+
+    /// Whether it begins a part of a branch in which this many `#if` are open.
+    pub(crate) fn begins_part(&self, depth: usize) -> bool
+        ensures { result ≡ begins_part depth self.now }
+    {
+        (self.is_if() || self.is_else()) && self.depth_below() == depth
+    }
+
+    /// Whether it ends a part of a branch in which this many `#if` are open.
+    pub(crate) fn ends_part(&self, depth: usize) -> bool
+        ensures { result ≡ ends_part depth self.now }
+    {
+        (self.is_else() || self.is_end()) && self.context.depth == depth
     }
 
     /// Whether it expects a line of an answer.

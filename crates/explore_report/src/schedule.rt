@@ -186,6 +186,20 @@ impl Making {
         )
     }
 
+    /// Appends the rows of the lines that clients come to.
+    pub(crate) fn push_waiting(
+        &self,
+        plan: &PlanScript<'_>,
+        waiting: &mut Vec<usize>,
+    ) -> Result<(), AllocError> {
+        for client in 0..plan.client_count() {
+            if let Some(index) = self.next_of(plan, client) {
+                waiting.push(index)?;
+            }
+        }
+        Ok(())
+    }
+
     /// The lines that clients come to.
     pub(crate) fn push_next(&mut self, plan: &PlanScript<'_>) -> Result<(), AllocError> {
         for client in 0..plan.client_count() {

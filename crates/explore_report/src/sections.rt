@@ -1,15 +1,15 @@
 //! The plan that rows make: the commands of its first section, the lines of each client, and the commands of its last section.
 //! `plan_script.rt` calls it.
-ghost use Rattle.std.specs.Prelude.{◌≡◌, ◌+◌, ◌++◌, IfOk, OnOk, Vec, count_by, length, map, position};
+ghost use Rattle.std.specs.Prelude.{◌≡◌, ◌+◌, ◌++◌, IfOk, OnOk, Vec, length, map};
 ghost use Rattle.std.specs.Global.{Global};
 ghost use Rattle.explore_core.specs.declared.plan.Step.{Step};
-ghost use Rattle.explore_report.specs.Mistake.{is_line};
-ghost use Rattle.explore_report.specs.Plan.{branch_below, branch_line, branch_rows, clients_at, clients_in, closes, commands_at, commands_in, plan_of, steps_at, steps_in, text_at, texts_of, waits};
+ghost use Rattle.explore_report.specs.Plan.{branch_at, branch_below, branch_line, branch_of, clients_at, clients_in, commands_at, commands_in, jump, plan_of, steps_at, steps_in, text_at, texts_of, waits};
 
 use crate::context::{Above, Section};
 use crate::mark::{Mark, branch_text};
 use crate::plan_script::{after_notes, below};
 use crate::row::Row;
+use crate::way::{Way, left_out, more};
 use command_core::Command;
 use explore_core::{Branch, Plan, Step};
 use std::alloc::{AllocError, Global};
@@ -118,12 +118,13 @@ fn push_step(
     Ok(())
 }
 
-/// Whether a line waits until it would be accepted: a `wait`, and the line below `#await`.
+/// Whether a line waits until it would be accepted: the line below `#await`, and a `wait` that is not below `#once`.
 fn waits(above: Above, command: &Command) -> bool
     ensures { result ≡ waits above command.now }
 {
     match (above, command) {
         (Above::Await, _) => true,
+        (Above::Once, _) => false,
         (_, Command::Wait(_)) => true,
         _ => false,
     }
@@ -138,14 +139,55 @@ fn branch_below(
 ) -> Result<Option<Branch>, AllocError>
     ensures branch { IfOk result (λ branch. branch ≡ branch_below (texts_of lines.now) above rows.now) }
 {
-    let Some((row, below)) = after_notes(rows).split_first() else {
+    branch_at(alloc, lines, above, after_notes(rows))
+}
+
+fn branch_at(
+    alloc: Global,
+    lines: &[&[u8]],
+    above: usize,
+    rows: &[Row],
+) -> Result<Option<Branch>, AllocError>
+    ensures branch { IfOk result (λ branch. branch ≡ branch_at (texts_of lines.now) above rows.now) }
+{
+    let Some((row, below)) = rows.split_first() else {
         return Ok(None);
     };
-    if !row.is_if() {
+    if row.is_if() {
+        branch_of(alloc, lines, above, row, below)
+    } else {
+        jump(alloc, above, left_out(Way::Comes, rows)?)
+    }
+}
+
+/// The branch of an `#if` with these rows below it.
+fn branch_of(
+    alloc: Global,
+    lines: &[&[u8]],
+    above: usize,
+    row: &Row,
+    below: &[Row],
+) -> Result<Option<Branch>, AllocError>
+    ensures branch { IfOk result (λ branch. branch ≡ branch_of (texts_of lines.now) above row.now below.now) }
+{
+    let passed = left_out(Way::Comes, below)?;
+    if passed > 0 {
+        return jump(alloc, above, passed);
+    }
+    let otherwise = more(above, left_out(Way::Passes(row.depth_below()), below)?)?;
+    let text = branch_line(alloc, lines, row)?;
+    Ok(Some(Branch { text, otherwise }))
+}
+
+/// The branch of a line below which the client leaves that many lines out, whatever the answer. No answer has an empty first line.
+fn jump(alloc: Global, above: usize, passed: usize) -> Result<Option<Branch>, AllocError>
+    ensures branch { IfOk result (λ branch. branch ≡ jump above passed) }
+{
+    if passed == 0 {
         return Ok(None);
     }
-    let otherwise = place_behind(above, row.context.depth, below)?;
-    let text = branch_line(alloc, lines, row)?;
+    let otherwise = more(above, passed)?;
+    let text = Vec::new(alloc);
     Ok(Some(Branch { text, otherwise }))
 }
 
@@ -166,36 +208,4 @@ fn text_at<'a>(lines: &[&'a [u8]], number: usize) -> &'a [u8]
         Some(line) => line,
         None => b"",
     }
-}
-
-/// The place of the client's first line behind a branch that has that many lines of the client above it. The branch has these rows
-/// below its `#if`.
-fn place_behind(above: usize, depth: usize, below: &[Row]) -> Result<usize, AllocError>
-    ensures place { IfOk result (λ place. place ≡ above + count_by is_line (branch_rows depth below.now)) }
-{
-    let Some(place) = above.checked_add(count_lines(branch_rows(depth, below))) else {
-        // This can't happen: there are fewer lines than a usize counts.
-        return Err(AllocError);
-    };
-    Ok(place)
-}
-
-/// The rows up to the `#end` below which that many `#if` are open.
-fn branch_rows(depth: usize, rows: &[Row]) -> &[Row]
-    ensures rows { result.now ≡ branch_rows depth rows.now }
-{
-    let end = end_of(depth, rows).unwrap_or(rows.len());
-    &rows[..end]
-}
-
-fn end_of(depth: usize, rows: &[Row]) -> Option<usize>
-    ensures end { result ≡ position (closes depth) rows.now }
-{
-    rows.iter().position(|row| row.closes(depth))
-}
-
-fn count_lines(rows: &[Row]) -> usize
-    ensures count { result ≡ count_by is_line rows.now }
-{
-    rows.iter().filter(|row| row.is_line()).count()
 }

@@ -5,8 +5,7 @@ use crate::plan_script::PlanScript;
 use crate::report::Report;
 use crate::row::Row;
 use crate::schedule::Making;
-use crate::why::{Form, add_stuck_lines, add_why};
-use desk_core::Desk;
+use crate::why::{Form, Waiting, add_stuck_lines};
 use std::alloc::AllocError;
 use text_core::Page;
 
@@ -23,11 +22,12 @@ pub(crate) fn text_of(
     making: &mut Making,
 ) -> Result<Vec<u8>, AllocError> {
     let mut page = Page::new(report.alloc);
-    add_stuck(report, name, making, &mut page);
+    let mut waiting = Vec::new(report.alloc);
+    add_stuck(report, name, making, &mut waiting, &mut page);
     add_findings(report, name, making, &mut page);
     add_answers(report, name, everything, &mut page);
     if report.found.covered {
-        add_unreached(report, name, &mut page);
+        add_unreached(report, name, everything, waiting.as_slice(), &mut page);
         add_totals(report, &mut page);
     } else {
         add_bound(report, &mut page);
@@ -35,8 +35,14 @@ pub(crate) fn text_of(
     page.finish()
 }
 
-/// The schedule that gets stuck, and why each client waits.
-fn add_stuck(report: &Report<'_>, name: &str, making: &mut Making, page: &mut Page) {
+/// The schedule that gets stuck, and why each client waits. The indices of the rows at which they wait go into `waiting`.
+fn add_stuck(
+    report: &Report<'_>,
+    name: &str,
+    making: &mut Making,
+    waiting: &mut Vec<usize>,
+    page: &mut Page,
+) {
     let Some(schedule) = &report.found.stuck else {
         return;
     };
@@ -46,6 +52,9 @@ fn add_stuck(report: &Report<'_>, name: &str, making: &mut Making, page: &mut Pa
     }
     add_stuck_lines(report, making, Form::Text(name), page);
     add_making(report.plan, making.rows.as_slice(), page);
+    if making.push_waiting(report.plan, waiting).is_err() {
+        page.fail();
+    }
 }
 
 fn add_stuck_head(report: &Report<'_>, name: &str, steps: usize, page: &mut Page) {
@@ -59,19 +68,17 @@ fn add_stuck_head(report: &Report<'_>, name: &str, steps: usize, page: &mut Page
     page.text(" (schedule 1)\n");
 }
 
-/// A line at which a client waits. The desk refuses it, and so stays as it is.
+/// A line at which a client waits, and why.
 pub(crate) fn add_waiting(
     report: &Report<'_>,
     name: &str,
-    index: usize,
-    desk: &mut Desk,
+    waiting: &Waiting,
+    making: &mut Making,
     page: &mut Page,
 ) {
-    if let Some(command) = report.plan.command_of(index) {
-        add_head(report.plan, name, index, page);
-        add_why(desk, &command, page);
-        page.text("\n");
-    }
+    add_head(report.plan, name, waiting.row, page);
+    waiting.add_why(report.plan, making, page);
+    page.text("\n");
 }
 
 /// `FILE:LINE: CLIENT: COMMAND: `.
@@ -91,7 +98,15 @@ fn add_head(plan: &PlanScript<'_>, name: &str, index: usize, page: &mut Page) {
 /// `    by CLIENT LINE..LINE, ..`: the lines of clients, in the order of making; `    at the beginning` without any. A range has no
 /// lines that a client skipped.
 fn add_making(plan: &PlanScript<'_>, rows: &[usize], page: &mut Page) {
-    let mut front = "    by ";
+    if !add_runs(plan, "    by ", rows, page) {
+        page.text("    at the beginning");
+    }
+    page.text("\n");
+}
+
+/// The lines of clients behind this front, in their order; whether there are any.
+fn add_runs(plan: &PlanScript<'_>, front: &str, rows: &[usize], page: &mut Page) -> bool {
+    let mut front = front;
     let mut run: Option<Run> = None;
     for index in rows {
         let Some(line) = Run::of(plan, *index) else {
@@ -110,13 +125,10 @@ fn add_making(plan: &PlanScript<'_>, rows: &[usize], page: &mut Page) {
             None => Some(line),
         };
     }
-    match run {
-        Some(run) => run.add(plan, front, page),
-        None => {
-            page.text("    at the beginning");
-        }
+    if let Some(run) = &run {
+        run.add(plan, front, page);
     }
-    page.text("\n");
+    run.is_some()
 }
 
 /// Lines of one client that follow each other in the plan and are made one after another, by the rows of the first and the last.
@@ -290,14 +302,56 @@ fn front_of(answers: usize, is_covered: bool) -> &'static str {
     }
 }
 
-/// The lines of clients that no schedule makes.
-fn add_unreached(report: &Report<'_>, name: &str, page: &mut Page) {
+/// The lines of clients that no schedule makes, but for those at which clients are shown to wait: with `everything` each of them, else
+/// several as one row.
+fn add_unreached(
+    report: &Report<'_>,
+    name: &str,
+    everything: bool,
+    waiting: &[usize],
+    page: &mut Page,
+) {
+    let mut lines = Vec::new(report.alloc);
+    if push_unreached(report, waiting, &mut lines).is_err() {
+        page.fail();
+    }
+    if everything || lines.len() == 1 {
+        add_each_unreached(report, name, lines.as_slice(), page);
+    } else {
+        add_unreached_row(report, name, lines.as_slice(), page);
+    }
+}
+
+fn push_unreached(
+    report: &Report<'_>,
+    waiting: &[usize],
+    lines: &mut Vec<usize>,
+) -> Result<(), AllocError> {
     for (index, row) in report.plan.rows.as_slice().iter().enumerate() {
-        if row.is_line() && report.cases_of(index).is_empty() {
-            add_head(report.plan, name, index, page);
-            page.text("is never made\n");
+        if row.is_line() && report.cases_of(index).is_empty() && !waiting.contains(&index) {
+            lines.push(index)?;
         }
     }
+    Ok(())
+}
+
+fn add_each_unreached(report: &Report<'_>, name: &str, lines: &[usize], page: &mut Page) {
+    for index in lines {
+        add_head(report.plan, name, *index, page);
+        page.text("is never made\n");
+    }
+}
+
+fn add_unreached_row(report: &Report<'_>, name: &str, lines: &[usize], page: &mut Page) {
+    let Some(first) = lines.first() else {
+        return;
+    };
+    page.text(name);
+    page.counted(":", report.plan.number_of(*first));
+    page.counted(": ", lines.len());
+    page.text(" lines are never made");
+    add_runs(report.plan, ": ", lines, page);
+    page.text("\n");
 }
 
 fn add_totals(report: &Report<'_>, page: &mut Page) {
@@ -314,5 +368,7 @@ fn add_totals(report: &Report<'_>, page: &mut Page) {
 
 fn add_bound(report: &Report<'_>, page: &mut Page) {
     page.counted("not covered: stopped after ", report.found.states);
-    page.text(" states; what is above was found in some of the schedules\n");
+    page.text(
+        " states; a greater --states goes on; what is above was found in some of the schedules\n",
+    );
 }
