@@ -77,18 +77,17 @@ static void become_fencectl(const char *trace, bool reports)
     _exit(STATUS_FAULT);
 }
 
-/* Returns whether a trace has any event, as fencectl requires. */
+/* Returns whether a trace has any event of a fence, as fencectl requires. */
 static bool has_events(const char *trace)
 {
     FILE *text = fopen(trace, "re");
-    char start[2];
+    size_t room = 0;
+    char *line = NULL;
     bool has = false;
 
-    while (text && !has && fgets(start, sizeof start, text)) {
-        has = start[0] != '#';
-        for (int byte = start[0]; byte != '\n' && byte != EOF;)
-            byte = fgetc(text);
-    }
+    while (text && !has && getline(&line, &room, text) > 0)
+        has = line[0] != '#' && strstr(line, ": dma_fence_");
+    free(line);
     if (text)
         fclose(text);
     return has;

@@ -273,5 +273,6 @@ void registry_close(struct registry *registry)
     free(registry->rows);
     bim_device_close(&registry->device);
     page_close(registry->page);
+    trace_end(registry->trace, registry_now());
     trace_close(registry->trace);
 }

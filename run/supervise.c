@@ -4,9 +4,11 @@
 #include "calls.h"
 #include "guard.h"
 #include "launch.h"
+#include "registry.h"
 #include "report.h"
 #include "say.h"
 #include "service.h"
+#include "trace.h"
 #include "wire.h"
 
 #include <errno.h>
@@ -255,6 +257,15 @@ static void give_up(void)
     service_remove(&service);
 }
 
+/* With --local the trace is the program's, which doesn't know its own end. */
+static void end_trace(const char *path)
+{
+    struct trace *trace = path ? trace_open(path) : NULL;
+
+    trace_end(trace, registry_now());
+    trace_close(trace);
+}
+
 int supervise(const struct options *options, const char *trace)
 {
     struct run run = { .program = 0 };
@@ -265,8 +276,10 @@ int supervise(const struct options *options, const char *trace)
         return status;
     }
     process_raise_limit();
-    if (options->is_local)
+    if (options->is_local) {
         wait_for_an_end(&run);
+        end_trace(trace);
+    }
     status = options->is_local ? launch_status(run.waited) : serve_program(options, &run);
     call_close(run.signals);
     return run.users_are_killed ? status : report(options, trace, status);

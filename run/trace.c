@@ -11,7 +11,9 @@
 
 enum { LINE_ROOM = 256 };
 
+/* By the second line fencectl knows that a trace without fences is one of a program that made none. */
 static const char HEADER[] = "# tracer: nop\n"
+                             "# recorded by bimphlai-run\n"
                              "#\n"
                              "#                                _-----=> irqs-off/BH-disabled\n"
                              "#                               / _----=> need-resched\n"
@@ -68,21 +70,39 @@ void trace_close(struct trace *trace)
     free(trace);
 }
 
+static void add_head(struct trace *trace)
+{
+    uint64_t us = trace->now / 1000;
+
+    trace->length += snprintf(trace->text + trace->length, TRACE_BYTES - trace->length,
+                              "%16.*s-%-7d [%03d] ..... %5llu.%06llu: ", BIM_TASK_ROOM - 1, trace->who.task,
+                              trace->who.thread, trace->who.processor, (unsigned long long)(us / 1000000),
+                              (unsigned long long)(us % 1000000));
+}
+
 void trace_event(struct trace *trace, const char *event, const struct fence *fence)
 {
-    uint64_t us;
-
     if (!trace)
         return;
     if (trace->length > TRACE_BYTES - LINE_ROOM)
         trace_flush(trace);
-    us = trace->now / 1000;
+    add_head(trace);
+    trace->length += snprintf(trace->text + trace->length, TRACE_BYTES - trace->length,
+                              "dma_fence_%s: driver=%s timeline=%s context=%u seqno=%u\n", event, fence->driver,
+                              fence->timeline_name, (unsigned)fence->context, fence->seqno);
+}
+
+void trace_end(struct trace *trace, uint64_t now)
+{
+    if (!trace)
+        return;
+    trace_flush(trace);
+    trace->who = (struct who){ .task = "bimphlai-run", .thread = getpid() };
+    trace->now = now;
+    add_head(trace);
     trace->length +=
-        snprintf(trace->text + trace->length, LINE_ROOM,
-                 "%16.*s-%-7d [%03d] ..... %5llu.%06llu: dma_fence_%s: driver=%s timeline=%s context=%u seqno=%u\n",
-                 BIM_TASK_ROOM - 1, trace->who.task, trace->who.thread, trace->who.processor,
-                 (unsigned long long)(us / 1000000), (unsigned long long)(us % 1000000), event, fence->driver,
-                 fence->timeline_name, (unsigned)fence->context, fence->seqno);
+        snprintf(trace->text + trace->length, TRACE_BYTES - trace->length, "tracing_mark_write: " TRACE_END "\n");
+    trace_flush(trace);
 }
 
 /* Gives up a trace that can't be written, as on a full disk; the program continues. */

@@ -14,6 +14,9 @@ struct who {
 
 enum { TRACE_BYTES = 65536 };
 
+/* What the last record of a trace says, so that `fencectl trace` knows until when a fence that hangs was pending. */
+#define TRACE_END "end of the trace"
+
 struct trace {
     int file;
     struct who who;
@@ -32,5 +35,7 @@ int trace_begin(const char *path);
 /* Add a line. trace_flush writes all events of a request at once. These do nothing if `trace` is NULL. */
 void trace_event(struct trace *trace, const char *event, const struct fence *fence);
 void trace_flush(struct trace *trace);
+/* Adds the last record, at a time in nanoseconds, and writes all. */
+void trace_end(struct trace *trace, uint64_t now);
 
 #endif

@@ -7,10 +7,11 @@ use crate::drawing::{draw_trace, report_mistake, write_output};
 use crate::fault::FAULT;
 use crate::status::{ACCEPTED, REFUSED};
 use point_core::Refusal;
-use source_core::Source;
+use source_core::{Input, Source};
+use std::io::Read;
 use trace_core::Span;
 use trace_report::{ReportForm, TraceOutcome, Written, events_of_trace, report_trace};
-use trace_script::{Scripted, script_of_trace};
+use trace_script::{ScriptFences, Scripted, script_of_trace};
 
 /// The report on a text without an event of a fence.
 const NO_EVENTS: &str = "\
@@ -19,6 +20,24 @@ fencectl: there is no dma_fence event in the text. To record them, as root:
   cat /sys/kernel/tracing/trace_pipe > FILE
   echo 0 > /sys/kernel/tracing/events/dma_fence/enable
 ";
+
+/// The first bytes of files that tools write around a text, and of a text that bimphlai-run writes.
+const TRACE_CMD: &[u8] = b"\x17\x08\x44tracing";
+
+const GZIP: &[u8] = b"\x1f\x8b";
+
+const RECORDED: &[u8] = b"# tracer: nop\n# recorded by bimphlai-run\n";
+
+/// How many of the first bytes are looked at.
+const START_BYTES: usize = 64;
+
+/// The reports on files that begin so and have no event.
+const BINARY: &str =
+    "fencectl: this is trace-cmd's binary file: trace-cmd report FILE prints its text\n";
+
+const COMPRESSED: &str = "fencectl: this file is compressed: gzip -dc FILE prints its text\n";
+
+const NO_FENCE: &str = "fencectl: the program that bimphlai-run recorded made no fence\n";
 
 /// The report on a text without one up to the end of the window.
 const NO_EVENTS_YET: &str = "fencectl: there is no dma_fence event in the text up to --to";
@@ -30,8 +49,6 @@ window with --from and --to";
 const ONE_FORM: &str =
     "fencectl: --json, --script, --draw and --perfetto each ask for another form";
 
-const NO_WINDOW: &str = "fencectl: --from and --to go with --script, --draw or --perfetto";
-
 const NO_TIMES: &str =
     "fencectl: --from and --to take seconds with up to six decimals, the first not after the second";
 
@@ -41,13 +58,20 @@ pub(crate) fn trace(rt: &HostRuntime, asked: &Trace<'_>) -> Result<u8, Refusal> 
     if has_several_forms(asked) {
         return report_mistake(rt, ONE_FORM);
     }
-    if asked.is_script || asked.is_drawing || asked.is_perfetto {
-        return happened(rt, asked);
+    match Span::read(asked.from, asked.to) {
+        Some(span) => trace_within(rt, asked, span),
+        None => report_mistake(rt, NO_TIMES),
     }
-    if asked.from.is_some() || asked.to.is_some() {
-        return report_mistake(rt, NO_WINDOW);
+}
+
+fn trace_within(rt: &HostRuntime, asked: &Trace<'_>, span: Span) -> Result<u8, Refusal> {
+    if asked.is_perfetto {
+        events_within(rt, asked, span)
+    } else if asked.is_script || asked.is_drawing {
+        script_within(rt, asked, span)
+    } else {
+        report(rt, asked, span)
     }
-    report(rt, asked)
 }
 
 fn has_several_forms(asked: &Trace<'_>) -> bool {
@@ -56,23 +80,7 @@ fn has_several_forms(asked: &Trace<'_>) -> bool {
         || (asked.is_drawing && asked.is_perfetto)
 }
 
-/// Writes what happened as a script or as trace events, or draws it. Gives 0, or 2 if the text has no event of a fence or more than
-/// a script may have, which is reported on standard error.
-fn happened(rt: &HostRuntime, asked: &Trace<'_>) -> Result<u8, Refusal> {
-    match Span::read(asked.from, asked.to) {
-        Some(span) => happened_within(rt, asked, span),
-        None => report_mistake(rt, NO_TIMES),
-    }
-}
-
-fn happened_within(rt: &HostRuntime, asked: &Trace<'_>, span: Span) -> Result<u8, Refusal> {
-    if asked.is_perfetto {
-        events_within(rt, asked, span)
-    } else {
-        script_within(rt, asked, span)
-    }
-}
-
+/// Writes what happened as trace events. Gives 0, or 2 if the text has no event of a fence, which is reported on standard error.
 fn events_within(rt: &HostRuntime, asked: &Trace<'_>, span: Span) -> Result<u8, Refusal> {
     let mut source = Source::open(rt, asked.text, rt.stdin())?;
     let written = events_of_trace(rt.alloc(), span, &mut source, &mut rt.stdout())?;
@@ -88,9 +96,11 @@ fn status_of_written(rt: &HostRuntime, asked: &Trace<'_>, written: Written) -> R
     }
 }
 
+/// Writes what happened as a script, or draws it. Gives 0, or 2 if the text has no event of a fence or more than a script may have,
+/// which is reported on standard error.
 fn script_within(rt: &HostRuntime, asked: &Trace<'_>, span: Span) -> Result<u8, Refusal> {
     let mut source = Source::open(rt, asked.text, rt.stdin())?;
-    let scripted = script_of_trace(rt.alloc(), span, &mut source)?;
+    let scripted = script_of_trace(rt.alloc(), span, ScriptFences::All, &mut source)?;
     write_script(rt, asked, &scripted)
 }
 
@@ -117,23 +127,40 @@ fn report_none(rt: &HostRuntime, asked: &Trace<'_>) -> Result<u8, Refusal>
     if asked.to.is_some() {
         return report_mistake(rt, NO_EVENTS_YET);
     }
-    report_no_events(rt)
+    let reason = reason_of(rt, asked.text)?;
+    eprint!(rt; "{reason}").map_err(|_| Refusal::Write)?;
+    Ok(FAULT)
 }
 
-fn report_no_events(rt: &HostRuntime) -> Result<u8, Refusal>
-    ensures status { IfOk result (λ status. status ≡ 2) }
-{
-    eprint!(rt; "{NO_EVENTS}").map_err(|_| Refusal::Write)?;
-    Ok(FAULT)
+/// Why the text has no event, by its first bytes. Standard input is read, so only a file is looked at again.
+fn reason_of(rt: &HostRuntime, text: Input<'_>) -> Result<&'static str, Refusal> {
+    let mut start = [0; START_BYTES];
+    let mut source = Source::open(rt, text, rt.stdin())?;
+    match source.read(&mut start) {
+        Ok(_) => Ok(reason_for(&start)),
+        Err(_) => Err(Refusal::Read),
+    }
+}
+
+fn reason_for(start: &[u8]) -> &'static str {
+    if start.starts_with(TRACE_CMD) {
+        BINARY
+    } else if start.starts_with(GZIP) {
+        COMPRESSED
+    } else if start.starts_with(RECORDED) {
+        NO_FENCE
+    } else {
+        NO_EVENTS
+    }
 }
 
 /// Prints the report. Gives 0 if nothing hangs and no rule is broken, 1 if something does, and 2 if the text has no event
 /// of a fence, which is reported on standard error.
-fn report(rt: &HostRuntime, asked: &Trace<'_>) -> Result<u8, Refusal> {
+fn report(rt: &HostRuntime, asked: &Trace<'_>, span: Span) -> Result<u8, Refusal> {
     let mut source = Source::open(rt, asked.text, rt.stdin())?;
     let form = form_of(asked.is_json);
-    let outcome = report_trace(rt.alloc(), form, &mut source, &mut rt.stdout())?;
-    status_of_outcome(rt, outcome)
+    let outcome = report_trace(rt.alloc(), form, span, &mut source, &mut rt.stdout())?;
+    status_of_outcome(rt, asked, outcome)
 }
 
 fn form_of(is_json: bool) -> ReportForm {
@@ -144,12 +171,16 @@ fn form_of(is_json: bool) -> ReportForm {
     }
 }
 
-fn status_of_outcome(rt: &HostRuntime, outcome: TraceOutcome) -> Result<u8, Refusal>
+fn status_of_outcome(
+    rt: &HostRuntime,
+    asked: &Trace<'_>,
+    outcome: TraceOutcome,
+) -> Result<u8, Refusal>
     ensures status { IfOk result (λ status. status ≡ outcome_status outcome) }
 {
     match outcome {
         TraceOutcome::Sound => Ok(ACCEPTED),
         TraceOutcome::Broken => Ok(REFUSED),
-        TraceOutcome::NoEvents => report_no_events(rt),
+        TraceOutcome::NoEvents => report_none(rt, asked),
     }
 }

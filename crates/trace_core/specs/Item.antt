@@ -16,7 +16,7 @@ pub data Meaning : Type 0 where
 
 abbrev pub meaning_of : TraceItem → Meaning
 meaning_of (item.Event r) = Event (printed r)
-meaning_of item.Other = Other
+meaning_of (item.Other time is_end) = Other
 meaning_of item.Unread = Unread
 meaning_of (item.Lost cpu events) = Lost cpu events
 meaning_of (item.BufferStarted cpu) = BufferStarted cpu

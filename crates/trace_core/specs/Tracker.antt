@@ -4,7 +4,6 @@ use Rattle.trace_core.specs.Item.{Meaning, Event, Other, Unread, Lost as LostEve
 use Rattle.trace_core.specs.Record.{Printed}
 use Rattle.trace_core.specs.declared.names.Names.{Names}
 use Rattle.trace_core.specs.declared.fence_event.FenceEvent.{FenceEvent}
-use Rattle.trace_core.specs.declared.summary.TraceClock.{TraceClock}
 use Rattle.trace_core.specs.declared.tracker.TrackedEvent.{TrackedEvent}
 use Rattle.trace_core.specs.declared.tracker.Tracker.{Tracker}
 use Rattle.trace_core.specs.History.{Step, Seen, Lost, Forgot, IsLedgerOf, found_in, life_in}
@@ -75,11 +74,6 @@ AreSeen (Seen e ∷ earlier) [] = ⊥
 AreSeen (Seen e ∷ earlier) (seen ∷ more) = IsSeen earlier e seen.0 × AreSeen earlier more
 AreSeen (Lost ∷ earlier) seen = AreSeen earlier seen
 AreSeen (Forgot key ∷ earlier) seen = AreSeen earlier seen
-
--- the greatest time that was seen
-abbrev pub latest_of : Option TraceClock → ℕ
-latest_of None = 0
-latest_of (Some clock) = clock.latest
 
 -- whether an item is the record of an event
 abbrev pub is_event : Meaning → Bool

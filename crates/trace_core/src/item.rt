@@ -7,18 +7,24 @@ use crate::event::event_at;
 use crate::header::header_of;
 use crate::loss::{lost, note};
 use crate::record::{Record, record_with};
-use crate::steps::after;
+use crate::steps::{after, before};
 
 /// The most bytes of a piece that is read. A longer line is unread, whatever it says.
 pub const PIECE_BYTES: usize = 8192;
+
+/// The event that marks the end of a trace, as a write to ftrace's `trace_marker` makes it. `bimphlai-run` ends its traces with it.
+const END: &[u8] = b"tracing_mark_write: end of the trace";
 
 /// What a piece of the text is: a line, or a record of a `dma_fence` event, which is several lines if a name holds line feeds.
 #[derive(Clone, Copy)]
 pub enum TraceItem<'a> {
     /// A record of a `dma_fence` event.
     Event(Record<'a>),
-    /// A record of another event.
-    Other,
+    /// A record of another event, which may mark the end of the trace.
+    Other {
+        time: u64,
+        is_end: bool,
+    },
     /// A line that is no record: a record of a `dma_fence` event that is cut, or has a number that is too great, too.
     Unread,
     /// Events of a processor were lost, and how many where that is known: `CPU:n [LOST m EVENTS]`, `CPU:n [LOST EVENTS]`.
@@ -66,7 +72,10 @@ fn record_or_other(piece: &[u8]) -> TraceItem<'_>
         return TraceItem::Unread;
     };
     let Some((event, text)) = event_at(header.text) else {
-        return TraceItem::Other;
+        return TraceItem::Other {
+            time: header.time,
+            is_end: before(header.text, END).is_some(),
+        };
     };
     match record_with(header, event, text) {
         Some(record) => TraceItem::Event(record),

@@ -131,7 +131,7 @@ fn stage_with(stage: Stage, span: Span, item: &TraceItem<'_>) -> Stage
 {
     match item {
         TraceItem::Event(record) => stage.after(span, record.time),
-        TraceItem::Other
+        TraceItem::Other { time: _, is_end: _ }
         | TraceItem::Unread
         | TraceItem::Lost { cpu: _, events: _ }
         | TraceItem::BufferStarted { cpu: _ }
@@ -180,7 +180,7 @@ fn loss_of(item: &TraceItem<'_>) -> Next
         TraceItem::Lost { cpu: _, events } => Next::Lost(*events),
         TraceItem::BufferStarted { cpu: _ } => Next::StartedLate,
         TraceItem::Event(_)
-        | TraceItem::Other
+        | TraceItem::Other { time: _, is_end: _ }
         | TraceItem::Unread
         | TraceItem::Counts {
             in_buffer: _,

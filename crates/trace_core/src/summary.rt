@@ -19,7 +19,7 @@ pub struct Counts {
     pub processors: u32,
 }
 
-/// The times of a text's records, in microseconds.
+/// The times of a text's events of fences, in microseconds.
 #[derive(Clone, Copy)]
 pub struct TraceClock {
     pub first: u64,
@@ -52,6 +52,10 @@ pub struct Summary {
     /// order of the text.
     pub late_buffers: Vec<u32>,
     pub clock: Option<TraceClock>,
+    /// The greatest time of a record of any event, in microseconds, up to which a fence that hangs is known to be pending.
+    pub latest: u64,
+    /// Whether a record marks the end of the trace, so that it is known how long what hangs was pending.
+    pub has_end: bool,
 }
 
 impl Summary {
@@ -69,6 +73,8 @@ impl Summary {
             counts: None,
             late_buffers: Vec::new(alloc),
             clock: None,
+            latest: 0,
+            has_end: false,
         }
     }
 
@@ -82,7 +88,7 @@ impl Summary {
         self.lines = self.lines.saturating_add(piece.lines as u64);
         match piece.item {
             TraceItem::Event(record) => self.record(record.time, piece.lines > 1),
-            TraceItem::Other => self.others = self.others.saturating_add(1),
+            TraceItem::Other { time, is_end } => self.other(time, is_end),
             TraceItem::Unread => self.unread = self.unread.saturating_add(1),
             TraceItem::Lost { cpu: _, events } => self.lose(events),
             TraceItem::BufferStarted { cpu } => return self.start_late(cpu),
@@ -108,6 +114,7 @@ impl Summary {
     }
 
     fn record(&mut self, time: u64, over_lines: bool) {
+        self.latest = self.latest.max(time);
         if over_lines {
             self.over_lines = self.over_lines.saturating_add(1);
         }
@@ -129,6 +136,12 @@ impl Summary {
                 },
             },
         });
+    }
+
+    fn other(&mut self, time: u64, is_end: bool) {
+        self.others = self.others.saturating_add(1);
+        self.latest = self.latest.max(time);
+        self.has_end = self.has_end || is_end;
     }
 
     fn lose(&mut self, events: Option<u64>) {

@@ -5,7 +5,7 @@ ghost use Rattle.point_core.specs.declared.refusal.Refusal.TheVariants.{Memory};
 ghost use Rattle.trace_core.specs.Item.{Meaning, meaning_of, Event as EventMeaning};
 ghost use Rattle.trace_core.specs.Record.{Printed, printed};
 ghost use Rattle.trace_core.specs.Names.{name_or_none};
-ghost use Rattle.trace_core.specs.Tracker.{Keeps, Says, Tracks, given, is_event, latest_of};
+ghost use Rattle.trace_core.specs.Tracker.{Keeps, Says, Tracks, given, is_event};
 ghost use Rattle.trace_core.specs.Waits.{AreOpen, IsWaitOf, Started, started_of, wait_by, waits_after};
 
 use crate::delays::Delays;
@@ -77,7 +77,7 @@ impl Tracker {
         match &piece.item {
             TraceItem::Event(record) => return Ok(Some(self.see(record)?)),
             TraceItem::Lost { .. } | TraceItem::BufferStarted { .. } => self.ledger.lose(),
-            TraceItem::Other
+            TraceItem::Other { time: _, is_end: _ }
             | TraceItem::Unread
             | TraceItem::Counts {
                 in_buffer: _,
@@ -105,16 +105,6 @@ impl Tracker {
         let driver = self.drivers.name(key.driver).unwrap_or(b"");
         let timeline = self.timelines.name(key.timeline).unwrap_or(b"");
         (driver, timeline)
-    }
-
-    /// The latest time of an event, in microseconds, or 0 if there was none.
-    pub fn latest(&self) -> u64
-        ensures { result ≡ latest_of self.now.summary.clock }
-    {
-        match self.summary.clock {
-            Some(clock) => clock.latest,
-            None => 0,
-        }
     }
 
     fn see(&mut self, raw: &Record<'_>) -> Result<TrackedEvent, Refusal>

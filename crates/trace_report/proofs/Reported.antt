@@ -6,12 +6,13 @@ use Rattle.trace_core.specs.declared.fence_event.FenceKey.{FenceKey}
 use Rattle.trace_core.specs.declared.pending.Pending.{Pending}
 use Rattle.trace_core.specs.declared.tally.Tally.{Tally}
 use Rattle.trace_core.specs.declared.tracker.Tracker.{Tracker}
+use Rattle.trace_core.specs.declared.window.Span.{Span}
 use Rattle.trace_core.specs.History.{Step, every, events_in, tally_in}
 use Rattle.trace_core.specs.Reading.{HasTakenIn}
 use Rattle.trace_report.specs.declared.report.TraceOutcome.{TraceOutcome}
 use Rattle.trace_report.specs.declared.report.TraceOutcome.TheVariants.{Sound, Broken, NoEvents}
 use Rattle.trace_report.specs.Found.{AreHangs, is_reported, key_of}
-use Rattle.trace_report.specs.Report.{IsSound, IsVerdict, ReportsTrace, Shows, is_sound, whole}
+use Rattle.trace_report.specs.Report.{IsSound, IsVerdict, ReportsTrace, Shows, is_sound}
 
 module _ (steps : List Step) where
   none-listed : (key : FenceKey) → AreHangs steps [] → is_reported steps key ≡ true → ⊥
@@ -38,8 +39,8 @@ module _ (steps : List Step) where
       fine.none (key_of fence) ((hangs.are (key_of fence)).0 (0, omega arith, refl))
 
 -- the trace was read, and these are its steps
-module _ (t : Tracker) (text rest before after : Option (List ℕ)) (h : HasTakenIn whole t text rest) where
-  pub reported : (outcome : TraceOutcome) → Shows h.tracks.steps before after outcome → ReportsTrace text rest before after outcome
+module _ (span : Span) (t : Tracker) (text rest before after : Option (List ℕ)) (h : HasTakenIn span t text rest) where
+  pub reported : (outcome : TraceOutcome) → Shows h.tracks.steps before after outcome → ReportsTrace span text rest before after outcome
   reported outcome shows = record {
     items = h.items;
     seen = h.seen;
@@ -52,7 +53,7 @@ module _ (t : Tracker) (text rest before after : Option (List ℕ)) (h : HasTake
     shows = shows;
   }
 
-  pub judged : (outcome : TraceOutcome) → (events_in h.tracks.steps ≡ 0 → ⊥) → IsVerdict h.tracks.steps outcome → ReportsTrace text rest before after outcome
+  pub judged : (outcome : TraceOutcome) → (events_in h.tracks.steps ≡ 0 → ⊥) → IsVerdict h.tracks.steps outcome → ReportsTrace span text rest before after outcome
   judged Sound some verdict = reported Sound (some, verdict)
   judged Broken some verdict = reported Broken (some, verdict)
   judged NoEvents some verdict = absurd verdict

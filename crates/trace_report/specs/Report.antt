@@ -1,5 +1,5 @@
 -- What a report says of a whole trace.
-use Rattle.std.specs.Prelude.{◌≡◌, ◌==◌, ◌&&◌, ◌^◌, ◌-◌, ℕ, Bool, true, false, List, [], ◌∷◌, Option}
+use Rattle.std.specs.Prelude.{◌≡◌, ◌==◌, ◌&&◌, ℕ, Bool, true, false, List, [], ◌∷◌, Option}
 use Rattle.trace_core.specs.Item.{Meaning}
 use Rattle.trace_core.specs.Record.{Printed}
 use Rattle.trace_core.specs.declared.names.Names.{Names}
@@ -14,10 +14,6 @@ use Rattle.trace_core.specs.Tracker.{Saw}
 use Rattle.trace_report.specs.declared.report.TraceOutcome.{TraceOutcome}
 use Rattle.trace_report.specs.declared.report.TraceOutcome.TheVariants.{Sound, Broken, NoEvents}
 use Rattle.trace_report.specs.Found.{is_reported}
-
--- all times that a trace may have
-abbrev pub whole : Span
-whole = record { from = 0; to = 2 ^ 64 - 1 }
 
 -- no fence is reported as hanging, and no rule was broken
 pub record IsSound (steps : List Step) : Type 0 where
@@ -44,14 +40,14 @@ Shows steps before after NoEvents = (events_in steps ≡ 0) × (after ≡ before
 Shows steps before after Sound = (events_in steps ≡ 0 → ⊥) × IsSound steps
 Shows steps before after Broken = (events_in steps ≡ 0 → ⊥) × (IsSound steps → ⊥)
 
--- The trace was read to its end, and shows this. The newest items, events and steps come first.
-pub record ReportsTrace (text rest before after : Option (List ℕ)) (outcome : TraceOutcome) : Type 0 where
+-- The trace was read up to the end of the window, and shows this. The newest items, events and steps come first.
+pub record ReportsTrace (span : Span) (text rest before after : Option (List ℕ)) (outcome : TraceOutcome) : Type 0 where
   pub items : List Meaning
   pub seen : List (TrackedEvent × Printed)
   pub drivers : Names
   pub timelines : Names
   pub steps : List Step
-  pub window : HasReadWindow whole text rest items seen
+  pub window : HasReadWindow span text rest items seen
   pub saw : Saw drivers timelines items seen steps
   pub forgets : Forgets steps
   pub shows : Shows steps before after outcome

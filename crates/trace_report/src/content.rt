@@ -13,9 +13,26 @@ pub(crate) struct Content<'a> {
     pub(crate) hangs: &'a ByTimeline,
     /// The fences whose signals may have been lost, by timeline.
     pub(crate) unknown: &'a ByTimeline,
+    /// The last time of the text or of its window, in microseconds.
+    pub(crate) end: u64,
 }
 
 impl Content<'_> {
+    /// How long what began at `since` lasted up to the end.
+    pub(crate) fn length(&self, since: u64) -> u64 {
+        self.end.saturating_sub(since)
+    }
+
+    /// What to say before a length up to the end: nothing if the end is known. The last record of a kernel's trace says only that
+    /// the trace went on up to there.
+    pub(crate) fn bound(&self) -> &'static str {
+        if self.tracker.summary.has_end {
+            ""
+        } else {
+            "at least "
+        }
+    }
+
     /// How many fences of the timeline are pending, without fences that have no number yet.
     pub(crate) fn pending(&self, timeline: &TimelineKey) -> u64 {
         self.hangs

@@ -24,9 +24,9 @@ pub(crate) fn document_of(alloc: Global, content: Content<'_>) -> Result<Vec<u8>
 fn add_members(page: &mut JsonPage, content: Content<'_>) {
     let tracker = content.tracker;
     page.begin_object();
-    add_summary(page, &tracker.summary);
+    add_summary(page, content);
     add_events(page, tracker);
-    add_waits(page, tracker);
+    add_waits(page, content);
     add_totals(page, &tracker.ledger.total(), content.found);
     add_timelines(page, content);
     add_contexts(page, tracker);

@@ -65,6 +65,7 @@ fn write_trace<R: Read, W: Write>(
     if tracker.ledger.events() == 0 {
         return Ok(Written::NoEvents);
     }
-    chart.finish(tracker, writer)?;
+    let end = tracker.summary.latest.min(span.to);
+    chart.finish(tracker, end, writer)?;
     Ok(Written::Document)
 }

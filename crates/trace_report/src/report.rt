@@ -18,12 +18,6 @@ use std::alloc::Global;
 use std::io::{Read, Write};
 use trace_core::{Next, Pending, Span, StepHandler, Tally, Tracker, for_each_step};
 
-/// All of a trace's time.
-const ALL: Span = Span {
-    from: 0,
-    to: u64::MAX,
-};
-
 /// How a report is written.
 #[derive(Clone, Copy)]
 pub enum ReportForm {
@@ -57,23 +51,25 @@ impl StepHandler<()> for NoHandler {
     }
 }
 
-/// Reads a trace to its end, and writes the report.
+/// Reads a trace up to the end of a window, and writes the report. The window's beginning leaves nothing out: what was made before
+/// it may hang in it.
 ///
 /// Fails with `Read` or `Write` if the reader or the writer fails, and with `Memory`. After `Write` a prefix of the report may have
 /// been written; after `Read` and `Memory` nothing was. A text of more pieces than 64 bits count is refused with `Read`.
 pub fn report_trace<R: Read, W: Write>(
     alloc: Global,
     form: ReportForm,
+    span: Span,
     reader: &mut R,
     writer: &mut W,
 ) -> Result<TraceOutcome, Refusal>
     // The verdict follows from the events of the text, and nothing is written of a text without one.
-    ensures reported { IfOk result (ReportsTrace (R.remaining reader.old) (R.remaining reader.new)
+    ensures reported { IfOk result (ReportsTrace span (R.remaining reader.old) (R.remaining reader.new)
         (W.contents writer.old) (W.contents writer.new)) }
     ensures refusals { IfErr result (λ e. (e ≡ ReadFault) ⊎ (e ≡ WriteFault) ⊎ (e ≡ Memory)) }
 {
     let mut tracker = Tracker::new(alloc);
-    let outcome = read_and_report(alloc, form, &mut tracker, reader, writer);
+    let outcome = read_and_report(alloc, form, span, &mut tracker, reader, writer);
     drop(tracker);
     outcome
 }
@@ -81,21 +77,23 @@ pub fn report_trace<R: Read, W: Write>(
 fn read_and_report<R: Read, W: Write>(
     alloc: Global,
     form: ReportForm,
+    span: Span,
     tracker: &mut Tracker,
     reader: &mut R,
     writer: &mut W,
 ) -> Result<TraceOutcome, Refusal>
     requires fresh { Tracks tracker.old [] [] }
-    ensures reported { IfOk result (ReportsTrace (R.remaining reader.old) (R.remaining reader.new)
+    ensures reported { IfOk result (ReportsTrace span (R.remaining reader.old) (R.remaining reader.new)
         (W.contents writer.old) (W.contents writer.new)) }
     ensures refusals { IfErr result (λ e. (e ≡ ReadFault) ⊎ (e ≡ WriteFault) ⊎ (e ≡ Memory)) }
 {
-    for_each_step(ALL, tracker, reader, &mut NoHandler, &mut ())?;
+    for_each_step(span, tracker, reader, &mut NoHandler, &mut ())?;
     if tracker.ledger.events() == 0 {
         return Ok(TraceOutcome::NoEvents);
     }
     let found = PendingFences::new(alloc, &tracker.ledger)?;
-    let outcome = write_report(alloc, form, tracker, &found, writer);
+    let end = tracker.summary.latest.min(span.to);
+    let outcome = write_report(alloc, form, end, tracker, &found, writer);
     drop(found);
     outcome
 }
@@ -103,6 +101,7 @@ fn read_and_report<R: Read, W: Write>(
 fn write_report<W: Write>(
     alloc: Global,
     form: ReportForm,
+    end: u64,
     tracker: &Tracker,
     found: &PendingFences,
     writer: &mut W,
@@ -111,7 +110,7 @@ fn write_report<W: Write>(
         AreHangs steps found.now.hangs.items → IsVerdict steps outcome) }
     ensures refusals { IfErr result (λ e. (e ≡ WriteFault) ⊎ (e ≡ Memory)) }
 {
-    let report = report_of(alloc, form, tracker, found)?;
+    let report = report_of(alloc, form, end, tracker, found)?;
     write_whole(writer, report.as_slice())?;
     Ok(outcome_of(tracker, found))
 }
@@ -121,6 +120,7 @@ fn write_report<W: Write>(
 fn report_of(
     alloc: Global,
     form: ReportForm,
+    end: u64,
     tracker: &Tracker,
     found: &PendingFences,
 ) -> Result<Vec<u8>, Refusal>
@@ -133,6 +133,7 @@ fn report_of(
         found,
         hangs: &hangs,
         unknown: &unknown,
+        end,
     };
     let bytes = match form {
         ReportForm::Text => text_of(alloc, content)?,

@@ -4,7 +4,7 @@ use crate::by_timeline::ByTimeline;
 use crate::content::Content;
 use std::alloc::{AllocError, Global};
 use text_core::{Page, Part};
-use trace_core::{FenceKey, Pending, Summary, Tally, TimelineKey, Tracker, Wait};
+use trace_core::{Delay, FenceKey, Pending, Summary, Tally, TimelineKey, Tracker, Wait};
 
 /// The counts of what was read, the fences that hang, the waits, the broken rules, and what each timeline did.
 pub(crate) fn text_of(alloc: Global, content: Content<'_>) -> Result<Vec<u8>, AllocError> {
@@ -19,7 +19,7 @@ fn add_parts(page: &mut Page, content: Content<'_>) {
     add_losses(page, &tracker.summary);
     add_hangs(page, content);
     add_unknown(page, content);
-    add_waits(page, tracker);
+    add_waits(page, content);
     add_broken(page, &tracker.ledger.total());
     add_timelines(page, content);
 }
@@ -103,7 +103,7 @@ fn add_hangs(page: &mut Page, content: Content<'_>) {
         "\nwhat hangs: # made or emitted, and never signalled\n",
         &[Part::Number(hangs.len() as u64)],
     );
-    add_pending(page, content.tracker, content.hangs);
+    add_pending(page, content, content.hangs);
     if hangs.len() > 1 {
         page.add("  The first is ", &[]);
         add_fence(page, content.tracker, &first.key);
@@ -120,33 +120,36 @@ fn add_unknown(page: &mut Page, content: Content<'_>) {
         "\nnot known: # made or emitted before events were lost; their signals may be among those\n",
         content.found.unknown.len() as u64,
     );
-    add_pending(page, content.tracker, content.unknown);
+    add_pending(page, content, content.unknown);
 }
 
 /// The fences of each timeline.
-fn add_pending(page: &mut Page, tracker: &Tracker, pending: &ByTimeline) {
+fn add_pending(page: &mut Page, content: Content<'_>, pending: &ByTimeline) {
     for (_, fences) in pending.fences().iter() {
-        add_each(page, tracker, fences.as_slice());
+        add_each(page, content, fences.as_slice());
     }
 }
 
 /// The fences, each with the tasks that wait for it.
-fn add_each(page: &mut Page, tracker: &Tracker, fences: &[Pending]) {
+fn add_each(page: &mut Page, content: Content<'_>, fences: &[Pending]) {
     for fence in fences {
-        add_one(page, tracker, fence);
+        add_one(page, content, fence);
     }
 }
 
 /// A fence, and a line for each task that waits for it.
-fn add_one(page: &mut Page, tracker: &Tracker, fence: &Pending) {
-    let length = tracker.latest().saturating_sub(fence.since);
+fn add_one(page: &mut Page, content: Content<'_>, fence: &Pending) {
     page.add("  ", &[]);
-    add_fence(page, tracker, &fence.key);
+    add_fence(page, content.tracker, &fence.key);
     page.add(
-        " since # for # s\n",
-        &[Part::Seconds(fence.since), Part::Seconds(length)],
+        " since # for ## s\n",
+        &[
+            Part::Seconds(fence.since),
+            Part::Text(content.bound()),
+            Part::Seconds(content.length(fence.since)),
+        ],
     );
-    for (_, wait) in tracker.waits.open().iter() {
+    for (_, wait) in content.tracker.waits.open().iter() {
         if wait.key == fence.key {
             add_waiter(page, wait);
         }
@@ -177,21 +180,23 @@ fn add_fence(page: &mut Page, tracker: &Tracker, key: &FenceKey) {
     );
 }
 
-fn add_waits(page: &mut Page, tracker: &Tracker) {
+fn add_waits(page: &mut Page, content: Content<'_>) {
     page.add(
         "\nwho waits: # not ended\n",
-        &[Part::Number(tracker.waits.open().len() as u64)],
+        &[Part::Number(content.tracker.waits.open().len() as u64)],
     );
-    add_open(page, tracker);
-    add_ended(page, tracker);
-    add_longest(page, tracker);
+    add_open(page, content);
+    if content.tracker.waits.ended().count > 0 {
+        add_ended(page, content.tracker);
+        add_longest(page, content.tracker);
+    }
 }
 
-/// The waits that have not ended, as long as they are at the end of the text.
-fn add_open(page: &mut Page, tracker: &Tracker) {
-    for (_, wait) in tracker.waits.open().iter() {
-        let length = tracker.latest().saturating_sub(wait.start);
-        add_wait(page, tracker, wait, length);
+/// The waits that have not ended, as long as they are at the end.
+fn add_open(page: &mut Page, content: Content<'_>) {
+    for (_, wait) in content.tracker.waits.open().iter() {
+        page.add("  #", &[Part::Text(content.bound())]);
+        add_wait(page, content.tracker, wait, content.length(wait.start));
     }
 }
 
@@ -210,13 +215,14 @@ fn add_ended(page: &mut Page, tracker: &Tracker) {
 /// The longest waits that ended.
 fn add_longest(page: &mut Page, tracker: &Tracker) {
     for wait in tracker.waits.longest() {
+        page.add("  ", &[]);
         add_wait(page, tracker, wait, wait.length);
     }
 }
 
 fn add_wait(page: &mut Page, tracker: &Tracker, wait: &Wait, length: u64) {
     page.add(
-        "  # s #-# for ",
+        "# s #-# for ",
         &[
             Part::Seconds(length),
             Part::Literal(wait.task.as_bytes()),
@@ -267,17 +273,31 @@ fn add_timeline(page: &mut Page, content: Content<'_>, key: &TimelineKey, tally:
     let (driver, timeline) = content.tracker.names(key);
     let delay = content.tracker.delays.delay(key);
     page.add(
-        "  #/#: # contexts, # made, # signalled, # pending; median #, 95 % #, longest #\n",
+        "  #/#: # #, # made, # signalled, # pending; median #, 95 % #, longest #\n",
         &[
             Part::Literal(driver),
             Part::Literal(timeline),
             Part::Number(tally.contexts),
+            Part::Text(contexts(tally.contexts)),
             Part::Number(tally.events.init),
             Part::Number(tally.events.signaled),
             Part::Number(content.pending(key)),
-            Part::Seconds(delay.median),
-            Part::Seconds(delay.percentile_95),
-            Part::Seconds(delay.longest),
+            seconds(&delay, delay.median),
+            seconds(&delay, delay.percentile_95),
+            seconds(&delay, delay.longest),
         ],
     );
+}
+
+fn contexts(count: u64) -> &'static str {
+    if count == 1 { "context" } else { "contexts" }
+}
+
+/// A time of signalling, or `-` if no fence of the timeline was signalled.
+fn seconds<'a>(delay: &Delay, time: u64) -> Part<'a> {
+    if delay.count > 0 {
+        Part::Seconds(time)
+    } else {
+        Part::Text("-")
+    }
 }

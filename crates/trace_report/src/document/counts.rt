@@ -1,11 +1,13 @@
 //! The members on what was read, and on what all fences did.
 
+use crate::content::Content;
 use crate::found::PendingFences;
 use text_core::JsonPage;
 use trace_core::{Summary, Tally, Tracker};
 
 /// Totals read and lost.
-pub(crate) fn add_summary(page: &mut JsonPage, summary: &Summary) {
+pub(crate) fn add_summary(page: &mut JsonPage, content: Content<'_>) {
+    let summary = &content.tracker.summary;
     page.numbers(
         "bytes lines unread_lines records_over_two_lines other_records late_buffers",
         &[
@@ -22,6 +24,10 @@ pub(crate) fn add_summary(page: &mut JsonPage, summary: &Summary) {
             "first_event_us last_event_us times_going_back",
             &[clock.first, clock.latest, clock.steps_back],
         );
+    }
+    page.numbers("until_us", &[content.end]);
+    if summary.has_end {
+        page.numbers("end_us", &[content.end]);
     }
     add_losses(page, summary);
 }

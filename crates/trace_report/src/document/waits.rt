@@ -1,11 +1,13 @@
 //! The members on waits: the longest, the unfinished, and sums by timeline.
 
+use crate::content::Content;
 use crate::document::add_fence;
 use text_core::JsonPage;
 use trace_core::{TimelineKey, Tracker, Wait, WaitSum};
 
 /// The member on waits.
-pub(crate) fn add_waits(page: &mut JsonPage, tracker: &Tracker) {
+pub(crate) fn add_waits(page: &mut JsonPage, content: Content<'_>) {
+    let tracker = content.tracker;
     let waits = &tracker.waits;
     let events = tracker.ledger.total().events;
     page.object("waits");
@@ -21,7 +23,7 @@ pub(crate) fn add_waits(page: &mut JsonPage, tracker: &Tracker) {
         ],
     );
     add_longest(page, tracker);
-    add_open(page, tracker);
+    add_open(page, content);
     add_sums(page, tracker);
     page.end_object();
 }
@@ -35,12 +37,11 @@ fn add_longest(page: &mut JsonPage, tracker: &Tracker) {
     page.end_array();
 }
 
-/// The waits that have not ended, as long as they are at the end of the text.
-fn add_open(page: &mut JsonPage, tracker: &Tracker) {
+/// The waits that have not ended, as long as they are at the end.
+fn add_open(page: &mut JsonPage, content: Content<'_>) {
     page.array("unfinished");
-    for (_, wait) in tracker.waits.open().iter() {
-        let length = tracker.latest().saturating_sub(wait.start);
-        add_wait(page, tracker, wait, length);
+    for (_, wait) in content.tracker.waits.open().iter() {
+        add_wait(page, content.tracker, wait, content.length(wait.start));
     }
     page.end_array();
 }
@@ -61,8 +62,7 @@ pub(crate) fn add_task(page: &mut JsonPage, wait: &Wait) {
 
 /// The sums of each timeline.
 fn add_sums(page: &mut JsonPage, tracker: &Tracker) {
-    let name = "by_timeline_count_total_longest_us";
-    page.object(name);
+    page.object("by_timeline");
     for (key, sum) in tracker.waits.by_timeline().iter() {
         add_sum(page, tracker, key, sum);
     }
@@ -72,9 +72,10 @@ fn add_sums(page: &mut JsonPage, tracker: &Tracker) {
 fn add_sum(page: &mut JsonPage, tracker: &Tracker, key: &TimelineKey, sum: &WaitSum) {
     let (driver, timeline) = tracker.names(key);
     page.key_of_two(driver, timeline);
-    page.begin_array();
-    page.number(sum.count);
-    page.number(sum.total);
-    page.number(sum.longest);
-    page.end_array();
+    page.begin_object();
+    page.numbers(
+        "count total_us longest_us",
+        &[sum.count, sum.total, sum.longest],
+    );
+    page.end_object();
 }

@@ -239,16 +239,16 @@ impl Chart {
         Ok(())
     }
 
-    /// Adds the losses since the last event, the pending fences, the unfinished waits and the end of the document, and writes
-    /// all.
+    /// Adds the losses since the last event, the pending fences, the unfinished waits and the end, at a time in microseconds, and
+    /// writes all.
     pub(crate) fn finish<W: Write>(
         &mut self,
         tracker: &Tracker,
+        time: u64,
         writer: &mut W,
     ) -> Result<(), Refusal>
         ensures refusals { IfErr result (λ e. (e ≡ WriteFault) ⊎ (e ≡ Memory)) }
     {
-        let time = tracker.latest();
         self.add_losses(time);
         self.write_pending(tracker, time, writer)?;
         self.write_waits(tracker, time, writer)?;
