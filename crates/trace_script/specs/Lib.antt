@@ -1,4 +1,2 @@
-pub mod Acts
 pub mod Line
-pub mod Names
 pub mod Scripted

@@ -4,17 +4,14 @@
 //! Only memory can be refused, so the error is `AllocError` where no list of the tracker is asked for.
 ghost use Rattle.std.specs.Prelude.{◌≡◌, IfErr, nat_lt, vec_len};
 ghost use Rattle.point_core.specs.declared.refusal.Refusal.TheVariants.{Memory};
-ghost use Rattle.trace_script.specs.Acts.{place_of};
 ghost use Rattle.trace_script.specs.declared.acts.TheConstants.{ACTS};
 
-use crate::safe_names::SafeNames;
 use indexmap::IndexMap;
 use line_core::SCRIPT_BYTES;
 use point_core::Refusal;
 use std::alloc::{AllocError, Global};
 use trace_core::{
-    Event, FenceKey, Ledger, Life, Next, StepHandler, TaskName, TrackedEvent, Tracker, Wait,
-    pending_of,
+    Event, FenceKey, Life, Next, StepHandler, TaskName, TrackedEvent, Tracker, Wait, pending_of,
 };
 
 /// The bytes of the shortest line of a script that acts.
@@ -23,61 +20,60 @@ const SHORTEST_LINE: usize = 8;
 /// A script holds at most this many acts.
 const ACTS: usize = SCRIPT_BYTES / SHORTEST_LINE;
 
-/// A fence of the script.
+/// A fence of the window.
 #[derive(Clone, Copy)]
 pub(crate) struct ScriptFence {
     pub(crate) key: FenceKey,
-    /// The place of its timeline.
-    pub(crate) timeline: usize,
-    /// Its point there, from 1; 0 while it is not signalled, until `number_the_rest`.
-    pub(crate) point: u64,
+    pub(crate) is_signalled: bool,
+    /// Whether it was destroyed, so that its key may be another fence's.
+    pub(crate) is_closed: bool,
 }
 
-/// What happened. A fence is named by its place.
+/// A task that waits.
 #[derive(Clone, Copy)]
-pub(crate) enum TraceAct {
-    Make(usize),
-    Signal(usize),
-    Close(usize),
-    /// A task began to wait, at that time in microseconds.
-    Wait {
-        fence: usize,
-        task: TaskName,
-        pid: u32,
-        time: u64,
-    },
+pub(crate) struct Waiter {
+    pub(crate) task: TaskName,
+    pub(crate) pid: u32,
 }
 
-impl TraceAct {
-    /// The place of its fence.
-    pub(crate) fn fence(&self) -> usize
-        ensures place { result ≡ place_of self.now }
-    {
-        match self {
-            TraceAct::Make(place) => *place,
-            TraceAct::Signal(place) => *place,
-            TraceAct::Close(place) => *place,
-            TraceAct::Wait {
-                fence,
-                task: _,
-                pid: _,
-                time: _,
-            } => *fence,
-        }
+/// What happened to a fence.
+#[derive(Clone, Copy)]
+pub(crate) enum ActKind {
+    Make,
+    Signal,
+    Close,
+    /// A task began to wait.
+    Wait(Waiter),
+    /// The wait of a task ended.
+    Waited(Waiter),
+}
+
+impl ActKind {
+    /// Whether it is a wait's beginning or end.
+    pub(crate) fn is_wait(&self) -> bool {
+        matches!(self, ActKind::Wait(_) | ActKind::Waited(_))
     }
+}
+
+/// What happened to the fence at a place.
+#[derive(Clone, Copy)]
+pub(crate) struct TraceAct {
+    pub(crate) fence: usize,
+    pub(crate) kind: ActKind,
+    /// When it happened, in microseconds, or none if that was before the window.
+    pub(crate) time: Option<u64>,
 }
 
 /// What happened in a window.
 #[derive(Drop)]
 pub(crate) struct Acts {
     alloc: Global,
-    pub(crate) names: SafeNames,
     pub(crate) fences: Vec<ScriptFence>,
     pub(crate) acts: Vec<TraceAct>,
     // the places of the fences that are alive
     open: IndexMap<FenceKey, usize>,
-    // how many fences of each timeline were signalled
-    signalled: Vec<u64>,
+    // the time of the event that is added, or none before the window
+    time: Option<u64>,
 }
 
 impl StepHandler<()> for Acts {
@@ -101,11 +97,10 @@ impl Acts {
     pub(crate) fn new(alloc: Global) -> Acts {
         Acts {
             alloc,
-            names: SafeNames::new(alloc),
             fences: Vec::new(alloc),
             acts: Vec::new(alloc),
             open: IndexMap::new(alloc),
-            signalled: Vec::new(alloc),
+            time: None,
         }
     }
 
@@ -123,7 +118,7 @@ impl Acts {
         let mut earlier = pending_of(self.alloc, &tracker.ledger)?;
         earlier.sort()?;
         for fence in earlier.as_slice() {
-            self.make(tracker, fence.key)?;
+            self.make(fence.key)?;
         }
         Ok(())
     }
@@ -131,18 +126,19 @@ impl Acts {
     /// Adds what an event of the window does.
     fn see(&mut self, tracker: &Tracker, seen: &TrackedEvent) -> Result<(), AllocError> {
         let key = seen.event.key;
-        self.follow(tracker, key, tracker.ledger.life(&key))?;
-        match (seen.event.kind, seen.wait) {
-            (Event::WaitStart, Some(wait)) => self.wait(&wait),
-            _ => Ok(()),
+        self.time = Some(seen.event.time);
+        self.follow(key, tracker.ledger.life(&key))?;
+        match seen.wait {
+            Some(wait) => self.wait(seen.event.kind, &wait),
+            None => Ok(()),
         }
     }
 
     /// Adds the act that leads to `life`, the key's state after one of its events.
-    fn follow(&mut self, tracker: &Tracker, key: FenceKey, life: Life) -> Result<(), AllocError> {
+    fn follow(&mut self, key: FenceKey, life: Life) -> Result<(), AllocError> {
         let Some(place) = self.place(&key) else {
             if life.is_pending() {
-                return self.make(tracker, key);
+                return self.make(key);
             }
             return Ok(());
         };
@@ -150,35 +146,25 @@ impl Acts {
             self.signal(place)?;
         }
         if life.is_over() {
-            self.open.swap_remove(&key);
-            return self.push(TraceAct::Close(place));
+            return self.close(&key, place);
         }
         Ok(())
     }
 
-    /// Adds that a wait began.
-    fn wait(&mut self, wait: &Wait) -> Result<(), AllocError> {
+    /// Adds that a wait began or ended.
+    fn wait(&mut self, event: Event, wait: &Wait) -> Result<(), AllocError> {
+        let waiter = Waiter {
+            task: wait.task,
+            pid: wait.pid,
+        };
+        let kind = if matches!(event, Event::WaitStart) {
+            ActKind::Wait(waiter)
+        } else {
+            ActKind::Waited(waiter)
+        };
         match self.place(&wait.key) {
-            Some(fence) => self.push(TraceAct::Wait {
-                fence,
-                task: wait.task,
-                pid: wait.pid,
-                time: wait.start,
-            }),
+            Some(place) => self.push(place, kind),
             None => Ok(()),
-        }
-    }
-
-    /// Gives the fences that were not signalled the points after the last signalled one. A fence that its driver has not
-    /// numbered gets no point.
-    pub(crate) fn number_the_rest(&mut self, ledger: &Ledger) {
-        for fence in self.fences.as_mut_slice() {
-            if fence.point == 0 && !ledger.is_unnumbered(&fence.key) {
-                if let Some(count) = self.signalled.get_mut(fence.timeline) {
-                    *count = count.saturating_add(1);
-                    fence.point = *count;
-                }
-            }
         }
     }
 
@@ -186,45 +172,45 @@ impl Acts {
         self.open.get(key).copied()
     }
 
-    fn make(&mut self, tracker: &Tracker, key: FenceKey) -> Result<(), AllocError> {
-        let timeline_key = key.timeline_key();
-        let (_, raw) = tracker.names(&timeline_key);
-        let timeline = self.names.place(self.alloc, timeline_key, raw)?;
-        if timeline >= self.signalled.len() {
-            self.signalled.push(0)?;
-        }
+    fn make(&mut self, key: FenceKey) -> Result<(), AllocError> {
         let place = self.fences.len();
         let fence = ScriptFence {
             key,
-            timeline,
-            point: 0,
+            is_signalled: false,
+            is_closed: false,
         };
         self.fences.push(fence)?;
         if self.open.insert(key, place).is_err() {
             return Err(AllocError);
         }
-        self.push(TraceAct::Make(place))
+        self.push(place, ActKind::Make)
     }
 
     fn signal(&mut self, place: usize) -> Result<(), AllocError> {
         let Some(fence) = self.fences.get_mut(place) else {
             return Ok(());
         };
-        if fence.point > 0 {
+        if fence.is_signalled {
             return Ok(());
         }
-        if let Some(count) = self.signalled.get_mut(fence.timeline) {
-            *count = count.saturating_add(1);
-            fence.point = *count;
-        }
-        self.push(TraceAct::Signal(place))
+        fence.is_signalled = true;
+        self.push(place, ActKind::Signal)
     }
 
-    fn push(&mut self, act: TraceAct) -> Result<(), AllocError> {
+    fn close(&mut self, key: &FenceKey, place: usize) -> Result<(), AllocError> {
+        self.open.swap_remove(key);
+        if let Some(fence) = self.fences.get_mut(place) {
+            fence.is_closed = true;
+        }
+        self.push(place, ActKind::Close)
+    }
+
+    fn push(&mut self, fence: usize, kind: ActKind) -> Result<(), AllocError> {
         if self.are_too_many() {
             return Ok(());
         }
-        self.acts.push(act)?;
+        let time = self.time;
+        self.acts.push(TraceAct { fence, kind, time })?;
         Ok(())
     }
 }

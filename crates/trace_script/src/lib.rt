@@ -8,5 +8,7 @@ mod acts;
 mod line;
 mod safe_names;
 mod text;
+mod timelines;
 
 pub use text::{Scripted, script_of_trace};
+pub use timelines::ScriptFences;

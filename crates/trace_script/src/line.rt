@@ -1,57 +1,47 @@
 //! `TraceLine`: a line of the script, with its text by `specs/Line.antt`. `ScriptDraft` adds the lines in the order of the acts.
-ghost use Rattle.std.specs.Prelude.{◌≡◌, ◌++◌, true, IfOk, OnOk, take};
-ghost use Rattle.point_core.specs.Name.{IsName};
-ghost use Rattle.text_core.specs.Part.{text_of};
-ghost use Rattle.trace_script.specs.Line.{file_text, line_text, said};
+ghost use Rattle.std.specs.Prelude.{◌≡◌, ◌++◌, OnOk, take};
+ghost use Rattle.trace_script.specs.Line.{context_noted, line_text, said, timeline_text, verb};
 
-use point_core::Name;
-use std::alloc::{AllocError, Global};
+use std::alloc::AllocError;
 use text_core::{Part, push_parts};
 
 /// The bytes of a name that a note has, so that its line is short enough.
 const NOTED_BYTES: usize = 64;
 
-/// A fence's file. Its name is made of its timeline's name in the script, its context and its seqno.
-#[derive(Clone, Copy)]
-pub(crate) struct FenceFile<'a> {
-    pub(crate) timeline: &'a [u8],
-    pub(crate) context: u32,
-    pub(crate) seqno: u32,
-}
-
-impl FenceFile<'_> {
-    /// Whether the file's name is one that a script may have.
-    pub(crate) fn is_named(&self, alloc: Global) -> Result<bool, AllocError>
-        ensures named { IfOk result (λ named. named ≡ true → IsName (file_text self.now)) }
-    {
-        let mut name = Vec::new(alloc);
-        push_file(&mut name, self)?;
-        Ok(Name::read(name.as_slice()).is_some())
-    }
-}
-
-/// A line of a script.
+/// A line of a script. Names of files and timelines are the script's.
 #[derive(Clone, Copy)]
 pub(crate) enum TraceLine<'a> {
-    /// A note with the names of a driver and a timeline, and the timeline of the script for it.
+    /// A note: what follows happened at that time, in microseconds.
+    Time(u64),
+    /// A note with the names of a driver and a timeline, and its context if it is one of several; and the timeline of the script.
     Timeline {
         driver: &'a [u8],
         raw: &'a [u8],
+        context: Option<u32>,
         name: &'a [u8],
     },
-    /// A fence of its timeline at that point.
-    Fence(FenceFile<'a>, u64),
+    /// A note: the fence is not signalled up to the end, so its point is none of the trace.
+    Unsignalled(&'a [u8]),
+    /// A fence of a timeline at that point.
+    Fence {
+        file: &'a [u8],
+        timeline: &'a [u8],
+        point: u64,
+    },
     /// One more fence of the timeline of that name is signalled.
     Signal(&'a [u8]),
     /// A fence is destroyed.
-    Close(FenceFile<'a>),
-    /// A note: a task began to wait at that time, in microseconds.
+    Close(&'a [u8]),
+    /// A note: a task began to wait at that time, in microseconds, or its wait ended.
     Wait {
-        file: FenceFile<'a>,
+        file: &'a [u8],
         task: &'a [u8],
         pid: u32,
         time: u64,
+        is_over: bool,
     },
+    /// A note: the trace ends at that time.
+    End(u64),
 }
 
 /// Adds the line.
@@ -59,25 +49,35 @@ pub(crate) fn push_line(text: &mut Vec<u8>, line: &TraceLine<'_>) -> Result<(), 
     ensures added { OnOk result (text.new.items ≡ text.old.items ++ line_text (said line.now)) }
 {
     match line {
-        TraceLine::Timeline { driver, raw, name } => push_parts(
+        TraceLine::Time(time) => push_parts(
+            text,
+            &[Part::Text("# "), Part::Seconds(*time), Part::Text("\n")],
+        ),
+        TraceLine::Timeline {
+            driver,
+            raw,
+            context,
+            name,
+        } => push_timeline(text, driver, raw, *context, name),
+        TraceLine::Unsignalled(file) => push_parts(
             text,
             &[
                 Part::Text("# "),
-                Part::Noted(front(driver)),
-                Part::Text("/"),
-                Part::Noted(front(raw)),
-                Part::Text("\ntimeline "),
-                Part::Bytes(name),
-                Part::Text("\n"),
+                Part::Bytes(file),
+                Part::Text(" is not signalled\n"),
             ],
         ),
-        TraceLine::Fence(file, point) => push_around(
-            text,
-            &[Part::Text("fence ")],
+        TraceLine::Fence {
             file,
+            timeline,
+            point,
+        } => push_parts(
+            text,
             &[
+                Part::Text("fence "),
+                Part::Bytes(file),
                 Part::Text(" "),
-                Part::Bytes(file.timeline),
+                Part::Bytes(timeline),
                 Part::Text(" "),
                 Part::Number(*point),
                 Part::Text("\n"),
@@ -87,18 +87,17 @@ pub(crate) fn push_line(text: &mut Vec<u8>, line: &TraceLine<'_>) -> Result<(), 
             text,
             &[Part::Text("inc "), Part::Bytes(name), Part::Text(" 1\n")],
         ),
-        TraceLine::Close(file) => push_around(
+        TraceLine::Close(file) => push_parts(
             text,
-            &[Part::Text("close ")],
-            file,
-            &[Part::Text("\n")],
+            &[Part::Text("close "), Part::Bytes(file), Part::Text("\n")],
         ),
         TraceLine::Wait {
             file,
             task,
             pid,
             time,
-        } => push_around(
+            is_over,
+        } => push_parts(
             text,
             &[
                 Part::Text("# "),
@@ -107,41 +106,70 @@ pub(crate) fn push_line(text: &mut Vec<u8>, line: &TraceLine<'_>) -> Result<(), 
                 Part::Noted(front(task)),
                 Part::Text("-"),
                 Part::Number(u64::from(*pid)),
-                Part::Text(" waits for "),
+                Part::Text(verb(*is_over)),
+                Part::Bytes(file),
+                Part::Text("\n"),
             ],
-            file,
-            &[Part::Text("\n")],
+        ),
+        TraceLine::End(time) => push_parts(
+            text,
+            &[Part::Text("# "), Part::Seconds(*time), Part::Text(" end\n")],
         ),
     }
 }
 
-/// Adds the parts before the name of a file, the name, and the parts after it.
-fn push_around(
+fn push_timeline<'a>(
     text: &mut Vec<u8>,
-    before: &[Part<'_>],
-    file: &FenceFile<'_>,
-    after: &[Part<'_>],
+    driver: &'a [u8],
+    raw: &'a [u8],
+    context: Option<u32>,
+    name: &'a [u8],
 ) -> Result<(), AllocError>
     ensures added { OnOk result (text.new.items ≡
-        text.old.items ++ (text_of before.now ++ (file_text file.now ++ text_of after.now))) }
+        text.old.items ++ timeline_text driver.now raw.now context name.now) }
 {
-    push_parts(text, before)?;
-    push_file(text, file)?;
-    push_parts(text, after)?;
-    Ok(())
+    push_parts(
+        text,
+        &[
+            Part::Text("# "),
+            Part::Noted(front(driver)),
+            Part::Text("/"),
+            Part::Noted(front(raw)),
+        ],
+    )?;
+    push_context(text, context)?;
+    push_parts(
+        text,
+        &[
+            Part::Text("\ntimeline "),
+            Part::Bytes(name),
+            Part::Text("\n"),
+        ],
+    )
 }
 
-fn push_file(text: &mut Vec<u8>, file: &FenceFile<'_>) -> Result<(), AllocError>
-    ensures added { OnOk result (text.new.items ≡ text.old.items ++ file_text file.now) }
+/// Adds which context of several it is.
+fn push_context(text: &mut Vec<u8>, context: Option<u32>) -> Result<(), AllocError>
+    ensures added { OnOk result (text.new.items ≡ text.old.items ++ context_noted context) }
 {
-    let parts = [
-        Part::Bytes(file.timeline),
-        Part::Text("."),
-        Part::Number(u64::from(file.context)),
-        Part::Text("."),
-        Part::Number(u64::from(file.seqno)),
-    ];
-    push_parts(text, &parts)
+    match context {
+        Some(context) => push_parts(
+            text,
+            &[Part::Text(" context "), Part::Number(u64::from(context))],
+        ),
+        None => push_parts(text, &[]),
+    }
+}
+
+/// What the note on a wait says of its task.
+fn verb(is_over: bool) -> &'static str
+    ensures verb { result.now ≡ verb is_over }
+{
+    if is_over {
+        " waited for "
+    } else {
+        " waits for "
+    }
 }
 
 /// The bytes of a name that a note has.

@@ -1,7 +1,5 @@
-//! `SafeNames`: a name of the script for each timeline of the trace. No two timelines have the same name, and each name is valid.
-ghost use Rattle.std.specs.Prelude.{◌≡◌, IfSome, option_map};
-ghost use Rattle.point_core.specs.Name.{IsName};
-ghost use Rattle.trace_script.specs.Names.{key_at, name_at};
+//! `SafeNames`: a name for each timeline of the trace, with which the names of the script begin. No two timelines have the same
+//! name. A name has no `.`, so a context and a seqno can follow it behind points.
 
 use indexmap::{IndexMap, IndexSet};
 use point_core::Name;
@@ -14,10 +12,10 @@ pub(crate) const SAFE_BYTES: usize = 9;
 
 const _: () = prove!(SAFE_BYTES == 9);
 
-/// The timelines of a script, each with its name there.
+/// The names of timelines.
 #[derive(Drop)]
 pub(crate) struct SafeNames {
-    by_key: IndexMap<TimelineKey, usize>,
+    by_key: IndexMap<TimelineKey, Name>,
     names: IndexSet<Name>,
 }
 
@@ -30,46 +28,24 @@ impl SafeNames {
         }
     }
 
-    /// The timeline at `place`.
-    pub(crate) fn key(&self, place: usize) -> Option<&TimelineKey>
-        ensures key { option_map (λ key. key.now) result ≡ key_at self.now place }
-    {
-        match self.by_key.get_index(place) {
-            Some(entry) => Some(entry.0),
-            None => None,
-        }
-    }
-
-    /// The name at `place`.
-    pub(crate) fn name(&self, place: usize) -> Option<&[u8]>
-        ensures name { option_map (λ name. name.now) result ≡ name_at self.now place }
-        ensures valid { IfSome result (λ name. IsName name.now) }
-    {
-        match self.names.get_index(place) {
-            Some(name) => Some(name.as_bytes()),
-            None => None,
-        }
-    }
-
-    /// The timeline's place, which gets one with a name if it has none.
-    pub(crate) fn place(
+    /// The name of the timeline, which gets one if it has none.
+    pub(crate) fn name(
         &mut self,
         alloc: Global,
         key: TimelineKey,
         raw: &[u8],
-    ) -> Result<usize, AllocError> {
-        if let Some(place) = self.by_key.get(&key) {
-            return Ok(*place);
+    ) -> Result<Name, AllocError> {
+        if let Some(name) = self.by_key.get(&key) {
+            return Ok(*name);
         }
-        let place = self.names.len();
         let name = self.free_name(alloc, raw)?;
         if self.names.insert(name).is_err() {
             return Err(AllocError);
         }
-        if self.by_key.insert(key, place).is_err() {
+        if self.by_key.insert(key, name).is_err() {
             return Err(AllocError);
         }
-        Ok(place)
+        Ok(name)
     }
 
     /// The first bytes of the name, or `t` and a number if another timeline has them.
@@ -96,7 +72,7 @@ impl SafeNames {
     }
 }
 
-/// The first bytes of a name, with `_` for each byte that no name of a script may hold, or none of an empty one.
+/// The first bytes of a name, with `_` for each byte that these names may not hold, or none of an empty one.
 fn safe(raw: &[u8]) -> Option<Name> {
     let mut bytes = [b'_'; SAFE_BYTES];
     for (place, byte) in raw.iter().enumerate() {
@@ -117,5 +93,5 @@ fn numbered(alloc: Global, number: u32) -> Result<Option<Name>, AllocError> {
 }
 
 fn is_safe(byte: u8) -> bool {
-    byte.is_ascii_alphanumeric() || byte == b'_' || byte == b'.' || byte == b'-'
+    byte.is_ascii_alphanumeric() || byte == b'_' || byte == b'-'
 }
