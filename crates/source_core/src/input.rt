@@ -13,6 +13,9 @@ use std::{fs, io};
 /// The argument that names standard input.
 pub const STANDARD_INPUT: &str = "-";
 
+/// The system's error number for a folder in the place of a file.
+const EISDIR: i32 = 21;
+
 /// Where a script or a trace comes from.
 #[derive(Clone, Copy)]
 pub enum Input<'a> {
@@ -48,7 +51,7 @@ pub enum Source<'r, 'a, R: Files, S> {
 impl<'r, 'a, R: Files + Eprint, S: Read + Drop> Source<'r, 'a, R, S> {
     /// Opens an input.
     ///
-    /// Fails with `Read` if it can't be opened.
+    /// Fails with `Read` if it can't be opened, or if it is a folder: then the reason is reported.
     pub fn open(
         rt: &'r R,
         input: Input<'a>,
@@ -60,7 +63,7 @@ impl<'r, 'a, R: Files + Eprint, S: Read + Drop> Source<'r, 'a, R, S> {
     {
         match input {
             Input::StandardInput => Ok(Source::StandardInput(standard_input)),
-            Input::File(name) => match reported(rt, name, fs::open(rt, name)) {
+            Input::File(name) => match reported(rt, name, open_file(rt, name)) {
                 Ok(file) => Ok(Source::File { rt, name, file }),
                 Err(_) => Err(Refusal::Read),
             },
@@ -78,6 +81,21 @@ impl<'r, 'a, R: Files + Eprint, S: Read + Drop> Read for Source<'r, 'a, R, S> {
             Source::StandardInput(reader) => reader.read(buf),
             Source::File { rt, name, file } => reported(*rt, *name, file.read(buf)),
         }
+    }
+}
+
+/// Opens a file. The system opens a folder too, and refuses only its reading.
+fn open_file<R: Files>(rt: &R, name: &str) -> io::Result<R::File> {
+    if is_folder(rt, name) {
+        return Err(io::Error::from_raw_os_error(EISDIR));
+    }
+    fs::open(rt, name)
+}
+
+fn is_folder(rt: &impl Files, name: &str) -> bool {
+    match fs::metadata(rt, name) {
+        Ok(found) => found.is_dir(),
+        Err(_) => false,
     }
 }
 

@@ -1,4 +1,4 @@
-//! Expands paths to scripts: a folder is expanded to the scripts below it.
+//! Expands paths to scripts: a folder is expanded to the scripts below it. Names lose the `NAME/..` that build systems put in.
 use crate::input::{STANDARD_INPUT, reported};
 use std::alloc::{AllocError, Global};
 use std::fs::{DirEntry, ReadDir};
@@ -8,9 +8,13 @@ use std::{fs, io};
 /// The ending of a script's file name.
 const SUFFIX: &str = ".fence";
 
+/// The step out of a folder, in the middle of a path.
+const UP: &str = "/../";
+
 /// The scripts at the given paths, in order: for a folder the files below it whose names end with `.fence`, sorted by
 /// their bytes, and for any other path the path itself. A link to a folder is followed if it is one of the paths, but
-/// not below one. A folder that can't be listed is returned as a path, so that reading it fails and reports why.
+/// not below one. A folder that can't be listed is returned as a path, so that reading it fails and reports why. A path with
+/// `NAME/..` in it is shortened where that leads to the same file.
 ///
 /// Fails if memory was refused.
 pub fn script_files<R: Files + Eprint + AllocGlobal + Clone + Drop>(
@@ -22,10 +26,61 @@ pub fn script_files<R: Files + Eprint + AllocGlobal + Clone + Drop>(
         if *path == STANDARD_INPUT {
             push_name(rt, STANDARD_INPUT, &mut files)?;
         } else {
-            add_path(rt, path, &mut files)?;
+            let short = short_path(rt, path)?;
+            add_path(rt, short.as_str(), &mut files)?;
         }
     }
     Ok(files)
+}
+
+/// The path without `NAME/..`, or as it is if that would lead to another file, as it does where NAME is a link.
+fn short_path<R: Files + AllocGlobal>(rt: &R, path: &str) -> Result<String, AllocError> {
+    if path.contains(UP) {
+        let short = without_detours(rt.alloc(), path)?;
+        if is_same_file(rt, short.as_str(), path) {
+            return Ok(short);
+        }
+    }
+    String::from_str(rt.alloc(), path)
+}
+
+/// The path without each `NAME/..`.
+fn without_detours(alloc: Global, path: &str) -> Result<String, AllocError> {
+    let mut parts = Vec::new(alloc);
+    for part in path.split('/') {
+        if part == ".." && is_name(parts.last()) {
+            parts.pop();
+        } else {
+            parts.push(part)?;
+        }
+    }
+    join(alloc, parts.as_slice())
+}
+
+/// Whether a part of a path is the name of a folder in the one before it.
+fn is_name(part: Option<&&str>) -> bool {
+    match part {
+        Some(name) => !name.is_empty() && *name != "." && *name != "..",
+        None => false,
+    }
+}
+
+fn join(alloc: Global, parts: &[&str]) -> Result<String, AllocError> {
+    let mut path = String::new(alloc);
+    for (index, part) in parts.iter().enumerate() {
+        if index > 0 {
+            path.push_str("/")?;
+        }
+        path.push_str(part)?;
+    }
+    Ok(path)
+}
+
+fn is_same_file<R: Files + AllocGlobal>(rt: &R, one: &str, other: &str) -> bool {
+    match (fs::canonicalize(rt, one), fs::canonicalize(rt, other)) {
+        (Ok(one), Ok(other)) => one.as_str() == other.as_str(),
+        _ => false,
+    }
 }
 
 fn push_name<R: AllocGlobal>(
