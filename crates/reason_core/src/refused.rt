@@ -21,6 +21,8 @@ const UNSIGNALLED: NotePart<'static> = NotePart::Text("the file is not signalled
 enum Reason {
     /// There is nothing of that name.
     Missing(Space, Name),
+    /// A timeline has the name of the file that should be closed.
+    Unclosable(Name),
     /// There is something of that name, which that line made.
     Taken(Space, Name, u32),
     /// That line registered a watch of the cookie.
@@ -77,6 +79,11 @@ fn reason_of(desk: &Desk, book: &Book, command: &Command, refusal: Refusal) -> R
 
 /// The first name that the command looks up and does not find.
 fn missing(desk: &Desk, command: &Command) -> Reason {
+    if let Command::Close(name) = command {
+        if is_there(desk, Space::Timeline, name) {
+            return Reason::Unclosable(*name);
+        }
+    }
     for (space, name) in command.looked_up().into_iter().flatten() {
         if !is_there(desk, space, &name) {
             return Reason::Missing(space, name);
@@ -129,6 +136,7 @@ fn explain_reason<N: Write>(
 {
     match reason {
         Reason::Missing(space, name) => note(place, &parts_of_missing(*space, name), notes),
+        Reason::Unclosable(name) => note(place, &parts_of_unclosable(name), notes),
         Reason::Taken(space, name, line) => note(
             place,
             &parts_of_taken(*space, name, *line),
@@ -155,6 +163,16 @@ fn parts_of_missing(space: Space, name: &Name) -> [NotePart<'_>; 4] {
         NotePart::Text(word_of(space)),
         NotePart::Text(" named "),
         NotePart::Bytes(name.as_bytes()),
+    ]
+}
+
+fn parts_of_unclosable(name: &Name) -> [NotePart<'_>; 5] {
+    [
+        NotePart::Text("there is no file named "),
+        NotePart::Bytes(name.as_bytes()),
+        NotePart::Text("; "),
+        NotePart::Bytes(name.as_bytes()),
+        NotePart::Text(" is a timeline, which \"shut\" closes"),
     ]
 }
 

@@ -5,7 +5,7 @@ ghost use Rattle.point_core.specs.declared.refusal.Refusal.TheVariants.{Write as
 ghost use Rattle.reason_core.specs.Notes.{Notes};
 
 use crate::look::{NotePart, NotePlace, note};
-use crate::operands::{absence, mismatch};
+use crate::operands::{absence, form_of, mismatch};
 use line_core::{LINE_BYTES, Operand, RawLine, SCRIPT_BYTES, command_form, commands};
 use point_core::{LimitKind, Refusal};
 use std::alloc::Global;
@@ -14,6 +14,9 @@ use strsim::osa_distance;
 
 /// A command that differs from a word in one letter is suggested for words of at least this length.
 const LETTERS: usize = 3;
+
+/// Words that other programs have for a command.
+static OTHER_WORDS: &[(&str, &str)] = &[("advance", "inc"), ("signal", "inc")];
 
 /// Writes to `notes` why a line is no command, by the refusal that it was answered with: LongLine, the limit of scripts, or else
 /// Syntax, for which any other is taken. Every line gets a note.
@@ -41,10 +44,14 @@ enum Fault<'a> {
     LongScript,
     /// A word, and the sentence on it.
     Word(&'a [u8], &'static str),
+    /// A command that lacks a word, and the sentence on it.
+    Missing(&'a [u8], &'static str),
     /// A first word that is no command, nor nearly one.
     Unknown(&'a [u8]),
     /// A first word that is no command, and the command that it may stand for.
     Misspelled(&'a [u8], &'static str),
+    /// A command with a capital letter, and the command.
+    Capital(&'a [u8], &'static str),
 }
 
 /// What is wrong, by the refusal that the line was answered with.
@@ -68,10 +75,7 @@ fn word_fault<'a>(alloc: Global, line: &'a [u8]) -> Result<Fault<'a>, Refusal>
     }
     let (word, rest) = first_word(line);
     match command_form(word) {
-        Some(form) => {
-            let (word, reason) = wrong_word(word, form.operands, rest);
-            Ok(Fault::Word(word, reason))
-        }
+        Some(form) => Ok(wrong_word(word, form.operands, rest)),
         None => command_fault(alloc, word),
     }
 }
@@ -79,7 +83,10 @@ fn word_fault<'a>(alloc: Global, line: &'a [u8]) -> Result<Fault<'a>, Refusal>
 fn command_fault<'a>(alloc: Global, word: &'a [u8]) -> Result<Fault<'a>, Refusal>
     ensures refusals { IfErr result (λ refusal. refusal ≡ Memory) }
 {
-    match nearest(alloc, word)? {
+    if let Some(command) = in_lower_case(word) {
+        return Ok(Fault::Capital(word, command));
+    }
+    match meant(alloc, word)? {
         Some(command) => Ok(Fault::Misspelled(word, command)),
         None => Ok(Fault::Unknown(word)),
     }
@@ -97,10 +104,12 @@ fn explain_fault<N: Write>(
         Fault::LongLine(length) => note(place, &parts_of_long_line(*length), notes),
         Fault::LongScript => note(place, &parts_of_long_script(), notes),
         Fault::Word(word, reason) => note(place, &parts_of_word(word, *reason), notes),
+        Fault::Missing(command, reason) => note(place, &parts_of_missing(command, *reason), notes),
         Fault::Unknown(word) => note(place, &parts_of_unknown(word), notes),
         Fault::Misspelled(word, command) => {
             note(place, &parts_of_misspelled(word, *command), notes)
         }
+        Fault::Capital(word, command) => note(place, &parts_of_capital(word, *command), notes),
     }
 }
 
@@ -129,6 +138,16 @@ fn parts_of_word<'a>(word: &'a [u8], reason: &'static str) -> [NotePart<'a>; 3] 
     ]
 }
 
+fn parts_of_missing<'a>(command: &'a [u8], reason: &'static str) -> [NotePart<'a>; 5] {
+    [
+        NotePart::Quoted(command),
+        NotePart::Text(": "),
+        NotePart::Text(reason),
+        NotePart::Text("; the form is "),
+        NotePart::Text(form_of(command)),
+    ]
+}
+
 fn parts_of_unknown(word: &[u8]) -> [NotePart<'_>; 2] {
     [NotePart::Quoted(word), NotePart::Text(": unknown command")]
 }
@@ -139,6 +158,15 @@ fn parts_of_misspelled<'a>(word: &'a [u8], command: &'static str) -> [NotePart<'
         NotePart::Text(": unknown command; did you mean \""),
         NotePart::Text(command),
         NotePart::Text("\"?"),
+    ]
+}
+
+fn parts_of_capital<'a>(word: &'a [u8], command: &'static str) -> [NotePart<'a>; 4] {
+    [
+        NotePart::Quoted(word),
+        NotePart::Text(": commands are in lower case: \""),
+        NotePart::Text(command),
+        NotePart::Text("\""),
     ]
 }
 
@@ -181,6 +209,28 @@ fn first_word(line: &[u8]) -> (&[u8], &[u8]) {
     bytes.split_at(end)
 }
 
+/// The command that the word is but for the case of its letters.
+fn in_lower_case(word: &[u8]) -> Option<&'static str> {
+    for form in commands() {
+        if word.eq_ignore_ascii_case(form.word.as_bytes()) {
+            return Some(form.word);
+        }
+    }
+    None
+}
+
+/// The command that the word may stand for: another program's word for it, or a word that is nearly the command.
+fn meant(alloc: Global, word: &[u8]) -> Result<Option<&'static str>, Refusal>
+    ensures refusals { IfErr result (λ refusal. refusal ≡ Memory) }
+{
+    for (other, command) in OTHER_WORDS {
+        if word == other.as_bytes() {
+            return Ok(Some(command));
+        }
+    }
+    nearest(alloc, word)
+}
+
 /// The command that differs in the fewest letters, if these are few; two letters that are swapped count as one.
 fn nearest(alloc: Global, word: &[u8]) -> Result<Option<&'static str>, Refusal>
     ensures refusals { IfErr result (λ refusal. refusal ≡ Memory) }
@@ -201,21 +251,17 @@ fn nearest(alloc: Global, word: &[u8]) -> Result<Option<&'static str>, Refusal>
 }
 
 /// The first word that does not match its operand, or the command if a word is missing, and the sentence on it.
-fn wrong_word<'a>(
-    command: &'a [u8],
-    operands: &[Operand],
-    rest: &'a [u8],
-) -> (&'a [u8], &'static str) {
+fn wrong_word<'a>(command: &'a [u8], operands: &[Operand], rest: &'a [u8]) -> Fault<'a> {
     let mut operands = operands.iter();
     for word in rest.split(|byte| *byte == b' ') {
         if word.is_empty() {
             continue;
         }
         if let Some(reason) = wrong_for(word, operands.next()) {
-            return (word, reason);
+            return Fault::Word(word, reason);
         }
     }
-    (command, missing(operands.next()))
+    Fault::Missing(command, missing(operands.next()))
 }
 
 /// The sentence for the operand that is missing at the end of a line.
@@ -228,9 +274,12 @@ fn missing(operand: Option<&Operand>) -> &'static str {
 
 /// The sentence for a word that does not match the operand at its place, or that follows the last operand. None if it matches.
 fn wrong_for(word: &[u8], operand: Option<&Operand>) -> Option<&'static str> {
+    if word.starts_with(b"#") {
+        return Some("a note needs a line of its own");
+    }
     match operand {
         Some(operand) if operand.matches(word) => None,
-        Some(operand) => Some(mismatch(*operand)),
+        Some(operand) => Some(mismatch(*operand, word)),
         None => Some("unexpected extra word"),
     }
 }
