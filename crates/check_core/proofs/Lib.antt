@@ -7,6 +7,7 @@ mod Passing
 mod Progress
 mod Refusals
 mod Reported
+mod Slips
 mod Stages
 mod Texts
 mod Throughout

@@ -4,10 +4,11 @@ use Rattle.std.proofs.lemmas.Bool.{le-leb}
 use Rattle.std.proofs.lemmas.List.{take_all}
 use Rattle.line_core.specs.declared.script.Ending.TheVariants as ending
 use Rattle.line_core.specs.declared.script.TheConstants.{SCRIPT_BYTES}
-use Rattle.line_core.specs.Script.{ending_of, lines_until, script_of}
+use Rattle.line_core.specs.Script.{ending_of, lines_of, lines_until, script_of}
 use Rattle.script_core.specs.Output.{AreLineAnswers}
 use Rattle.check_core.specs.Check.{AgreesWith, AnswersAsExpected, AreAsExpected, asked_count, differing_count}
 use Rattle.check_core.specs.Expected.{differs, expected_of, is_asked}
+use Rattle.check_core.specs.Slips.{slip_count}
 use Rattle.check_core.specs.Tally.{one_if}
 use Rattle.check_core.specs.Update.{Passes}
 use Rattle.check_core.proofs.Counts.{counts-agree}
@@ -27,6 +28,7 @@ passes text short h =
         lines = length h.given;
         checked = one_if (is_asked (expected_of text 0)) + asked_count text (script_of text);
         differing = 0;
+        slips = slip_count (lines_of text);
       };
       checks = record {
         given = h.given;
@@ -35,6 +37,7 @@ passes text short h =
         checked = refl;
         differing = sym none;
         agrees = counts-agree text h.given 0 (sym none);
+        slips = refl;
       };
       none = refl;
     }

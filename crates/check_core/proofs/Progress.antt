@@ -29,6 +29,7 @@ use Rattle.check_core.specs.declared.tally.CheckTally.{CheckTally}
 use Rattle.check_core.specs.Checked.{HasChecked, asked_among, asked_of, differing_among, differing_of, expected_at}
 use Rattle.check_core.specs.Expected.{expected_text, expected_after, expected_of, is_asked, differs}
 use Rattle.check_core.specs.Check.{AnswersAsExpected, AreAsExpected, asked_count, differing_count, ChecksScript, IsJudged, IsFresh, IsTooLong, Expects, IsJudgedAt, IsAnswered, IsTaken, IsEnded}
+use Rattle.check_core.specs.Slips.{slip_count}
 use Rattle.check_core.specs.Stage.{IsAt}
 use Rattle.check_core.specs.Tally.{one_if}
 use Rattle.check_core.proofs.Counts.{counts-agree, lines-agree}
@@ -76,7 +77,7 @@ HasChecked-none c fresh = record {
 }
 
 -- a line without an answer is not cut
-note-whole : (line : List ℕ) → body_of line ≡ None → cut line ≡ line
+pub note-whole : (line : List ℕ) → body_of line ≡ None → cut line ≡ line
 note-whole line none = elim (cases_lt LINE_BYTES (length line)) [
   | inl h ↦ (let long = ap (λ b. cond b (Some (Bad LongLine)) (body_from (words_of line))) (lt-ltb LINE_BYTES (length line) h) in
       absurd (cc))
@@ -228,8 +229,9 @@ HasChecked-whole given line number place done c c' p =
 -- ---- the end of the script
 
 -- no more is expected of the last answer
-HasChecked-end : (script : List ℕ) (done : List Line) (c c' : Checker) → script_of script ≡ done → HasChecked (lines_of script) done c → IsJudgedAt c c' → ChecksScript script c'.tally
-HasChecked-end script done c c' of p x =
+HasChecked-end : (script : List ℕ) (done : List Line) (c c' : Checker) (slips : ℕ) → script_of script ≡ done → HasChecked (lines_of script) done c → IsJudgedAt c c' → slips ≡ slip_count (lines_of script)
+    → ChecksScript script (record c'.tally { slips = slips })
+HasChecked-end script done c c' slips of p x counted =
     let lines = lines_of script in
     let judged = x.judged p.expected p.at in
     let asked : asked_of lines done ≡ c.tally.checked + one_if (is_asked p.expected) =
@@ -245,6 +247,7 @@ HasChecked-end script done c c' of p x =
       checked = omega (arith, judged.checked, asked, asked_among-script script done, ap (asked_count script) of);
       differing = differing;
       agrees = counts-agree script p.answers c'.tally.differing differing;
+      slips = counted;
     }
 
 -- and no answer of the text was other than expected
@@ -265,15 +268,15 @@ HasChecked-agrees text done c c' of p x none =
     }
 
 -- the last line, if the script was read to its end
-pub HasChecked-last : (given : List (List ℕ)) (done : List Line) (line bytes : List ℕ) (number : ℕ) (end : Ending) (c c' : Checker) → number ≡ length given + 1 → bytes ≡ cut line → end ≡ ending.Whole
-    → HasChecked given done c → IsEnded c c' number (body_of bytes) (expected_text bytes)
-    → (script : List ℕ) → lines_of script ≡ given ++ line ∷ [] → script_of script ≡ done ++ answered number (last_body end bytes) [] → ChecksScript script c'.tally
-HasChecked-last given done line bytes number ending.TooLong c c' place held is p x script split of = absurd (cc)
-HasChecked-last given done line bytes number ending.Failed c c' place held is p x script split of = absurd (cc)
-HasChecked-last given done line bytes number ending.Whole c c' place held is p x script split of =
+pub HasChecked-last : (given : List (List ℕ)) (done : List Line) (line bytes : List ℕ) (number : ℕ) (end : Ending) (c c' : Checker) (slips : ℕ) → number ≡ length given + 1 → bytes ≡ cut line → end ≡ ending.Whole
+    → HasChecked given done c → IsEnded c c' number (body_of bytes) (expected_text bytes) → slips ≡ slip_count (given ++ line ∷ [])
+    → (script : List ℕ) → lines_of script ≡ given ++ line ∷ [] → script_of script ≡ done ++ answered number (last_body end bytes) [] → ChecksScript script (record c'.tally { slips = slips })
+HasChecked-last given done line bytes number ending.TooLong c c' slips place held is p x counted script split of = absurd (cc)
+HasChecked-last given done line bytes number ending.Failed c c' slips place held is p x counted script split of = absurd (cc)
+HasChecked-last given done line bytes number ending.Whole c c' slips place held is p x counted script split of =
     let done' = done ++ answered number (body_of bytes) [] in
     let taken : HasChecked (given ++ line ∷ []) done' x.between = HasChecked-line given line bytes number place held done c x.between p (body_of bytes) refl x.taken in
-    HasChecked-end script done' x.between c' of (subst (λ ls. HasChecked ls done' x.between) (sym split) taken) x.judged
+    HasChecked-end script done' x.between c' slips of (subst (λ ls. HasChecked ls done' x.between) (sym split) taken) x.judged (counted ∙ ap slip_count (sym split))
 
 -- no other ending is
 pub not-whole : (end : Ending) → (end ≡ ending.TooLong) ⊎ (end ≡ ending.Failed) → end ≡ ending.Whole → ⊥

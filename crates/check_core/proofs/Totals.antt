@@ -17,6 +17,7 @@ with_counts-assoc t u v = λ i. record {
   lines = sum_of-assoc t.lines u.lines v.lines i;
   checked = sum_of-assoc t.checked u.checked v.checked i;
   differing = sum_of-assoc t.differing u.differing v.differing i;
+  slips = sum_of-assoc t.slips u.slips v.slips i;
 }
 
 with_counts-none : (t : CheckTally) → with_counts t no_counts ≡ with_counts no_counts t
@@ -24,6 +25,7 @@ with_counts-none t = λ i. record {
   lines = sum_of-zero t.lines i;
   checked = sum_of-zero t.checked i;
   differing = sum_of-zero t.differing i;
+  slips = sum_of-zero t.slips i;
 }
 
 totals_of-push : (os : List CheckOutcome) (o : CheckOutcome) → totals_of (os ++ o ∷ []) ≡ with_counts (totals_of os) (tally_of o)
@@ -37,4 +39,4 @@ totals-next os index totals one more d low was is added =
     added ∙ ap (λ t. with_counts t one) was ∙ ap (with_counts (totals_of (take index os))) is ∙ sym next
 
 pub no_counts-is : (t : CheckTally) → IsEmpty t → t ≡ no_counts
-no_counts-is t p = λ i. record { lines = p.lines i; checked = p.checked i; differing = p.differing i }
+no_counts-is t p = λ i. record { lines = p.lines i; checked = p.checked i; differing = p.differing i; slips = p.slips i }

@@ -8,13 +8,14 @@ use Rattle.line_core.specs.declared.line.Line.{Line}
 use Rattle.line_core.specs.declared.script.Ending.TheVariants.{Whole}
 use Rattle.line_core.specs.declared.script.TheConstants.{SCRIPT_BYTES}
 use Rattle.script_core.specs.Output.{AreLineAnswers}
-use Rattle.line_core.specs.Script.{lines_until, script_of}
+use Rattle.line_core.specs.Script.{lines_of, lines_until, script_of}
 use Rattle.report_core.specs.Answer.{text_of}
 use Rattle.check_core.specs.declared.checker.Checker.{Checker}
 use Rattle.check_core.specs.declared.stage.MatchStage.TheVariants.{Unasked}
 use Rattle.check_core.specs.declared.tally.CheckTally.{CheckTally}
 use Rattle.check_core.specs.Answering.{AnswersInto}
 use Rattle.check_core.specs.Expected.{expected_of, IsAsExpected, is_asked, differs}
+use Rattle.check_core.specs.Slips.{slip_count}
 use Rattle.check_core.specs.Stage.{is_different, IsAt}
 use Rattle.check_core.specs.Tally.{one_if, IsEmpty}
 
@@ -50,6 +51,7 @@ differing_count script (l ∷ ls) (a ∷ rest) =
 
 -- The script was checked: each of its lines has its answer, and of these were counted how many there are, of how many lines
 -- are expected, and of how many other lines came. None of them differs exactly if each expected line is the one that came.
+-- Its slips were counted too.
 pub record ChecksScript (script : List ℕ) (tally : CheckTally) : Type 0 where
   pub given : List Answer
   pub each : AreLineAnswers [] (script_of script) given
@@ -58,6 +60,7 @@ pub record ChecksScript (script : List ℕ) (tally : CheckTally) : Type 0 where
   pub differing : tally.differing ≡
       one_if (differs (expected_of script 0) []) + differing_count script (script_of script) given
   pub agrees : (tally.differing ≡ 0) ↔ AgreesWith script given
+  pub slips : tally.slips ≡ slip_count (lines_of script)
 
 -- more bytes were read than a script may have
 pub record IsTooLong (old new : Option (List ℕ)) : Type 0 where

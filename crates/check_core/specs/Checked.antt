@@ -9,8 +9,11 @@ use Rattle.script_core.specs.Answering.{history_along}
 use Rattle.script_core.specs.Output.{AreLineAnswers}
 use Rattle.report_core.specs.Answer.{text_of}
 use Rattle.check_core.specs.declared.checker.Checker.{Checker}
+use Rattle.check_core.specs.declared.script_checker.ScriptChecker.{ScriptChecker}
+use Rattle.check_core.specs.declared.tally.CheckTally.{CheckTally}
 use Rattle.check_core.specs.Check.{ChecksScript, differences_of}
 use Rattle.check_core.specs.Expected.{differs, expected_after, is_asked}
+use Rattle.check_core.specs.Slips.{slip_count}
 use Rattle.check_core.specs.Stage.{IsAt}
 use Rattle.check_core.specs.Tally.{IsBelow, one_if}
 
@@ -53,12 +56,17 @@ pub record HasChecked (lines : List (List ℕ)) (said : List Line) (c : Checker)
   pub differing : (more : List (List ℕ)) →
       differing_of (lines ++ more) said answers ≡ c.tally.differing + one_if (differs (expected ++ expected_after more) c.text.items)
 
--- and if no difference was found, nothing was written
-pub record HasHandled (lines : List (List ℕ)) (said : List Line) (c : Checker) (old new : Option (List ℕ)) : Type 0 where
-  pub so_far : HasChecked lines said c
-  pub quiet : differences_of c ≡ 0 → Keeps old new
+-- and their slips were counted; if none was found and no difference, nothing was written
+pub record HasHandled (lines : List (List ℕ)) (said : List Line) (c : ScriptChecker) (old new : Option (List ℕ)) : Type 0 where
+  pub so_far : HasChecked lines said c.checker
+  pub slips : c.slips ≡ slip_count lines
+  pub quiet : differences_of c.checker ≡ 0 → c.slips ≡ 0 → Keeps old new
+
+-- the counts of the answers and of the slips
+abbrev pub tally_of_checker : ScriptChecker → CheckTally
+tally_of_checker c = record c.checker.tally { slips = c.slips }
 
 -- the script of these lines is checked
-pub record HasEnded (lines : List (List ℕ)) (said : List Line) (c : Checker) (old new : Option (List ℕ)) : Type 0 where
-  pub checks : (script : List ℕ) → lines_of script ≡ lines → script_of script ≡ said → ChecksScript script c.tally
-  pub quiet : c.tally.differing ≡ 0 → Keeps old new
+pub record HasEnded (lines : List (List ℕ)) (said : List Line) (c : ScriptChecker) (old new : Option (List ℕ)) : Type 0 where
+  pub checks : (script : List ℕ) → lines_of script ≡ lines → script_of script ≡ said → ChecksScript script (tally_of_checker c)
+  pub quiet : c.checker.tally.differing ≡ 0 → c.slips ≡ 0 → Keeps old new

@@ -6,6 +6,7 @@ pub mod Expected
 pub mod Finding
 pub mod Kept
 pub mod Outcome
+pub mod Slips
 pub mod Stage
 pub mod Tally
 pub mod Tap

@@ -20,9 +20,9 @@ abbrev pub is_failed : CheckOutcome → Bool
 is_failed (outcome.Checked tally) = false
 is_failed (outcome.Failed refusal) = true
 
--- of a script that was checked to its end: an answer differs, or nothing is expected, which is not allowed
+-- of a script that was checked to its end: an answer differs, a note is a slip, or nothing is expected, which is not allowed
 abbrev pub is_wrong : Bool → CheckOutcome → Bool
-is_wrong allows_empty (outcome.Checked tally) = nat_lt 0 tally.differing || (tally.checked == 0 && not allows_empty)
+is_wrong allows_empty (outcome.Checked tally) = nat_lt 0 tally.differing || nat_lt 0 tally.slips || (tally.checked == 0 && not allows_empty)
 is_wrong allows_empty (outcome.Failed refusal) = false
 
 -- it was checked to its end, and is as it should be

@@ -1,8 +1,7 @@
 //! `Checker`: the state of a check between lines: a desk, the counts, and the last answer with its stage. Its invariant
-//! keeps the stage within the answer's text. It is the handler of a script's lines.
+//! keeps the stage within the answer's text. `ScriptChecker` gives it the lines of a script, and `update.rt` all lines of a text.
 ghost use Rattle.std.specs.Prelude.{◌≡◌, ◌+◌, ◌<◌, ◌≤◌, ◌⊎◌, ◌∷◌, [], length, option_to_list, IfOk, OnOk, IfErr};
 ghost use Rattle.point_core.specs.declared.refusal.Refusal.TheVariants.{Write as WriteFault, Torn, Memory};
-ghost use Rattle.line_core.specs.declared.script.Ending.TheVariants.{Whole};
 ghost use Rattle.line_core.specs.Line.{body_of};
 ghost use Rattle.check_core.specs.Expected.{expected_text};
 ghost use Rattle.check_core.specs.Stage.{place_of};
@@ -12,11 +11,12 @@ ghost use Rattle.check_core.specs.Tally.{HasRoom, IsBelow, CountsOne};
 use crate::expected::expected_text;
 use crate::finding::{CheckFinding, Difference};
 use crate::form::CheckPlace;
-use crate::reporting::report_difference;
+use crate::reporting::{report_difference, report_slip};
+use crate::slip::is_slip;
 use crate::stage::MatchStage;
 use crate::tally::CheckTally;
 use desk_core::Desk;
-use line_core::{Body, Ending, LineHandler, RawLine, body_of, first_line};
+use line_core::{Body, RawLine, body_of, first_line};
 use point_core::Refusal;
 use report_core::print;
 use script_core::answer_line;
@@ -45,6 +45,9 @@ pub(crate) struct Checker<'a> {
 impl<'a> Checker<'a> {
     ghost use Rattle.check_core.specs.Check.{AnswersAsExpected, IsFresh, differences_of, IsQuiet};
     ghost use Rattle.check_core.specs.Check.{Expects, IsAnswered, IsTaken, IsOpened, IsJudgedAt, IsEnded};
+    ghost use Rattle.check_core.specs.Slips.{is_slip};
+    ghost use Rattle.check_core.specs.Tally.{one_if};
+    ghost use Rattle.std.specs.Io.KnownBytes.{Keeps};
 
     pub(crate) fn new(alloc: Global, place: &CheckPlace<'a>) -> Checker<'a>
         ensures fresh { IsFresh result }
@@ -63,7 +66,12 @@ impl<'a> Checker<'a> {
 
     /// Takes the next line: answers a command, and compares an expected line with the last answer. An over-long line may be
     /// cut to its first 257 bytes.
-    fn take<W: Write>(&mut self, number: u32, bytes: &[u8], writer: &mut W) -> Result<(), Refusal>
+    pub(crate) fn take<W: Write>(
+        &mut self,
+        number: u32,
+        bytes: &[u8],
+        writer: &mut W,
+    ) -> Result<(), Refusal>
         requires few { IsBelow self.old.tally number }
         ensures ok { OnOk result (IsTaken self.old self.new number (body_of bytes.now) (expected_text bytes.now)) }
         ensures few { OnOk result (IsBelow self.new.tally (number + 1)) }
@@ -78,7 +86,7 @@ impl<'a> Checker<'a> {
     }
 
     /// Takes the last line, which may lack its line feed.
-    fn take_last<W: Write>(
+    pub(crate) fn take_last<W: Write>(
         &mut self,
         number: u32,
         bytes: &[u8],
@@ -194,6 +202,23 @@ impl<'a> Checker<'a> {
         }
     }
 
+    /// Reports a line that is a slip. Gives the number of slips, 0 or 1.
+    pub(crate) fn report_slip<W: Write>(
+        &self,
+        line: &RawLine<'_>,
+        writer: &mut W,
+    ) -> Result<u64, Refusal>
+        ensures slips { IfOk result (λ slips. slips ≡ one_if (is_slip line.now.bytes.now)) }
+        ensures quiet { IfOk result (λ slips. slips ≡ 0 → Keeps (W.contents writer.old) (W.contents writer.new)) }
+        ensures refusals { IfErr result (λ refusal. (refusal ≡ WriteFault) ⊎ (refusal ≡ Memory)) }
+    {
+        if !is_slip(line.bytes) {
+            return Ok(0);
+        }
+        report_slip(self.alloc, &self.place, line, writer)?;
+        Ok(1)
+    }
+
     /// Reports the answer's first line that differs from the expected one, unless `stage` says that one was reported.
     fn report<W: Write>(
         &self,
@@ -215,44 +240,6 @@ impl<'a> Checker<'a> {
                 report_difference(self.alloc, &self.place, &difference, writer)
             }
             None => Ok(()),
-        }
-    }
-}
-
-impl<'a, W: Write> LineHandler<W, ()> for Checker<'a> {
-    ghost use Rattle.check_core.specs.Checked.{HasHandled, HasEnded};
-
-    ghost handled = { λ start lines said now. HasHandled lines said now.0 (W.contents start.1) (W.contents now.1) };
-
-    ghost ended = { λ end start lines said now.
-        end ≡ Whole → HasEnded lines said now.0 (W.contents start.1) (W.contents now.1) };
-
-    ghost failed = { λ refusal start lines said now. (refusal ≡ WriteFault) ⊎ (refusal ≡ Memory) };
-
-    fn handle(
-        &mut self,
-        line: &RawLine<'_>,
-        writer: &mut W,
-        _notes: &mut (),
-    ) -> Result<(), Refusal> {
-        self.take(line.number, line.bytes, writer)
-    }
-
-    fn pause(&mut self, _writer: &mut W, _notes: &mut ()) -> Result<(), Refusal> {
-        Ok(())
-    }
-
-    /// Does nothing if the script is too long: then it has no counts.
-    fn handle_last(
-        &mut self,
-        line: &RawLine<'_>,
-        ending: Ending,
-        writer: &mut W,
-        _notes: &mut (),
-    ) -> Result<(), Refusal> {
-        match ending {
-            Ending::Whole => self.take_last(line.number, line.bytes, writer),
-            Ending::TooLong | Ending::Failed => Ok(()),
         }
     }
 }

@@ -20,7 +20,7 @@ pub enum CheckOutcome {
 pub enum Verdict {
     /// Each was checked to its end, and is as it should be.
     Passed,
-    /// An answer differs, or a script expects nothing that should.
+    /// An answer differs, a note is a slip, or a script expects nothing that should.
     Differs,
     /// A script could not be checked to its end.
     Failed,
@@ -36,13 +36,14 @@ impl CheckOutcome {
         }
     }
 
-    /// Whether a script that was checked does not pass: an answer differs, or nothing is expected though something has to be.
+    /// Whether a script that was checked does not pass: an answer differs, a note is a slip, or nothing is expected though
+    /// something has to be.
     pub(crate) fn is_wrong(self, allows_empty: bool) -> bool
         ensures { result ≡ is_wrong allows_empty self }
     {
         match self {
             CheckOutcome::Checked(tally) => {
-                tally.differing > 0 || (tally.checked == 0 && !allows_empty)
+                tally.differing > 0 || tally.slips > 0 || (tally.checked == 0 && !allows_empty)
             }
             CheckOutcome::Failed(_) => false,
         }

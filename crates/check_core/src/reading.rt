@@ -1,4 +1,4 @@
-//! Checks one script from a reader: has each of its lines handled by a `Checker`, and reports the counts.
+//! Checks one script from a reader: has each of its lines handled by a `ScriptChecker`, and reports the counts.
 ghost use Rattle.std.specs.Prelude.{◌≡◌, ◌+◌, ◌⊎◌, List, ℕ, Err, IfOk, IfErr};
 ghost use Rattle.std.specs.Io.KnownBytes.{Keeps};
 ghost use Rattle.point_core.specs.declared.refusal.Refusal.TheVariants.{Limit, Read as ReadFault, Write as WriteFault, Memory};
@@ -8,8 +8,8 @@ ghost use Rattle.line_core.specs.declared.script.TheConstants.{SCRIPT_BYTES};
 ghost use Rattle.line_core.specs.Reading.{ConsumesAtMost, IsInput, WasRead};
 ghost use Rattle.check_core.specs.Check.{ChecksScript, IsTooLong};
 
-use crate::checker::Checker;
 use crate::form::CheckPlace;
+use crate::script_checker::ScriptChecker;
 use crate::tally::CheckTally;
 use line_core::{Ending, SCRIPT_BYTES, for_each_line};
 use point_core::{LimitKind, Refusal};
@@ -17,7 +17,8 @@ use std::alloc::Global;
 use std::io::{Read, Write};
 
 /// Runs a script as `engine` does, and compares the answer of each line with the lines that the notes after it expect; a
-/// line without such notes may answer anything. Writes each answer that differs in the form of its place, once that is known.
+/// line without such notes may answer anything. Writes each answer that differs, and each note that is a slip, in the form of its
+/// place, once that is known.
 ///
 /// A line is answered when its end is read. Only the desk and the last line that has an answer are kept, so memory does not
 /// grow with the script.
@@ -37,8 +38,8 @@ pub fn check<R: Read, W: Write>(
     ensures reads { IfOk result (λ _. (script : List ℕ)
         × WasRead (R.remaining reader.old) (R.remaining reader.new) script Whole) }
 
-    // If nothing differs, nothing is written.
-    ensures quiet { IfOk result (λ tally. tally.differing ≡ 0
+    // If nothing differs, and no note is a slip, nothing is written.
+    ensures quiet { IfOk result (λ tally. tally.differing ≡ 0 → tally.slips ≡ 0
         → Keeps (W.contents writer.old) (W.contents writer.new)) }
 
     // Whatever the result, at most one byte past the limit of a script is read, and none past it if a read failed.
@@ -50,9 +51,10 @@ pub fn check<R: Read, W: Write>(
     ensures refusals { IfErr result (λ refusal.
         (refusal ≡ ReadFault) ⊎ (refusal ≡ Limit Script) ⊎ (refusal ≡ WriteFault) ⊎ (refusal ≡ Memory)) }
 {
-    let mut checker = Checker::new(alloc, place);
+    let mut checker = ScriptChecker::new(alloc, place);
     let ending = for_each_line(reader, &mut checker, writer, &mut ())?;
-    let tally = checker.tally;
+    let mut tally = checker.checker.tally;
+    tally.slips = checker.slips;
     // For the proof: what a call drops is taken apart once, and not in each arm.
     drop(checker);
     match ending {

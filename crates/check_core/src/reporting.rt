@@ -1,11 +1,12 @@
-//! Reports an answer that differs: as a line `FILE:LINE: ..`, or as an item of a TAP test. `Checker` calls it.
+//! Reports an answer that differs, and a note that is a slip: as a line `FILE:LINE: ..`, or as an item of a TAP test. `Checker`
+//! calls it.
 ghost use Rattle.std.specs.Prelude.{◌≡◌, ◌⊎◌, IfErr};
 ghost use Rattle.point_core.specs.declared.refusal.Refusal.TheVariants.{Write as WriteFault, Memory};
 
 use crate::finding::Difference;
 use crate::form::{CheckForm, CheckPlace};
 use crate::parts::{ReportPart, write_parts};
-use line_core::first_line;
+use line_core::{RawLine, first_line};
 use point_core::Refusal;
 use std::alloc::Global;
 use std::io::Write;
@@ -24,6 +25,65 @@ pub(crate) fn report_difference<'a, W: Write>(
         CheckForm::Counts => Ok(()),
         CheckForm::Tap(_) => report_item(alloc, difference, writer),
     }
+}
+
+/// Writes a note that is a slip, by one write.
+pub(crate) fn report_slip<'a, W: Write>(
+    alloc: Global,
+    place: &CheckPlace<'a>,
+    line: &RawLine<'a>,
+    writer: &mut W,
+) -> Result<(), Refusal>
+    ensures refusals { IfErr result (λ refusal. (refusal ≡ WriteFault) ⊎ (refusal ≡ Memory)) }
+{
+    match place.form {
+        CheckForm::Lines { bold } => report_slip_line(alloc, place.name, bold, line, writer),
+        CheckForm::Counts => Ok(()),
+        CheckForm::Tap(_) => report_slip_item(alloc, line, writer),
+    }
+}
+
+/// Why a slip is one. A line has it behind the note.
+pub(crate) const SLIP: &str = ": expects nothing, as an expectation begins with #=";
+
+/// `FILE:LINE: NOTE: expects nothing, ..`.
+fn report_slip_line<'a, W: Write>(
+    alloc: Global,
+    name: &'a str,
+    bold: bool,
+    line: &RawLine<'a>,
+    writer: &mut W,
+) -> Result<(), Refusal>
+    ensures refusals { IfErr result (λ refusal. (refusal ≡ WriteFault) ⊎ (refusal ≡ Memory)) }
+{
+    let [begin, end] = around(bold);
+    let parts = [
+        ReportPart::Text(name),
+        ReportPart::Text(":"),
+        ReportPart::Number(u64::from(line.number)),
+        ReportPart::Text(end),
+        ReportPart::Escaped(line.bytes),
+        ReportPart::Text(SLIP),
+        ReportPart::Text("\n"),
+    ];
+    write_parts(alloc, begin, &parts, writer)
+}
+
+/// An item of the list of differences, in YAML.
+fn report_slip_item<W: Write>(
+    alloc: Global,
+    line: &RawLine<'_>,
+    writer: &mut W,
+) -> Result<(), Refusal>
+    ensures refusals { IfErr result (λ refusal. (refusal ≡ WriteFault) ⊎ (refusal ≡ Memory)) }
+{
+    let parts = [
+        ReportPart::Number(u64::from(line.number)),
+        ReportPart::Text("\n      slip: "),
+        ReportPart::Quoted(line.bytes),
+        ReportPart::Text("\n"),
+    ];
+    write_parts(alloc, "    - line: ", &parts, writer)
 }
 
 /// `FILE:LINE: COMMAND: expected .., came ..`. A difference before the first command is reported at line 1.

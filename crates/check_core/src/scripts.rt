@@ -7,6 +7,7 @@ ghost use Rattle.check_core.specs.Outcome.{CameOf, CameOfEach, ComesOf, IsOutcom
 ghost use Rattle.check_core.specs.Tap.{TellsTest};
 
 use crate::form::{CheckForm, CheckPlace};
+use crate::items::report_items;
 use crate::outcome::{CheckOutcome, Verdict, verdict_of};
 use crate::reading::check;
 use crate::sink::Sink;
@@ -27,7 +28,8 @@ pub struct CheckOptions {
 }
 
 /// Checks the scripts of these names, one after another; `-` is standard input. Results are written in the form of the
-/// options: tests to `output`, all else to `errors`. The cause of a failed open or read is reported on standard error.
+/// options: tests to `output`, all else to `errors`, also what differs in a test. The cause of a failed open or read is reported on
+/// standard error.
 ///
 /// Fails with `Write` if a write failed, and with `Memory`.
 pub fn check_scripts<R: Files + Eprint + AllocGlobal, S: Read + Copy + Drop, O: Write, W: Write>(
@@ -42,7 +44,7 @@ pub fn check_scripts<R: Files + Eprint + AllocGlobal, S: Read + Copy + Drop, O: 
         (file_named (Some (string_bytes name))) standard_input) names.now options.now verdict (W.contents errors.new)) }
     ensures refusals { IfErr result (λ refusal. (refusal ≡ WriteFault) ⊎ (refusal ≡ Memory)) }
 {
-    write_plan(rt.alloc(), options.form, names.len(), output)?;
+    write_plan(rt.alloc(), options, names.len(), output)?;
     let mut outcomes = Vec::new(rt.alloc());
     check_each(
         rt,
@@ -110,15 +112,18 @@ fn check_script<R: Files + Eprint + AllocGlobal, S: Read + Drop, O: Write, W: Wr
             let mut differences = Vec::new(rt.alloc());
             let mut sink: Sink<'_, W> = Sink::Kept(&mut differences);
             let outcome = outcome_of(rt, &place, standard_input, &mut sink);
-            report_test(
+            let differences = differences.as_slice();
+            let outcome = report_test(
                 rt.alloc(),
                 options,
                 before,
                 name,
                 outcome,
-                differences.as_slice(),
+                differences,
                 output,
-            )
+            )?;
+            report_items(rt.alloc(), name, differences, errors)?;
+            Ok(outcome)
         }
         CheckForm::Lines { .. } | CheckForm::Counts => {
             outcome_of(rt, &place, standard_input, &mut Sink::Through(errors))

@@ -3,7 +3,7 @@ ghost use Rattle.std.specs.Prelude.{◌≡◌, ◌⊎◌, ◌<◌, ◌^◌, IsTr
 ghost use Rattle.std.specs.Io.KnownBytes.{Appends, Keeps};
 ghost use Rattle.point_core.specs.declared.refusal.Refusal.TheVariants.{Write as WriteFault, Memory};
 ghost use Rattle.check_core.specs.Outcome.{EndsInCounts, has_counts, totals_of};
-ghost use Rattle.check_core.specs.Tally.{count_text, totals_text};
+ghost use Rattle.check_core.specs.Tally.{count_text, slips_text, totals_text};
 
 use crate::form::CheckForm;
 use crate::outcome::CheckOutcome;
@@ -32,12 +32,33 @@ pub(crate) fn report_summary<W: Write>(
 {
     match options.form {
         CheckForm::Lines { .. } => {
+            report_none(alloc, names, options.allows_empty, writer)?;
             report_scripts(alloc, names, outcomes, options.allows_empty, writer)?;
             report_totals(outcomes.len(), &totals_of(outcomes), writer)
         }
         CheckForm::Counts => report_totals(outcomes.len(), &totals_of(outcomes), writer),
         CheckForm::Tap(_) => flush(writer),
     }
+}
+
+/// Says that there is no script, if there should be one.
+fn report_none<W: Write>(
+    alloc: Global,
+    names: &[String],
+    allows_empty: bool,
+    writer: &mut W,
+) -> Result<(), Refusal>
+    ensures refusals { IfErr result (λ refusal. (refusal ≡ WriteFault) ⊎ (refusal ≡ Memory)) }
+{
+    if allows_empty || !names.is_empty() {
+        return Ok(());
+    }
+    write_parts(
+        alloc,
+        "fencectl: no script was found: no file *.fence is there\n",
+        &[],
+        writer,
+    )
 }
 
 /// Writes a line for each script that does not pass.
@@ -69,6 +90,7 @@ fn report_script<W: Write>(
         return Ok(());
     }
     let [what, count, of, all, end] = parts_of_outcome(outcome);
+    let [having, slips, noun] = parts_of_slips(outcome);
     let parts = [
         ReportPart::Text(": "),
         what,
@@ -76,18 +98,22 @@ fn report_script<W: Write>(
         of,
         all,
         end,
+        having,
+        slips,
+        noun,
         ReportPart::Text("\n"),
     ];
     write_parts(alloc, name, &parts, writer)
 }
 
-/// The reason why a script does not pass.
+/// The reason why a script does not pass, but for its slips.
 pub(crate) fn parts_of_outcome(outcome: CheckOutcome) -> [ReportPart<'static>; 5] {
     let none = ReportPart::Text("");
     match outcome {
         CheckOutcome::Checked(tally) if tally.checked == 0 => {
             [ReportPart::Text("expects nothing"), none, none, none, none]
         }
+        CheckOutcome::Checked(tally) if tally.differing == 0 => [none, none, none, none, none],
         CheckOutcome::Checked(tally) => [
             ReportPart::Text("differs in "),
             ReportPart::Number(tally.differing),
@@ -101,6 +127,29 @@ pub(crate) fn parts_of_outcome(outcome: CheckOutcome) -> [ReportPart<'static>; 5
             ReportPart::Text(" "),
             ReportPart::Text(refusal.name()),
             none,
+        ],
+    }
+}
+
+/// The number of a script's slips, if it has any, behind the reason if there is one.
+pub(crate) fn parts_of_slips(outcome: CheckOutcome) -> [ReportPart<'static>; 3] {
+    let none = ReportPart::Text("");
+    let tally = outcome.tally();
+    let having = match (tally.checked, tally.differing) {
+        (1.., 0) => "has ",
+        _ => ", has ",
+    };
+    match tally.slips {
+        0 => [none, none, none],
+        1 => [
+            ReportPart::Text(having),
+            ReportPart::Number(1),
+            ReportPart::Text(" slip"),
+        ],
+        slips => [
+            ReportPart::Text(having),
+            ReportPart::Number(slips),
+            ReportPart::Text(" slips"),
         ],
     }
 }
@@ -126,6 +175,7 @@ fn report_totals<W: Write>(files: usize, tally: &CheckTally, writer: &mut W) -> 
     report_count(writer, ", answers: ", tally.lines)?;
     report_count(writer, ", expectations: ", tally.checked)?;
     report_count(writer, ", differences: ", tally.differing)?;
+    report_slips(writer, tally.slips)?;
     write_whole(writer, b"\n")?;
     flush(writer)?;
     Ok(())
@@ -139,6 +189,17 @@ fn report_count<W: Write>(writer: &mut W, words: &str, count: u64) -> Result<(),
     write_whole(writer, words.as_bytes())?;
     write_whole(writer, digits.format(count).as_bytes())?;
     Ok(())
+}
+
+fn report_slips<W: Write>(writer: &mut W, slips: u64) -> Result<(), Refusal>
+    ensures ok { OnOk result (Appends (W.contents writer.old) (W.contents writer.new) (slips_text slips)) }
+    ensures refusals { IfErr result (λ refusal. refusal ≡ WriteFault) }
+{
+    if slips == 0 {
+        Ok(())
+    } else {
+        report_count(writer, ", slips: ", slips)
+    }
 }
 
 fn flush<W: Write>(writer: &mut W) -> Result<(), Refusal>

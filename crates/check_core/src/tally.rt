@@ -1,4 +1,5 @@
-//! `CheckTally`: how many answers a script has, how many of them had expected lines, and how many differed.
+//! `CheckTally`: how many answers a script has, how many of them had expected lines, and how many differed; and how many of its
+//! notes are slips.
 ghost use Rattle.std.specs.Prelude.{◌≡◌, ◌+◌, ◌^◌, ◌<◌};
 ghost use Rattle.check_core.specs.Finding.{is_asked_finding, is_difference};
 
@@ -13,6 +14,8 @@ pub struct CheckTally {
     pub checked: u64,
     /// How many of the checked ones answered otherwise.
     pub differing: u64,
+    /// The notes that are nearly `#= TEXT`, and expect nothing. `ScriptChecker` counts them.
+    pub slips: u64,
 }
 
 impl CheckTally {
@@ -25,6 +28,7 @@ impl CheckTally {
             lines: 0,
             checked: 0,
             differing: 0,
+            slips: 0,
         }
     }
 
@@ -53,6 +57,7 @@ impl CheckTally {
             lines: self.lines.saturating_add(other.lines),
             checked: self.checked.saturating_add(other.checked),
             differing: self.differing.saturating_add(other.differing),
+            slips: self.slips.saturating_add(other.slips),
         }
     }
 }

@@ -6,28 +6,34 @@ ghost use Rattle.check_core.specs.Tap.{TellsTest};
 use crate::form::CheckForm;
 use crate::outcome::CheckOutcome;
 use crate::parts::{ReportPart, write_parts};
-use crate::summary::parts_of_outcome;
+use crate::scripts::CheckOptions;
+use crate::summary::{parts_of_outcome, parts_of_slips};
 use point_core::Refusal;
 use std::alloc::Global;
 use std::io::Write;
 
-/// Writes the version and the plan, which has that many tests. Other forms have neither.
+/// Writes the version and the plan, which has that many tests. If there is none, but one should be, it writes one that fails. Other
+/// forms have nothing of this.
 pub(crate) fn write_plan<W: Write>(
     alloc: Global,
-    form: CheckForm,
+    options: &CheckOptions,
     tests: usize,
     writer: &mut W,
 ) -> Result<(), Refusal>
     ensures refusals { IfErr result (λ refusal. (refusal ≡ WriteFault) ⊎ (refusal ≡ Memory)) }
 {
-    let CheckForm::Tap(version) = form else {
+    let CheckForm::Tap(version) = options.form else {
         return Ok(());
+    };
+    let (tests, end) = match tests {
+        0 if !options.allows_empty => (1, "\nnot ok 1 - no script was found\n"),
+        _ => (tests as u64, "\n"),
     };
     let parts = [
         ReportPart::Number(version),
         ReportPart::Text("\n1.."),
-        ReportPart::Number(tests as u64),
-        ReportPart::Text("\n"),
+        ReportPart::Number(tests),
+        ReportPart::Text(end),
     ];
     write_parts(alloc, "TAP version ", &parts, writer)
 }
@@ -90,6 +96,7 @@ impl<'a> Test<'a> {
             false => "\"\n  differences:\n",
         };
         let [what, count, of, all, end] = parts_of_outcome(self.outcome);
+        let [having, slips, noun] = parts_of_slips(self.outcome);
         let number = self.number();
         let parts = [
             ReportPart::Number(number),
@@ -101,6 +108,9 @@ impl<'a> Test<'a> {
             of,
             all,
             end,
+            having,
+            slips,
+            noun,
             ReportPart::Text(list),
             ReportPart::Bytes(self.differences),
             ReportPart::Text("  ...\n"),

@@ -9,6 +9,7 @@ use Rattle.line_core.specs.Reading.{WasRead}
 use Rattle.line_core.specs.Script.{lines_until}
 use Rattle.line_core.specs.declared.script.TheConstants.{SCRIPT_BYTES}
 use Rattle.line_core.proofs.Handling.{not-failed}
+use Rattle.check_core.specs.Checked.{tally_of_checker}
 use Rattle.check_core.proofs.Progress.{HasChecked-none, checks-bytes, checks-input, reads-few, reads-long}
 use Rattle.check_core.proofs.reading.check.Goals as goal
 
@@ -23,7 +24,13 @@ not-limit r e f is same (inr memory) limit = cc
 pub for_each_line-requires : goal.for_each_line-requires
 for_each_line-requires g c =
     let quiet = Keeps-refl (g.W.Write.contents c.args.writer.now) in
-    record { fresh = record { so_far = HasChecked-none c.new-checker.result c.new-checker.ensures.fresh; quiet = λ _. quiet } }
+    record {
+      fresh = record {
+        so_far = HasChecked-none c.new-checker.result.checker c.new-checker.ensures.fresh;
+        slips = c.new-checker.ensures.slips;
+        quiet = λ _ _. quiet;
+      };
+    }
 
 pub returns-in_err-ending-clause-read : goal.returns-in_err-ending-clause-read
 returns-in_err-ending-clause-read g c read =
@@ -49,7 +56,7 @@ returns-in-Failed-clause-refusals g c = inl refl
 pub returns-in-Whole-clause-ok : goal.returns-in-Whole-clause-ok
 returns-in-Whole-clause-ok g c =
     let b = c.in_ok-ending.ensures.ok in
-    let tally = c.for_each_line.new.handler.tally in
+    let tally = tally_of_checker c.for_each_line.new.handler in
     let read = subst (WasRead _ _ b.bytes) c.in-Whole.is b.read in
     let at = b.whole (not-failed _ (inl c.in-Whole.is)) in
     let is = b.is ∙ ap (λ end. lines_until end (take SCRIPT_BYTES b.bytes)) c.in-Whole.is in
@@ -61,10 +68,10 @@ returns-in-Whole-clause-reads g c =
     (b.bytes, subst (WasRead _ _ b.bytes) c.in-Whole.is b.read)
 
 pub returns-in-Whole-clause-quiet : goal.returns-in-Whole-clause-quiet
-returns-in-Whole-clause-quiet g c none =
+returns-in-Whole-clause-quiet g c none no_slips =
     let b = c.in_ok-ending.ensures.ok in
     let at = b.whole (not-failed _ (inl c.in-Whole.is)) in
-    (at.1 c.in-Whole.is).quiet none
+    (at.1 c.in-Whole.is).quiet none no_slips
 
 pub returns-in-TooLong-clause-limit : goal.returns-in-TooLong-clause-limit
 returns-in-TooLong-clause-limit g c _ =
