@@ -4,6 +4,7 @@ ghost use Rattle.point_core.specs.declared.refusal.Refusal.TheVariants.{Memory};
 ghost use Rattle.line_core.specs.Script.{script_of};
 ghost use Rattle.draw_core.specs.Refused.{HasRefused, drawing_refused};
 
+use crate::fitting::last_lines;
 use crate::note::Explain;
 use crate::run::Run;
 use crate::window::Window;
@@ -35,6 +36,21 @@ impl Drawing {
         let run = Run::of(alloc, script, window, reasons)?;
         let picture = picture_of(alloc, run.history())?;
         Ok(Drawing { run, picture })
+    }
+
+    /// Draws the last lines of a script, as many as fit into a picture of that width in pixels.
+    ///
+    /// Fails only with `Memory`.
+    pub fn of_last<X: Explain>(
+        alloc: Global,
+        script: &[u8],
+        width: u64,
+        reasons: &mut X,
+    ) -> Result<Drawing, Refusal>
+        ensures memory { IfErr result (λ e. e ≡ Memory) }
+    {
+        let window = last_lines(alloc, script, width)?;
+        Drawing::of(alloc, script, &window, reasons)
     }
 
     /// The recorded history.

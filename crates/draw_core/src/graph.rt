@@ -66,11 +66,24 @@ fn enter_rows(
     rows: &[ShowRow],
 ) -> Result<(), AllocError> {
     for row in rows {
+        if !is_strongest(rows, row) {
+            continue;
+        }
         if let Some(waiting) = waiting_on(desk, &row.timeline, row.point) {
             graph.add_wait(&Waiter::Buffer(buffer, row.usage), &waiting)?;
         }
     }
     Ok(())
+}
+
+/// Whether a row has the strongest usage of its point. Rows are in order of usage, from the strongest.
+fn is_strongest(rows: &[ShowRow], row: &ShowRow) -> bool {
+    for other in rows {
+        if other.timeline == row.timeline && other.point == row.point {
+            return other.usage == row.usage;
+        }
+    }
+    true
 }
 
 fn enter_watch(graph: &mut Graph, desk: &Desk, watch: &WatchLane) -> Result<(), AllocError> {

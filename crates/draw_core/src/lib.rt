@@ -6,9 +6,14 @@
 
 mod asking;
 mod drawing;
+mod fitting;
 mod graph;
+mod hearing;
+mod margin;
 mod note;
+mod remark;
 mod run;
+mod tasks;
 mod texts;
 mod waiting;
 mod window;

@@ -9,17 +9,20 @@ ghost use Rattle.draw_core.specs.Refused.{HasRefused, run_refused};
 
 use crate::asking::ask_all;
 use crate::graph::enter_all;
+use crate::hearing::{Scene, hear_notes};
+use crate::margin::Margin;
 use crate::note::{Explain, RefusedLine, push_answer};
+use crate::tasks::enter_tasks;
 use crate::texts::Texts;
 use crate::waiting::{points_listed, waits_of};
 use crate::window::Window;
 use command_core::{Answer, Command};
 use desk_core::Desk;
 use line_core::{Body, LINE_BYTES, Line, RawLine, read_script};
-use picture_core::{Column, Graph, History};
-use point_core::{Point, Refusal};
+use picture_core::{Column, ColumnHead, Graph, History};
+use point_core::{Name, Point, Refusal};
 use script_core::answer_line;
-use std::alloc::Global;
+use std::alloc::{AllocError, Global};
 
 /// The most columns of a picture if no lines were chosen.
 pub const COLUMNS: usize = 500;
@@ -42,6 +45,7 @@ pub struct Run {
     window: Window,
     desk: Desk,
     history: History,
+    margin: Margin,
 }
 
 impl Run {
@@ -60,7 +64,9 @@ impl Run {
     {
         let lines = read_script(alloc, script)?;
         let mut run = Run::new(alloc, window)?;
-        run.take_all(lines.as_slice(), script, reasons)?;
+        let mut texts = Texts::of(script);
+        run.take_all(lines.as_slice(), &mut texts, reasons)?;
+        run.hear_before(&mut texts, u32::MAX)?;
         run.finish()?;
         Ok(run)
     }
@@ -108,24 +114,41 @@ impl Run {
             window: *window,
             desk: Desk::new(alloc)?,
             history: History::new(alloc),
+            margin: Margin::new(alloc),
         })
     }
 
     fn take_all<X: Explain>(
         &mut self,
         lines: &[Line],
-        script: &[u8],
+        texts: &mut Texts<'_>,
         reasons: &mut X,
     ) -> Result<(), Refusal>
         requires begun { HasRun self.old.window [] self.old.desk self.old.history.refused }
         ensures memory { IfErr result (λ e. e ≡ Memory) }
         ensures run { OnOk result (HasRun self.old.window lines.now self.new.desk self.new.history.refused) }
     {
-        let mut texts = Texts::of(script);
         for line in lines {
+            self.hear_before(texts, line.number)?;
             let text = texts.line(line.number);
             self.take(&raw_line(line.number, text), &line.body, reasons)?;
         }
+        Ok(())
+    }
+
+    /// Hears the notes before the line with that number.
+    fn hear_before(&mut self, texts: &mut Texts<'_>, line: u32) -> Result<(), Refusal>
+        ensures memory { IfErr result (λ e. e ≡ Memory) }
+        ensures desk { self.new.desk ≡ self.old.desk }
+        ensures window { self.new.window ≡ self.old.window }
+        ensures refused { self.new.history.refused ≡ self.old.history.refused }
+    {
+        let scene = Scene {
+            alloc: self.alloc,
+            window: &self.window,
+            desk: &self.desk,
+        };
+        hear_notes(&scene, texts, line, &mut self.history, &mut self.margin)?;
         Ok(())
     }
 
@@ -180,6 +203,8 @@ impl Run {
         ensures window { self.new.window ≡ self.old.window }
     {
         let answer = answer_line(&mut self.desk, *body);
+        self.margin.client = None;
+        self.history.left_out = self.history.left_out.saturating_add(1);
         self.enter(0, line, body, &answer, reasons)
     }
 
@@ -210,10 +235,13 @@ impl Run {
         let column = self.history.columns.len() + 1;
         self.enter(column, line.number, body, answer, reasons)?;
         let note = self.note_of(line, body, answer, reasons)?;
+        let client = place_of_client(&mut self.history.clients, self.margin.next_client())?;
         self.history.add_column(Column {
             line: line.number,
+            head: self.margin.next_head(),
             word: word_of_line(body),
             refused: is_refused(answer),
+            client,
             note,
         })?;
         ask_all(self.history.bars.as_mut_slice(), &self.desk, column);
@@ -271,15 +299,51 @@ impl Run {
         Ok(note)
     }
 
-    /// Enters the points for which the pending files wait.
+    /// Enters what the pending files wait for, and the tasks that wait for files.
     fn finish(&mut self) -> Result<(), Refusal>
         ensures memory { IfErr result (λ e. e ≡ Memory) }
         ensures refused { self.new.history.refused ≡ self.old.history.refused }
     {
         self.ask_first();
-        self.history.waits = waits_of(self.alloc, &self.desk, self.history.bars.as_slice())?;
+        self.history.waits = waits_of(
+            self.alloc,
+            &self.desk,
+            self.history.bars.as_slice(),
+            self.margin.not_signalled.as_slice(),
+        )?;
+        enter_tasks(self.alloc, self.margin.waits.as_slice(), &mut self.history)?;
+        if self.margin.time.is_some() {
+            hide_lines(self.history.columns.as_mut_slice());
+        }
         Ok(())
     }
+}
+
+/// Where columns have times, the user knows no lines.
+fn hide_lines(columns: &mut [Column]) {
+    for column in columns.iter_mut() {
+        if let ColumnHead::Line = column.head {
+            column.head = ColumnHead::Blank;
+        }
+    }
+}
+
+/// The place of a client, which gets one if it has none.
+fn place_of_client(
+    clients: &mut Vec<Name>,
+    client: Option<Name>,
+) -> Result<Option<usize>, AllocError> {
+    let Some(client) = client else {
+        return Ok(None);
+    };
+    for (place, other) in clients.iter().enumerate() {
+        if *other == client {
+            return Ok(Some(place));
+        }
+    }
+    let place = clients.len();
+    clients.push(client)?;
+    Ok(Some(place))
 }
 
 /// The points of the file on which a watch is registered; none for another command.

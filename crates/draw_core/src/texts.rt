@@ -17,6 +17,19 @@ impl<'a> Texts<'a> {
         }
     }
 
+    /// The number of the next line.
+    pub(crate) fn number(&self) -> u32 {
+        self.number
+    }
+
+    /// The next line, unless it has no line feed.
+    pub(crate) fn next_line(&mut self) -> Option<&'a [u8]> {
+        let (line, rest) = first_line(self.rest)?;
+        self.rest = rest;
+        self.number = self.number.saturating_add(1);
+        Some(line)
+    }
+
     /// The line with this number. Numbers must not fall from call to call.
     pub(crate) fn line(&mut self, number: u32) -> &'a [u8] {
         for _ in self.number..number {

@@ -4,15 +4,21 @@ use picture_core::{Bar, BarWait, Waiting};
 use point_core::{Name, Point};
 use std::alloc::{AllocError, Global};
 
-/// The points for which the files of bars wait, from bar to bar.
+/// What the files of bars wait for, from bar to bar. The points of `unknown` files mean nothing.
 pub(crate) fn waits_of(
     alloc: Global,
     desk: &Desk,
     bars: &[Bar],
+    unknown: &[Name],
 ) -> Result<Vec<BarWait>, AllocError> {
     let mut waits = Vec::new(alloc);
     for (place, bar) in bars.iter().enumerate() {
-        if bar.goes_on() {
+        if bar.goes_on() && unknown.contains(&bar.name) {
+            waits.push(BarWait {
+                bar: place,
+                waiting: None,
+            })?;
+        } else if bar.goes_on() {
             push_waits(desk, place, points_listed(desk, &bar.name), &mut waits)?;
         }
     }
@@ -27,7 +33,10 @@ fn push_waits(
 ) -> Result<(), AllocError> {
     for point in points {
         if let Some(waiting) = waiting_for(desk, point) {
-            waits.push(BarWait { bar, waiting })?;
+            waits.push(BarWait {
+                bar,
+                waiting: Some(waiting),
+            })?;
         }
     }
     Ok(())

@@ -108,7 +108,7 @@ fn push_file(file: &FileRow, out: &mut Vec<u8>) -> Result<(), AllocError> {
 /// The end of a label, and its style.
 fn status_words(status: Status) -> &'static str {
     match status {
-        Status::Active => "pending\"",
+        Status::Active => "pending\", style=filled, fillcolor=\"#e69f00\"",
         Status::Signalled => "signalled\", style=filled, fillcolor=\"#56b4e9\"",
         Status::Cancelled => "cancelled\", style=\"filled,dashed\", fillcolor=\"#d9d9d9\"",
     }
@@ -130,7 +130,7 @@ fn push_watch(cookie: u64, out: &mut Vec<u8>) -> Result<(), AllocError> {
     let parts = [
         Part::Text("\"watch "),
         Part::Number(cookie),
-        Part::Text("\" [shape=diamond, label=\"watch\\n"),
+        Part::Text("\" [shape=diamond, label=\"watch "),
         Part::Number(cookie),
         Part::Text("\"];\n"),
     ];

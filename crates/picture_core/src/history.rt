@@ -6,14 +6,29 @@ use crate::graph::Waiting;
 use point_core::{Name, Point, Usage};
 use std::alloc::{AllocError, Global};
 
-/// A line of the script that has an answer. Columns are numbered from 1; 0 is before the first.
+/// The number over a column.
+#[derive(Clone, Copy)]
+pub enum ColumnHead {
+    /// The number of its line.
+    Line,
+    /// When it happened, in microseconds.
+    Time(u64),
+    /// Nothing: it happened in the millisecond of the column before, or at a time that isn't known.
+    Blank,
+}
+
+/// A line of the script that has an answer, or a note that says what happened then. Columns are numbered from 1; 0 is before
+/// the first.
 #[derive(Drop)]
 pub struct Column {
     /// The line's number.
     pub line: u32,
+    pub head: ColumnHead,
     /// The word of its command, or `?` if it is none.
     pub word: &'static str,
     pub refused: bool,
+    /// The client whose line it is, by its index.
+    pub client: Option<usize>,
     /// The line, its answer, and the reason if it was refused.
     pub note: Vec<u8>,
 }
@@ -89,13 +104,46 @@ pub struct WatchLane {
     pub points: Vec<Point>,
 }
 
+/// A task that waits for files.
+#[derive(Drop)]
+pub struct TaskLane {
+    /// Its name and number, as a note gives them.
+    pub name: Vec<u8>,
+}
+
+/// The wait of a task for a file, which ends when the file is signalled or closed.
+#[derive(Clone, Copy)]
+pub struct TaskWait {
+    pub task: usize,
+    /// The column in which it began.
+    pub column: usize,
+    pub bar: usize,
+    /// The column in which a note ends it.
+    pub end: Option<usize>,
+}
+
+impl TaskWait {
+    /// The column in which it ends: a note says so, or its file is signalled or closed.
+    pub(crate) fn end_with(&self, bar: Option<&Bar>) -> Option<usize> {
+        if self.end.is_some() {
+            return self.end;
+        }
+        match bar?.settled {
+            Some(settled) => Some(settled.column.max(self.column)),
+            None => bar?.closed,
+        }
+    }
+}
+
 /// A lane, by its index among the lanes of its kind.
 #[derive(Clone, Copy)]
 pub enum Lane {
+    Client(usize),
     Timeline(usize),
     Bar(usize),
     Buffer(usize),
     Watch(usize),
+    Task(usize),
 }
 
 /// A link from a lane that a command reads to one that it makes or changes.
@@ -106,11 +154,12 @@ pub struct Link {
     pub to: Lane,
 }
 
-/// A point for which the file of a bar waits at the end.
+/// What the file of a bar waits for at the end.
 #[derive(Clone, Copy)]
 pub struct BarWait {
     pub bar: usize,
-    pub waiting: Waiting,
+    /// A point; none if its number means nothing, as a note says: then the file is only not signalled.
+    pub waiting: Option<Waiting>,
 }
 
 /// The timelines, buffers and watches of the drawn commands, and those that were there before them.
@@ -120,6 +169,8 @@ pub struct Lanes {
     pub buffers: Vec<BufferLane>,
     pub marks: Vec<BufferMark>,
     pub watches: Vec<WatchLane>,
+    pub tasks: Vec<TaskLane>,
+    pub task_waits: Vec<TaskWait>,
     pub links: Vec<Link>,
 }
 
@@ -130,6 +181,8 @@ impl Lanes {
             buffers: Vec::new(alloc),
             marks: Vec::new(alloc),
             watches: Vec::new(alloc),
+            tasks: Vec::new(alloc),
+            task_waits: Vec::new(alloc),
             links: Vec::new(alloc),
         }
     }
@@ -139,10 +192,14 @@ impl Lanes {
 #[derive(Drop)]
 pub struct History {
     pub columns: Vec<Column>,
+    /// How many commands are left out before the first column.
+    pub left_out: usize,
+    /// The clients whose lines are drawn, in order of their first lines.
+    pub clients: Vec<Name>,
     /// The files that are or were open, in order of making.
     pub bars: Vec<Bar>,
     pub lanes: Lanes,
-    /// By bar, the points for which its file waits at the end.
+    /// By bar, what its file waits for at the end.
     pub waits: Vec<BarWait>,
     /// Whether a line was refused, including lines that are not drawn.
     pub refused: bool,
@@ -155,6 +212,8 @@ impl History {
     {
         History {
             columns: Vec::new(alloc),
+            left_out: 0,
+            clients: Vec::new(alloc),
             bars: Vec::new(alloc),
             lanes: Lanes::new(alloc),
             waits: Vec::new(alloc),

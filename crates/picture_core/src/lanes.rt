@@ -1,9 +1,9 @@
 //! Draws the lanes: the steps of timelines, the bars of files, the marks of buffers and watches.
 
-use crate::bar::{Bar, BarSettled};
+use crate::bar::Bar;
 use crate::history::{
-    Access, BarWait, BufferLane, BufferMark, History, Lane, TimelineLane, ValueStep, WatchEnd,
-    WatchLane,
+    Access, BarWait, BufferLane, BufferMark, Column, History, Lane, TaskWait, TimelineLane,
+    ValueStep, WatchEnd, WatchLane,
 };
 use crate::shapes::{Canvas, Drawn, Face, Fill, Label, Mark, Spot, Stroke};
 use crate::sheet::{LINE, PAD, Sheet};
@@ -21,6 +21,11 @@ pub(crate) const HALF_BAR: u64 = 7;
 /// From the middle of a lane to the baseline of a text there.
 const FOOT: u64 = 4;
 
+/// The gap between a client's sign and the edges of its column, and half its height.
+const GAP: u64 = 2;
+
+const HALF_CLIENT: u64 = 7;
+
 /// A line to the right.
 fn push_level(stroke: Stroke, left: u64, right: u64, y: u64, canvas: &mut Canvas) -> Drawn {
     canvas.line(stroke, &Spot { x: left, y }, &Spot { x: right, y })
@@ -30,6 +35,34 @@ fn push_level(stroke: Stroke, left: u64, right: u64, y: u64, canvas: &mut Canvas
 fn push_name(sheet: &Sheet, lane: Lane, label: &Label, canvas: &mut Canvas) -> Drawn {
     let y = sheet.middle_of(lane).saturating_add(FOOT);
     canvas.text(Face::Name, PAD, y, label)
+}
+
+pub(crate) fn push_clients(history: &History, sheet: &Sheet, canvas: &mut Canvas) -> Drawn {
+    for (place, name) in history.clients.iter().enumerate() {
+        push_name(sheet, Lane::Client(place), &Label::Name(*name), canvas)?;
+    }
+    push_turns(history.columns.as_slice(), sheet, canvas)
+}
+
+/// A sign in the lane of its client for each column.
+fn push_turns(columns: &[Column], sheet: &Sheet, canvas: &mut Canvas) -> Drawn {
+    for (place, column) in columns.iter().enumerate() {
+        if let Some(client) = column.client {
+            push_turn(sheet, place.saturating_add(1), client, canvas)?;
+        }
+    }
+    Ok(())
+}
+
+fn push_turn(sheet: &Sheet, column: usize, client: usize, canvas: &mut Canvas) -> Drawn {
+    let left = sheet.left(column).saturating_add(GAP);
+    let width = sheet.right(column).saturating_sub(left).saturating_sub(GAP);
+    let middle = sheet.height_of(Lane::Client(client));
+    let at = Spot {
+        x: left,
+        y: middle.saturating_sub(HALF_CLIENT),
+    };
+    canvas.area(Fill::Client, &at, width, HALF_CLIENT * 2)
 }
 
 pub(crate) fn push_timelines(history: &History, sheet: &Sheet, canvas: &mut Canvas) -> Drawn {
@@ -133,7 +166,7 @@ fn push_bar(sheet: &Sheet, middle: u64, bar: &Bar, canvas: &mut Canvas) -> Drawn
     let left = sheet.middle(bar.made);
     let right = end_of(sheet, bar.closed);
     let y = middle.saturating_sub(HALF_BAR);
-    push_parts(sheet, bar.settled, left, right, y, canvas)?;
+    push_parts(sheet, bar, left, right, y, canvas)?;
     let width = right.saturating_sub(left);
     canvas.edge(&Spot { x: left, y }, width, HALF_BAR * 2, bar.goes_on())?;
     push_bar_end(bar, right, middle, canvas)
@@ -150,18 +183,27 @@ fn end_of(sheet: &Sheet, closed: Option<usize>) -> u64 {
 /// A bar's parts: pending, and, from the column where it is settled, with the fill of its status.
 fn push_parts(
     sheet: &Sheet,
-    settled: Option<BarSettled>,
+    bar: &Bar,
     left: u64,
     right: u64,
     y: u64,
     canvas: &mut Canvas,
 ) -> Drawn {
-    let Some(settled) = settled else {
-        return push_part(Fill::Pending, left, right, y, canvas);
+    let Some(settled) = bar.settled else {
+        return push_part(unsettled_fill(bar), left, right, y, canvas);
     };
     let turn = sheet.middle(settled.column).max(left).min(right);
     push_part(Fill::Pending, left, turn, y, canvas)?;
     push_part(fill_of(settled.status), turn, right, y, canvas)
+}
+
+/// The fill of a file that was never signalled.
+fn unsettled_fill(bar: &Bar) -> Fill {
+    if bar.goes_on() {
+        Fill::Hanging
+    } else {
+        Fill::Pending
+    }
 }
 
 fn push_part(fill: Fill, left: u64, right: u64, y: u64, canvas: &mut Canvas) -> Drawn {
@@ -190,7 +232,7 @@ fn push_bar_end(bar: &Bar, right: u64, middle: u64, canvas: &mut Canvas) -> Draw
     Ok(())
 }
 
-/// The points for which bars wait, one line of text each, right of the columns.
+/// What bars wait for, one line of text each, right of the columns.
 fn push_waits(waits: &[BarWait], sheet: &Sheet, canvas: &mut Canvas) -> Drawn {
     let x = sheet.end.saturating_add(PAD * 2);
     let mut bar = usize::MAX;
@@ -202,9 +244,16 @@ fn push_waits(waits: &[BarWait], sheet: &Sheet, canvas: &mut Canvas) -> Drawn {
             sheet.height_of(Lane::Bar(wait.bar)).saturating_add(FOOT)
         };
         bar = wait.bar;
-        canvas.text(Face::Name, x, y, &Label::Waiting(wait.waiting))?;
+        canvas.text(Face::Name, x, y, &label_of_wait(wait))?;
     }
     Ok(())
+}
+
+fn label_of_wait(wait: &BarWait) -> Label {
+    match wait.waiting {
+        Some(waiting) => Label::Waiting(waiting),
+        None => Label::NotSignalled,
+    }
 }
 
 pub(crate) fn push_buffers(history: &History, sheet: &Sheet, canvas: &mut Canvas) -> Drawn {
@@ -296,4 +345,35 @@ fn push_watch_end(sheet: &Sheet, end: WatchEnd, y: u64, canvas: &mut Canvas) -> 
         WatchEnd::Fired(column) => canvas.mark(Mark::Fired, sheet.middle(column), y),
         WatchEnd::Removed(column) => canvas.mark(Mark::Removed, sheet.middle(column), y),
     }
+}
+
+pub(crate) fn push_tasks(history: &History, sheet: &Sheet, canvas: &mut Canvas) -> Drawn {
+    for (place, _) in history.lanes.tasks.iter().enumerate() {
+        push_name(sheet, Lane::Task(place), &Label::Task(place), canvas)?;
+    }
+    for wait in &history.lanes.task_waits {
+        push_wait(sheet, wait, history.bars.get(wait.bar), canvas)?;
+    }
+    Ok(())
+}
+
+/// A wait, from its beginning to its end.
+fn push_wait(sheet: &Sheet, wait: &TaskWait, bar: Option<&Bar>, canvas: &mut Canvas) -> Drawn {
+    let y = sheet.height_of(Lane::Task(wait.task));
+    let left = sheet.middle(wait.column);
+    let end = wait.end_with(bar);
+    push_level(Stroke::Wait, left, end_of(sheet, end), y, canvas)?;
+    push_begin_of_wait(wait, left, y, canvas)?;
+    match end {
+        Some(column) => canvas.mark(Mark::Woken, sheet.middle(column), y),
+        None => canvas.mark(Mark::GoesOn, sheet.end, y),
+    }
+}
+
+/// The mark of a wait's beginning; none for a wait that was there before the first column.
+fn push_begin_of_wait(wait: &TaskWait, x: u64, y: u64, canvas: &mut Canvas) -> Drawn {
+    if wait.column == 0 {
+        return Ok(());
+    }
+    canvas.mark(Mark::Waits, x, y)
 }

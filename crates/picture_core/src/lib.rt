@@ -11,6 +11,7 @@ mod lanes;
 mod legend;
 mod links;
 mod measure;
+mod operands;
 mod picture;
 mod shapes;
 mod sheet;
@@ -22,11 +23,12 @@ pub use bar::{Bar, BarSettled};
 pub use dot::dot_text;
 pub use graph::{Edge, Graph, Node, Waiter, Waiting};
 pub use history::{
-    Access, BarWait, BufferLane, BufferMark, Column, History, Lane, Lanes, Link, TimelineLane,
-    ValueStep, WatchEnd, WatchLane,
+    Access, BarWait, BufferLane, BufferMark, Column, ColumnHead, History, Lane, Lanes, Link,
+    TaskLane, TaskWait, TimelineLane, ValueStep, WatchEnd, WatchLane,
 };
 pub use picture::picture_of;
 pub use shapes::{
     Caption, ColumnArea, Face, Fill, Heading, Label, Mark, Meaning, Picture, Shape, Spot, Stroke,
 };
+pub use sheet::columns_past;
 pub use svg::svg_text;

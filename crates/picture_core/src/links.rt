@@ -5,47 +5,78 @@ use crate::lanes::HALF_BAR;
 use crate::shapes::{Canvas, Drawn, Mark, Spot, Stroke};
 use crate::sheet::Sheet;
 
-/// Half the height of a mark on a buffer's lane, and of a mark on a watch's.
+/// Half the height of a mark on a buffer's lane, and of a mark on a watch's or a task's.
 const HALF_SIGN: u64 = 10;
 
 const HALF_WATCH: u64 = 6;
 
-pub(crate) fn push_links(links: &[Link], sheet: &Sheet, canvas: &mut Canvas) -> Drawn {
+/// The lines of the links, which come before the lanes, so that they pass behind the bars that they have nothing to do with.
+pub(crate) fn push_link_lines(links: &[Link], sheet: &Sheet, canvas: &mut Canvas) -> Drawn {
     for link in links {
-        push_link(sheet, link, canvas)?;
+        let arrow = Arrow::of(sheet, link);
+        let from = Spot {
+            x: arrow.x,
+            y: arrow.from,
+        };
+        let to = Spot {
+            x: arrow.x,
+            y: arrow.end,
+        };
+        canvas.line(Stroke::Link, &from, &to)?;
     }
     Ok(())
 }
 
-/// An arrow from the middle of one lane to the edge of the mark on the other.
-fn push_link(sheet: &Sheet, link: &Link, canvas: &mut Canvas) -> Drawn {
-    let x = sheet.middle(link.column);
-    let from = sheet.height_of(link.from);
-    let to = sheet.height_of(link.to);
-    push_arrow_to(x, from, to, room_at(link.to), canvas)
-}
-
-/// An arrow to a mark that reaches so far above and below its middle.
-fn push_arrow_to(x: u64, from: u64, to: u64, room: u64, canvas: &mut Canvas) -> Drawn {
-    if from <= to {
-        push_arrow(Mark::Down, x, from, to.saturating_sub(room), canvas)
-    } else {
-        push_arrow(Mark::Up, x, from, to.saturating_add(room), canvas)
+/// Where the links begin and end, above the lanes.
+pub(crate) fn push_link_ends(links: &[Link], sheet: &Sheet, canvas: &mut Canvas) -> Drawn {
+    for link in links {
+        let arrow = Arrow::of(sheet, link);
+        canvas.mark(Mark::From, arrow.x, arrow.from)?;
+        canvas.mark(arrow.head, arrow.x, arrow.end)?;
     }
+    Ok(())
 }
 
-fn push_arrow(mark: Mark, x: u64, from: u64, end: u64, canvas: &mut Canvas) -> Drawn {
-    canvas.line(Stroke::Link, &Spot { x, y: from }, &Spot { x, y: end })?;
-    canvas.mark(Mark::From, x, from)?;
-    canvas.mark(mark, x, end)
+/// An arrow from the middle of one lane to the edge of the mark on another.
+#[derive(Clone, Copy)]
+struct Arrow {
+    x: u64,
+    from: u64,
+    end: u64,
+    head: Mark,
+}
+
+impl Arrow {
+    fn of(sheet: &Sheet, link: &Link) -> Arrow {
+        let x = sheet.middle(link.column);
+        let from = sheet.height_of(link.from);
+        let to = sheet.height_of(link.to);
+        let room = room_at(link.to);
+        if from <= to {
+            let end = to.saturating_sub(room);
+            return Arrow {
+                x,
+                from,
+                end,
+                head: Mark::Down,
+            };
+        }
+        let end = to.saturating_add(room);
+        Arrow {
+            x,
+            from,
+            end,
+            head: Mark::Up,
+        }
+    }
 }
 
 /// Half the height of the mark on a lane.
 fn room_at(lane: Lane) -> u64 {
     match lane {
-        Lane::Timeline(_) => 0,
+        Lane::Client(_) | Lane::Timeline(_) => 0,
         Lane::Bar(_) => HALF_BAR,
         Lane::Buffer(_) => HALF_SIGN,
-        Lane::Watch(_) => HALF_WATCH,
+        Lane::Watch(_) | Lane::Task(_) => HALF_WATCH,
     }
 }

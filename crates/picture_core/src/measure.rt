@@ -7,6 +7,9 @@ use point_core::Name;
 /// The width of a character.
 const CHARACTER: u64 = 7;
 
+/// Microseconds of a second.
+pub(crate) const SECOND: u64 = 1_000_000;
+
 /// The number of characters of a number.
 pub(crate) fn digits(number: u64) -> u64 {
     Buffer::new().format(number).len() as u64
@@ -22,6 +25,11 @@ pub(crate) fn waiting_length(waiting: &Waiting) -> u64 {
         .saturating_add(digits(waiting.point))
         .saturating_add(digits(waiting.to_go))
         .saturating_add(9)
+}
+
+/// The length of a time in seconds with three decimals.
+pub(crate) fn time_length(time: u64) -> u64 {
+    digits(time / SECOND).saturating_add(4)
 }
 
 /// The width of this many characters.

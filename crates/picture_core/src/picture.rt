@@ -2,12 +2,15 @@
 ghost use Rattle.std.specs.Prelude.{◌≡◌, IfErr};
 ghost use Rattle.point_core.specs.declared.refusal.Refusal.TheVariants.{Memory};
 
-use crate::history::{Column, History, Lane};
-use crate::lanes::{push_bars, push_buffers, push_timelines, push_watches};
-use crate::legend::{LEGEND_HEIGHT, LEGEND_WIDTH, push_legend};
-use crate::links::push_links;
+use crate::history::{Column, ColumnHead, History, Lane};
+use crate::lanes::{
+    push_bars, push_buffers, push_clients, push_tasks, push_timelines, push_watches,
+};
+use crate::legend::{LEGEND_WIDTH, push_legend};
+use crate::links::{push_link_ends, push_link_lines};
+use crate::operands::operand_count;
 use crate::shapes::{Canvas, ColumnArea, Drawn, Face, Fill, Heading, Label, Mark, Picture, Spot};
-use crate::sheet::{HEADING, PAD, Sheet};
+use crate::sheet::{HEADING, LINE, PAD, Sheet};
 use point_core::Refusal;
 use std::alloc::{AllocError, Global};
 
@@ -30,13 +33,10 @@ fn picture_on(alloc: Global, history: &History, sheet: &Sheet) -> Result<Picture
     ensures memory { IfErr result (λ e. e ≡ Memory) }
 {
     let width = sheet.width.max(LEGEND_WIDTH);
-    let height = sheet
-        .bottom
-        .checked_add(LEGEND_HEIGHT)
-        .ok_or(Refusal::Memory)?;
     let mut canvas = Canvas::new(alloc);
-    canvas.area(Fill::Page, &Spot { x: 0, y: 0 }, width, height)?;
     push_all(history, sheet, width, &mut canvas)?;
+    let bottom = push_legend(sheet.bottom, width, &mut canvas)?;
+    let height = push_left_out(history.left_out, bottom, &mut canvas)?;
     let columns = column_areas(alloc, history, sheet)?;
     Ok(Picture {
         width,
@@ -51,30 +51,52 @@ fn push_all(history: &History, sheet: &Sheet, width: u64, canvas: &mut Canvas) -
     push_stripes(history, sheet, width, canvas)?;
     push_headings(history, sheet, canvas)?;
     push_heads(history, sheet, canvas)?;
+    push_clients(history, sheet, canvas)?;
+    push_link_lines(history.lanes.links.as_slice(), sheet, canvas)?;
     push_timelines(history, sheet, canvas)?;
     push_bars(history, sheet, canvas)?;
-    push_links(history.lanes.links.as_slice(), sheet, canvas)?;
+    push_link_ends(history.lanes.links.as_slice(), sheet, canvas)?;
     push_buffers(history, sheet, canvas)?;
     push_watches(history.lanes.watches.as_slice(), sheet, canvas)?;
-    push_legend(sheet.bottom, canvas)
+    push_tasks(history, sheet, canvas)
+}
+
+/// Says what is left out, below the legend. Gives the bottom.
+fn push_left_out(count: usize, top: u64, canvas: &mut Canvas) -> Result<u64, AllocError> {
+    if count == 0 {
+        return Ok(top);
+    }
+    canvas.text(
+        Face::Heading,
+        PAD,
+        top.saturating_add(LINE),
+        &Label::LeftOut(count),
+    )?;
+    let below = top.saturating_add(LINE * 2);
+    canvas.text(Face::Heading, PAD, below, &Label::Choosing)?;
+    Ok(below.saturating_add(LINE))
 }
 
 /// The kinds of lanes from top to bottom, and the number of each.
-fn kinds_of(history: &History) -> [(Heading, usize); 4] {
+fn kinds_of(history: &History) -> [(Heading, usize); 6] {
     [
+        (Heading::Clients, history.clients.len()),
         (Heading::Timelines, history.lanes.timelines.len()),
         (Heading::Files, history.bars.len()),
         (Heading::Buffers, history.lanes.buffers.len()),
         (Heading::Watches, history.lanes.watches.len()),
+        (Heading::Tasks, history.lanes.tasks.len()),
     ]
 }
 
 fn lane_of(kind: Heading, place: usize) -> Lane {
     match kind {
+        Heading::Clients => Lane::Client(place),
         Heading::Timelines => Lane::Timeline(place),
         Heading::Files => Lane::Bar(place),
         Heading::Buffers => Lane::Buffer(place),
         Heading::Watches => Lane::Watch(place),
+        Heading::Tasks => Lane::Task(place),
     }
 }
 
@@ -123,8 +145,11 @@ fn push_heading(sheet: &Sheet, kind: Heading, canvas: &mut Canvas) -> Drawn {
     canvas.text(Face::Heading, PAD, y, &Label::Heading(kind))
 }
 
-/// The head of each column: its line's number and word, and a mark if it was refused.
+/// The head of each column: its number and words, and a mark if it was refused.
 fn push_heads(history: &History, sheet: &Sheet, canvas: &mut Canvas) -> Drawn {
+    if history.columns.is_empty() {
+        canvas.text(Face::Heading, PAD, WORDS, &Label::NoCommands)?;
+    }
     for (place, column) in history.columns.iter().enumerate() {
         push_head(sheet, place, column, canvas)?;
     }
@@ -137,21 +162,49 @@ fn push_head(sheet: &Sheet, place: usize, column: &Column, canvas: &mut Canvas) 
     if column.refused {
         push_refusal(sheet, number, canvas)?;
     }
-    let line = Label::Number(u64::from(column.line));
-    canvas.text(Face::Number, x, NUMBERS, &line)?;
+    push_number(column, x, canvas)?;
+    push_words(sheet, place, column, canvas)
+}
+
+fn push_number(column: &Column, x: u64, canvas: &mut Canvas) -> Drawn {
+    let label = match column.head {
+        ColumnHead::Line => Label::Number(u64::from(column.line)),
+        ColumnHead::Time(time) => Label::Time(time),
+        ColumnHead::Blank => return Ok(()),
+    };
+    canvas.text(Face::Number, x, NUMBERS, &label)
+}
+
+/// The word of a column's command, and below it the words of its line for which there is room.
+fn push_words(sheet: &Sheet, place: usize, column: &Column, canvas: &mut Canvas) -> Drawn {
+    let x = sheet.middle(place.saturating_add(1));
     let face = if column.refused {
         Face::RefusedWord
     } else {
         Face::Word
     };
-    canvas.text(face, x, WORDS, &Label::Command(place))
+    canvas.text(face, x, WORDS, &Label::Command(place))?;
+    for operand in 0..operand_count(column).min(sheet.operands) {
+        let label = Label::Operand {
+            column: place,
+            place: operand,
+        };
+        let down = (operand as u64).saturating_add(1).saturating_mul(LINE);
+        canvas.text(Face::Word, x, WORDS.saturating_add(down), &label)?;
+    }
+    Ok(())
 }
 
 fn push_refusal(sheet: &Sheet, number: usize, canvas: &mut Canvas) -> Drawn {
     let left = sheet.left(number);
     let width = sheet.right(number).saturating_sub(left);
     canvas.area(Fill::Refused, &Spot { x: left, y: 0 }, width, sheet.bottom)?;
-    canvas.mark(Mark::Refused, sheet.middle(number), REFUSALS)
+    let down = (sheet.operands as u64).saturating_mul(LINE);
+    canvas.mark(
+        Mark::Refused,
+        sheet.middle(number),
+        REFUSALS.saturating_add(down),
+    )
 }
 
 fn column_areas(

@@ -13,15 +13,17 @@ pub struct Spot {
 }
 
 /// The fill of an area.
-#[derive(Clone, Copy)]
+#[derive(Clone, Copy, PartialEq, Eq)]
 pub enum Fill {
-    /// The page itself: no fill.
-    Page,
     /// Every other lane.
     Stripe,
     /// The column of a refused line.
     Refused,
+    /// A client's line.
+    Client,
     Pending,
+    /// Pending at the end.
+    Hanging,
     Signalled,
     Cancelled,
 }
@@ -37,10 +39,12 @@ pub enum Stroke {
     Closed,
     Link,
     Watch,
+    /// The wait of a task.
+    Wait,
 }
 
 /// A sign of fixed size.
-#[derive(Clone, Copy)]
+#[derive(Clone, Copy, PartialEq, Eq)]
 pub enum Mark {
     Add,
     Import,
@@ -49,6 +53,10 @@ pub enum Mark {
     Registered,
     Fired,
     Removed,
+    /// A task begins to wait.
+    Waits,
+    /// Its wait ends.
+    Woken,
     Refused,
     /// A timeline is closed.
     Shut,
@@ -70,6 +78,7 @@ pub enum Face {
     /// It starts there.
     Name,
     Heading,
+    Meaning,
     /// It is centred there.
     Number,
     Word,
@@ -81,27 +90,42 @@ pub enum Face {
 /// The heading over the lanes of a kind.
 #[derive(Clone, Copy)]
 pub enum Heading {
+    Clients,
     Timelines,
     Files,
     Buffers,
     Watches,
+    Tasks,
 }
 
 /// The meaning of a sample in the legend.
 #[derive(Clone, Copy)]
 pub enum Meaning {
+    Client,
     Pending,
+    Hanging,
     Signalled,
     Cancelled,
     Closed,
+    Shut,
     Refused,
     Add,
+    Letters,
     Import,
     Export,
-    Letters,
+    Trim,
     Registered,
     Fired,
     Removed,
+    Waits,
+    Woken,
+}
+
+/// What stands for a meaning in a picture.
+#[derive(Clone, Copy)]
+pub(crate) enum Sample {
+    Fill(Fill),
+    Mark(Mark),
 }
 
 /// A text.
@@ -109,15 +133,29 @@ pub enum Meaning {
 pub enum Label {
     /// The word of the command of a column, by its index in the history.
     Command(usize),
+    /// Another word of the line of a column.
+    Operand { column: usize, place: usize },
     Heading(Heading),
     Access(Access),
     Meaning(Meaning),
     Name(Name),
     Number(u64),
+    /// A time in microseconds, in seconds with three decimals.
+    Time(u64),
     /// A watch, by its cookie.
     Watch(u64),
+    /// A task that waits, by its index.
+    Task(usize),
     /// A point and how far it is to go, as `gpu 5: 3 to go`.
     Waiting(Waiting),
+    /// A file isn't signalled.
+    NotSignalled,
+    /// There is no column.
+    NoCommands,
+    /// How many commands are left out before the first column.
+    LeftOut(usize),
+    /// How to see them.
+    Choosing,
 }
 
 /// A text at its place.
@@ -158,6 +196,16 @@ pub enum Shape {
     },
 }
 
+impl Shape {
+    fn is(&self, sample: Sample) -> bool {
+        match (self, sample) {
+            (Shape::Area { fill, .. }, Sample::Fill(wanted)) => *fill == wanted,
+            (Shape::Mark { mark, .. }, Sample::Mark(wanted)) => *mark == wanted,
+            _ => false,
+        }
+    }
+}
+
 /// Shapes, drawn in order, and texts above them. Each call fails only if memory is refused.
 #[derive(Drop)]
 pub(crate) struct Canvas {
@@ -171,6 +219,16 @@ impl Canvas {
             shapes: Vec::new(alloc),
             texts: Vec::new(alloc),
         }
+    }
+
+    /// Whether a shape is this sample.
+    pub(crate) fn has(&self, sample: Sample) -> bool {
+        for shape in &self.shapes {
+            if shape.is(sample) {
+                return true;
+            }
+        }
+        false
     }
 
     pub(crate) fn area(

@@ -1,12 +1,20 @@
 //! `Sheet`: the layout of a picture: the edges of its columns and the tops of its lanes, in pixels. Columns don't
 //! overlap, and neither do lanes.
 
-use crate::history::{BarWait, Column, History, Lane, ValueStep, WatchLane};
-use crate::measure::{digits, name_length, text_width, waiting_length};
+ghost use Rattle.std.specs.Prelude.{◌≡◌, IfErr};
+ghost use Rattle.point_core.specs.declared.refusal.Refusal.TheVariants.{Memory};
+
+use crate::history::{BarWait, Column, ColumnHead, History, Lane, ValueStep, WatchLane};
+use crate::measure::{digits, name_length, text_width, time_length, waiting_length};
+use crate::operands::{operand_count, operand_length};
+use crate::word::NOT_SIGNALLED;
+use point_core::Refusal;
 use std::alloc::{AllocError, Global};
 
-/// The height of the lines' numbers and words.
-pub(crate) const HEAD: u64 = 50;
+/// The height of the columns' numbers and words.
+const HEAD: u64 = 50;
+/// The most pixels of a picture that has all words of its lines.
+const ROOMY: u64 = 1_600;
 /// The height of a heading over lanes.
 pub(crate) const HEADING: u64 = 24;
 /// The heights of lanes.
@@ -17,6 +25,10 @@ const BAR: u64 = 24;
 const BUFFER: u64 = 30;
 
 const WATCH: u64 = 24;
+
+const CLIENT: u64 = 22;
+
+const TASK: u64 = 24;
 /// The axis of a timeline in its lane.
 pub(crate) const AXIS: u64 = 44;
 /// The height of a line of text.
@@ -27,6 +39,10 @@ pub(crate) const PAD: u64 = 10;
 const NARROW: u64 = 30;
 
 const BESIDE: u64 = 14;
+/// The length of the heading `sync files`, and of `waiting tasks`.
+const HEADING_LENGTH: u64 = 10;
+
+const TASKS_LENGTH: u64 = 13;
 /// The gap between two kinds of lanes.
 const APART: u64 = 10;
 
@@ -39,29 +55,50 @@ pub(crate) struct Sheet {
     pub(crate) end: u64,
     /// The width of the lanes and the texts beside them.
     pub(crate) width: u64,
+    /// How many words of a line are shown below the first.
+    pub(crate) operands: usize,
+    pub(crate) clients: u64,
     pub(crate) timelines: u64,
     /// The top of each bar's lane, and the bottom of the last.
     bars: Vec<u64>,
     pub(crate) buffers: u64,
     pub(crate) watches: u64,
+    pub(crate) tasks: u64,
     pub(crate) bottom: u64,
 }
 
 impl Sheet {
+    /// The sheet with all words of each line, if there is room for them, or else with the first.
     pub(crate) fn of(alloc: Global, history: &History) -> Result<Sheet, AllocError> {
-        let (edges, end) = edges_of(alloc, history)?;
-        let (timelines, next) = lanes(HEAD, history.lanes.timelines.len(), TIMELINE);
+        let operands = operands_of(history.columns.as_slice());
+        let sheet = Sheet::with(alloc, history, operands)?;
+        if sheet.width <= ROOMY {
+            return Ok(sheet);
+        }
+        Sheet::with(alloc, history, 0)
+    }
+
+    /// The sheet with up to `operands` words below the first.
+    fn with(alloc: Global, history: &History, operands: usize) -> Result<Sheet, AllocError> {
+        let (edges, end) = edges_of(alloc, history, operands)?;
+        let head = below(HEAD, operands, LINE);
+        let (clients, next) = lanes(head, history.clients.len(), CLIENT);
+        let (timelines, next) = lanes(next, history.lanes.timelines.len(), TIMELINE);
         let (bars, next) = bars_of(alloc, history, next)?;
         let (buffers, next) = lanes(next, history.lanes.buffers.len(), BUFFER);
-        let (watches, bottom) = lanes(next, history.lanes.watches.len(), WATCH);
+        let (watches, next) = lanes(next, history.lanes.watches.len(), WATCH);
+        let (tasks, bottom) = lanes(next, history.lanes.tasks.len(), TASK);
         Ok(Sheet {
             edges,
             end,
             width: end.saturating_add(beside(history)),
+            operands,
+            clients,
             timelines,
             bars,
             buffers,
             watches,
+            tasks,
             bottom,
         })
     }
@@ -93,16 +130,19 @@ impl Sheet {
     /// The top of a lane.
     pub(crate) fn top(&self, lane: Lane) -> u64 {
         match lane {
+            Lane::Client(place) => below(self.clients, place, CLIENT),
             Lane::Timeline(place) => below(self.timelines, place, TIMELINE),
             Lane::Bar(place) => self.top_of_bar(place),
             Lane::Buffer(place) => below(self.buffers, place, BUFFER),
             Lane::Watch(place) => below(self.watches, place, WATCH),
+            Lane::Task(place) => below(self.tasks, place, TASK),
         }
     }
 
     /// The height of a lane.
     pub(crate) fn lane_height(&self, lane: Lane) -> u64 {
         match lane {
+            Lane::Client(_) => CLIENT,
             Lane::Timeline(_) => TIMELINE,
             Lane::Bar(place) => {
                 let next = self.top_of_bar(place.saturating_add(1));
@@ -110,6 +150,7 @@ impl Sheet {
             }
             Lane::Buffer(_) => BUFFER,
             Lane::Watch(_) => WATCH,
+            Lane::Task(_) => TASK,
         }
     }
 
@@ -124,10 +165,12 @@ impl Sheet {
     /// The y at which links meet a lane.
     pub(crate) fn height_of(&self, lane: Lane) -> u64 {
         match lane {
+            Lane::Client(_) => self.top(lane).saturating_add(CLIENT / 2),
             Lane::Timeline(_) => self.top(lane).saturating_add(AXIS),
             Lane::Bar(place) => self.height_of_bar(place),
             Lane::Buffer(_) => self.top(lane).saturating_add(BUFFER / 2),
             Lane::Watch(_) => self.top(lane).saturating_add(WATCH / 2),
+            Lane::Task(_) => self.top(lane).saturating_add(TASK / 2),
         }
     }
 
@@ -188,25 +231,29 @@ fn raise_all(heights: &mut [u64]) {
 }
 
 /// The left edge of each column, then the right edge of the last, which is also returned by itself.
-fn edges_of(alloc: Global, history: &History) -> Result<(Vec<u64>, u64), AllocError> {
-    let widths = widths_of(alloc, history)?;
+fn edges_of(
+    alloc: Global,
+    history: &History,
+    operands: usize,
+) -> Result<(Vec<u64>, u64), AllocError> {
+    let widths = widths_of(alloc, history, operands)?;
     places_of(alloc, names_width(history), widths.as_slice())
 }
 
 /// The width of each column, from column 0 on.
-fn widths_of(alloc: Global, history: &History) -> Result<Vec<u64>, AllocError> {
-    let mut widths = word_widths(alloc, history.columns.as_slice())?;
+fn widths_of(alloc: Global, history: &History, operands: usize) -> Result<Vec<u64>, AllocError> {
+    let mut widths = word_widths(alloc, history.columns.as_slice(), operands)?;
     for lane in &history.lanes.timelines {
         widen(widths.as_mut_slice(), lane.steps.as_slice());
     }
     Ok(widths)
 }
 
-fn word_widths(alloc: Global, columns: &[Column]) -> Result<Vec<u64>, AllocError> {
+fn word_widths(alloc: Global, columns: &[Column], operands: usize) -> Result<Vec<u64>, AllocError> {
     let mut widths = Vec::with_capacity(alloc, columns.len().saturating_add(1))?;
     widths.push(PAD)?;
     for column in columns {
-        widths.push(width_of(column))?;
+        widths.push(width_of(column, operands))?;
     }
     Ok(widths)
 }
@@ -226,10 +273,30 @@ fn places_of(alloc: Global, first: u64, lengths: &[u64]) -> Result<(Vec<u64>, u6
     Ok((places, next))
 }
 
-/// The width of a column that fits its line's number and word.
-fn width_of(column: &Column) -> u64 {
-    let length = digits(u64::from(column.line)).max(column.word.len() as u64);
+/// The width of a column that fits its number and words.
+fn width_of(column: &Column, operands: usize) -> u64 {
+    let mut length = head_length(column).max(column.word.len() as u64);
+    for place in 0..operands {
+        length = length.max(operand_length(column, place));
+    }
     NARROW.max(text_width(length).saturating_add(BESIDE))
+}
+
+fn head_length(column: &Column) -> u64 {
+    match column.head {
+        ColumnHead::Line => digits(u64::from(column.line)),
+        ColumnHead::Time(time) => time_length(time),
+        ColumnHead::Blank => 0,
+    }
+}
+
+/// The most words that a line has behind its first.
+fn operands_of(columns: &[Column]) -> usize {
+    let mut most = 0;
+    for column in columns {
+        most = operand_count(column).max(most);
+    }
+    most
 }
 
 /// Widens the columns until the values of a timeline fit.
@@ -249,8 +316,7 @@ fn widen_one(widths: &mut [u64], column: usize, width: u64) {
 
 /// The width of the names of lanes.
 fn names_width(history: &History) -> u64 {
-    // the length of a heading
-    let mut length = 10;
+    let mut length = HEADING_LENGTH;
     for lane in &history.lanes.timelines {
         length = name_length(&lane.name).max(length);
     }
@@ -263,18 +329,82 @@ fn names_width(history: &History) -> u64 {
     for lane in &history.lanes.watches {
         length = watch_length(lane).max(length);
     }
+    length = actors_length(history).max(length);
     text_width(length).saturating_add(PAD * 2)
+}
+
+/// The greatest length of a client's or a task's name.
+fn actors_length(history: &History) -> u64 {
+    let mut length = 0;
+    for client in &history.clients {
+        length = name_length(client).max(length);
+    }
+    for lane in &history.lanes.tasks {
+        length = (lane.name.len() as u64).max(length).max(TASKS_LENGTH);
+    }
+    length
 }
 
 fn watch_length(lane: &WatchLane) -> u64 {
     digits(lane.cookie).saturating_add(6)
 }
 
+fn wait_length(wait: &BarWait) -> u64 {
+    match &wait.waiting {
+        Some(waiting) => waiting_length(waiting),
+        None => NOT_SIGNALLED.len() as u64,
+    }
+}
+
 /// The width of the texts of waits, right of the columns.
 fn beside(history: &History) -> u64 {
     let mut length = 0;
     for wait in &history.waits {
-        length = waiting_length(&wait.waiting).max(length);
+        length = wait_length(wait).max(length);
     }
     text_width(length).saturating_add(PAD * 3)
+}
+
+/// How many of the first columns a picture of at most that width has to leave out.
+///
+/// Fails only with `Memory`.
+pub fn columns_past(alloc: Global, history: &History, width: u64) -> Result<usize, Refusal>
+    ensures memory { IfErr result (λ e. e ≡ Memory) }
+{
+    let widths = widths_of(alloc, history, 0)?;
+    let fixed = names_width(history)
+        .saturating_add(beside(history))
+        .saturating_add(values_width(history));
+    Ok(first_past(widths.as_slice(), width.saturating_sub(fixed)))
+}
+
+/// The most that the values before the first column can take.
+fn values_width(history: &History) -> u64 {
+    let mut value = 0;
+    for lane in &history.lanes.timelines {
+        value = lane.steps.last().map_or(0, |step| step.value).max(value);
+    }
+    text_width(digits(value)).saturating_add(BESIDE)
+}
+
+/// How many of the first columns have to go so that the others fit in that room. `widths` begins with column 0.
+fn first_past(widths: &[u64], room: u64) -> usize {
+    let mut before = sum_of(widths);
+    let mut count = 0;
+    for (place, width) in widths.iter().enumerate() {
+        if before <= room {
+            break;
+        }
+        before = before.saturating_sub(*width);
+        count = place;
+    }
+    count
+}
+
+fn sum_of(widths: &[u64]) -> u64 {
+    let mut sum: u64 = 0;
+    for width in widths {
+        sum = sum.saturating_add(*width);
+    }
+    sum
 }

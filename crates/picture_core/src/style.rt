@@ -20,6 +20,7 @@ text{font:12px 'DejaVu Sans Mono',Menlo,Consolas,'Liberation Mono',monospace;fil
 .over{fill:#fff;fill-opacity:0}
 .over:hover{fill:#888;fill-opacity:.16}
 .pa{fill:#fff1d0}.pb{fill:#e69f00}
+.ha{fill:#e69f00}.hb{fill:#b33c00}
 .sa{fill:#0072b2}
 .ca{fill:#e2e2e2}.cb{stroke:#6b6b6b;stroke-width:1.4}
 .edge{fill:none;stroke:#2b2b2b;stroke-width:1.2}
@@ -28,6 +29,8 @@ text{font:12px 'DejaVu Sans Mono',Menlo,Consolas,'Liberation Mono',monospace;fil
 .lane{stroke:#8a8a8a;stroke-width:1.2}
 .link{stroke:#5a5a5a;stroke-width:1}
 .watch{stroke:#8a5fb0;stroke-width:1.6;stroke-dasharray:5 3}
+.wait{stroke:#b33c00;stroke-width:1.6;stroke-dasharray:5 3}
+.client{fill:#cc79a7;fill-opacity:.55}
 .sign{fill:#fff;stroke:#1b1b1b;stroke-width:1.4}
 .solid{fill:#1b1b1b;stroke:none}
 .open{fill:none;stroke:#1b1b1b;stroke-width:2}
@@ -41,6 +44,7 @@ text{fill:#ececec}
 .stripe{fill:#1f242a}
 .refused{fill:#ff8a94;fill-opacity:.14}
 .pa{fill:#4a3600}.pb{fill:#e69f00}
+.ha{fill:#e69f00}.hb{fill:#c74a0a}
 .sa{fill:#56b4e9}
 .ca{fill:#3a3a3a}.cb{stroke:#b8b8b8}
 .edge{stroke:#d8d8d8}
@@ -49,6 +53,7 @@ text{fill:#ececec}
 .lane{stroke:#8a8a8a}
 .link{stroke:#b0b0b0}
 .watch{stroke:#c9a6ea}
+.wait{stroke:#ff9a5c}
 .sign{fill:#15181c;stroke:#ececec}
 .solid{fill:#ececec}
 .open{stroke:#ececec}
@@ -58,6 +63,8 @@ text{fill:#ececec}
 <defs>
 <pattern id=\"pending\" width=\"8\" height=\"8\" patternUnits=\"userSpaceOnUse\" patternTransform=\"rotate(45)\">\
 <rect width=\"8\" height=\"8\" class=\"pa\"/><rect width=\"4\" height=\"8\" class=\"pb\"/></pattern>
+<pattern id=\"hanging\" width=\"6\" height=\"6\" patternUnits=\"userSpaceOnUse\" patternTransform=\"rotate(45)\">\
+<rect width=\"6\" height=\"6\" class=\"ha\"/><rect width=\"4\" height=\"6\" class=\"hb\"/></pattern>
 <pattern id=\"cancelled\" width=\"7\" height=\"7\" patternUnits=\"userSpaceOnUse\">\
 <rect width=\"7\" height=\"7\" class=\"ca\"/><path class=\"cb\" d=\"M0 0L7 7M7 0L0 7\"/></pattern>
 </defs>

@@ -4,10 +4,13 @@ ghost use Rattle.point_core.specs.declared.refusal.Refusal.TheVariants.{Memory};
 
 use crate::graph::Waiting;
 use crate::history::{Column, History};
-use crate::measure::{digits, name_length, text_width, waiting_length};
+use crate::measure::{SECOND, digits, name_length, text_width, time_length, waiting_length};
+use crate::operands::{operand, operand_length};
 use crate::shapes::{Caption, ColumnArea, Face, Fill, Label, Mark, Picture, Shape, Spot, Stroke};
 use crate::style::style;
-use crate::word::{letter_of, word_of_heading, words_of};
+use crate::word::{
+    CHOOSING, LEFT_OUT, NO_COMMANDS, NOT_SIGNALLED, letter_of, word_of_heading, words_of,
+};
 use point_core::{Name, Refusal};
 use std::alloc::{AllocError, Global};
 use text_core::{Part, push_inert_byte, push_parts};
@@ -56,7 +59,20 @@ fn push_start(picture: &Picture, out: &mut Vec<u8>) -> Result<(), AllocError> {
         Part::Text("\">\n"),
     ];
     push_parts(out, &parts)?;
-    push_parts(out, &[Part::Text(style())])
+    push_parts(out, &[Part::Text(style())])?;
+    push_page(picture, out)
+}
+
+/// The page itself, below all shapes.
+fn push_page(picture: &Picture, out: &mut Vec<u8>) -> Result<(), AllocError> {
+    let parts = [
+        Part::Text("<rect class=\"page\" x=\"0\" y=\"0\" width=\""),
+        Part::Number(picture.width),
+        Part::Text("\" height=\""),
+        Part::Number(picture.height),
+        Part::Text("\"/>\n"),
+    ];
+    push_parts(out, &parts)
 }
 
 /// The area of a column, over which its note shows. The note is escaped, but for its line feeds.
@@ -135,10 +151,11 @@ fn push_area(
 
 fn fill_words(fill: Fill) -> &'static str {
     match fill {
-        Fill::Page => "class=\"page\"",
         Fill::Stripe => "class=\"stripe\"",
         Fill::Refused => "class=\"refused\"",
+        Fill::Client => "class=\"client\"",
         Fill::Pending => "fill=\"url(#pending)\"",
+        Fill::Hanging => "fill=\"url(#hanging)\"",
         Fill::Signalled => "class=\"sa\"",
         Fill::Cancelled => "fill=\"url(#cancelled)\"",
     }
@@ -192,6 +209,7 @@ fn stroke_word(stroke: Stroke) -> &'static str {
         Stroke::Closed => "gone",
         Stroke::Link => "link",
         Stroke::Watch => "watch",
+        Stroke::Wait => "wait",
     }
 }
 
@@ -220,8 +238,10 @@ fn path_of(mark: Mark) -> (&'static str, &'static str) {
         Mark::Registered => ("sign", "m0-6l6 6l-6 6l-6-6z"),
         Mark::Fired => ("solid", "m0-8l2 6l6 2l-6 2l-2 6l-2-6l-6-2l6-2z"),
         Mark::Removed => ("open", "m-5-5l10 10m0-10l-10 10"),
+        Mark::Waits => ("sign", "m-5-6l10 6l-10 6z"),
+        Mark::Woken => ("open", "m0-6v12"),
         Mark::Refused => ("cross", "m-5-5l10 10m0-10l-10 10"),
-        Mark::Shut => ("open", "m0-6v12"),
+        Mark::Shut => ("solid", "m-5-5h10v10h-10z"),
         Mark::Closed => ("open", "m0-9v18"),
         Mark::GoesOn => ("open", "m-1-7l6 7l-6 7"),
         Mark::From => ("solid", "m-3 0a3 3 0 1 0 6 0a3 3 0 1 0-6 0z"),
@@ -251,6 +271,7 @@ fn face_words(face: Face) -> &'static str {
     match face {
         Face::Name => "",
         Face::Heading => "class=\"h\"",
+        Face::Meaning => "class=\"m\"",
         Face::Number => "class=\"n\"",
         Face::Word => "class=\"w\"",
         Face::RefusedWord => "class=\"rw\"",
@@ -266,9 +287,30 @@ fn length_of(history: &History, label: &Label) -> u64 {
         Label::Access(access) => letter_of(*access).len() as u64,
         Label::Meaning(meaning) => words_of(*meaning).len() as u64,
         Label::Name(name) => name_length(name),
+        Label::Operand { column, place } => word_length(history, *column, *place),
         Label::Number(number) => digits(*number),
+        Label::Time(time) => time_length(*time),
         Label::Watch(cookie) => digits(*cookie).saturating_add(6),
+        Label::Task(place) => task_name(history, *place).len() as u64,
         Label::Waiting(waiting) => waiting_length(waiting),
+        Label::NotSignalled => NOT_SIGNALLED.len() as u64,
+        Label::NoCommands => NO_COMMANDS.len() as u64,
+        Label::Choosing => CHOOSING.len() as u64,
+        Label::LeftOut(count) => digits(*count as u64).saturating_add(LEFT_OUT.len() as u64),
+    }
+}
+
+fn word_length(history: &History, column: usize, place: usize) -> u64 {
+    match history.columns.get(column) {
+        Some(column) => operand_length(column, place),
+        None => 0,
+    }
+}
+
+fn task_name(history: &History, place: usize) -> &[u8] {
+    match history.lanes.tasks.get(place) {
+        Some(lane) => lane.name.as_slice(),
+        None => &[],
     }
 }
 
@@ -279,7 +321,19 @@ fn push_label(history: &History, label: &Label, out: &mut Vec<u8>) -> Result<(),
         Label::Access(access) => push_word(letter_of(*access), out),
         Label::Meaning(meaning) => push_word(words_of(*meaning), out),
         Label::Name(name) => push_name(name, out),
+        Label::Operand { column, place } => match history.columns.get(*column) {
+            Some(column) => push_parts(out, &[Part::Inert(operand(column, *place))]),
+            None => Ok(()),
+        },
         Label::Number(number) => push_parts(out, &[Part::Number(*number)]),
+        Label::Time(time) => push_time(*time, out),
+        Label::Task(place) => push_parts(out, &[Part::Inert(task_name(history, *place))]),
+        Label::NotSignalled => push_word(NOT_SIGNALLED, out),
+        Label::NoCommands => push_word(NO_COMMANDS, out),
+        Label::Choosing => push_word(CHOOSING, out),
+        Label::LeftOut(count) => {
+            push_parts(out, &[Part::Number(*count as u64), Part::Text(LEFT_OUT)])
+        }
         Label::Watch(cookie) => push_parts(out, &[Part::Text("watch "), Part::Number(*cookie)]),
         Label::Waiting(waiting) => push_waiting(waiting, out),
     }
@@ -298,6 +352,18 @@ fn push_word(word: &'static str, out: &mut Vec<u8>) -> Result<(), AllocError> {
 
 fn push_name(name: &Name, out: &mut Vec<u8>) -> Result<(), AllocError> {
     push_parts(out, &[Part::Inert(name.as_bytes())])
+}
+
+/// A time in seconds, with three decimals.
+fn push_time(time: u64, out: &mut Vec<u8>) -> Result<(), AllocError> {
+    let parts = [
+        Part::Number(time / SECOND),
+        Part::Text("."),
+        Part::Number(time / 100_000 % 10),
+        Part::Number(time / 10_000 % 10),
+        Part::Number(time / 1_000 % 10),
+    ];
+    push_parts(out, &parts)
 }
 
 /// A text as `gpu 5: 3 to go`.

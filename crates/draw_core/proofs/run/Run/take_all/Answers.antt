@@ -10,6 +10,7 @@ loop-line-preserved g c =
     record {
       run =
           rw (c.take.ensures.window, take_line lines i line c.raw_line.result.number line.body c.loop-line-test.true c.line-item.is c.raw_line.ensures refl)
-          (c.take.ensures.run (take i lines) c.loop-line.invariant.run);
-      window = c.take.ensures.window ∙ c.loop-line.invariant.window;
+          (c.take.ensures.run (take i lines)
+          (rw (c.in_ok-hear_before.ensures.window, c.in_ok-hear_before.ensures.desk, c.in_ok-hear_before.ensures.refused) c.loop-line.invariant.run));
+      window = c.take.ensures.window ∙ c.in_ok-hear_before.ensures.window ∙ c.loop-line.invariant.window;
     }
