@@ -10,17 +10,17 @@ _fencectl() {
     run) words="--json --help" ;;
     explain) words="--help" ;;
     check) words="--quiet --tap --allow-empty --update --help" ;;
-    trace) words="--json --script --draw --perfetto --from --to --help" files="*" ;;
+    trace) words="--json --script --draw --perfetto --from --to --output --help" files="*" ;;
     draw) words="--graph --line --lines --output --help" ;;
     clients) words="--locks --help" takes_files="" ;;
-    explore) words="--json --states --witness --answers --all-orders --help" files="*.plan" ;;
+    explore) words="--json --states --witness --draw --answers --all-orders --help" files="*.plan" ;;
     help) words="run check explain trace draw clients explore" takes_files="" ;;
     *) takes_files="" ;;
     esac
     [ -z "$words" ] || [ "$command" = help ] || words+=" --color"
     case "${COMP_WORDS[COMP_CWORD - 1]}" in
     --color) words="auto always never" takes_files="" ;;
-    --output | --witness) words="" files="*" ;;
+    -o | --output | --witness) words="" files="*" ;;
     --from | --to | --line | --lines | --states) words="" takes_files="" ;;
     esac
     mapfile -t COMPREPLY < <(compgen -W "$words" -- "$word")

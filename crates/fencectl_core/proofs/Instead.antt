@@ -1,11 +1,11 @@
 -- What words ask for that the command line does not take.
-use Rattle.std.proofs.Common.{◌≡◌, ◌⊎◌, ◌∙◌, ◌∷◌, [], ℕ, sym, subst, inl, inr, true, List, Option, Some, None, IfErr, IfOk, IfSome, Result, Ok, Err}
-use Rattle.clap.specs.Words.{HasKind, IsAmong, Kinds, Text, subcommand_of, takes}
+use Rattle.std.proofs.Common.{◌≡◌, ◌⊎◌, ◌∙◌, ◌∷◌, [], ℕ, sym, subst, inl, inr, true, List, Option, Some, None, IfOk, IfSome, Result, Ok, Err}
+use Rattle.clap.specs.Words.{IsAmong, Kinds, Text, takes}
 use Rattle.clap.specs.declared.error.kind.ErrorKind.{ErrorKind}
 use Rattle.clap.specs.declared.error.kind.ErrorKind.TheVariants.{InvalidSubcommand, OutOfMemory}
 use Rattle.point_core.specs.declared.refusal.Refusal.{Refusal}
 use Rattle.point_core.specs.declared.refusal.Refusal.TheVariants.{Memory, Write as WriteFault}
-use Rattle.fencectl_core.specs.Asked.{Asked, EndsBy, IsAsked, IsAskedFault, IsFileOf, IsUsageFault, asked_of, asks_clients, kind_status}
+use Rattle.fencectl_core.specs.Asked.{Asked, EndsBy, IsAsked, IsFileOf, IsUsageFault, asked_of, kind_status}
 use Rattle.fencectl_core.specs.Words.{fencectl}
 use Rattle.fencectl_core.specs.declared.action.Action.{Action}
 use Rattle.fencectl_core.specs.declared.action.Action.TheVariants as action

@@ -2,7 +2,7 @@
 use Rattle.std.specs.Prelude.{◌≡◌, ◌≢◌, ◌⊎◌, ◌∷◌, ℕ, Bool, true, false, List, [], Option, Some, None, codes, map, option_map, if◌then◌else◌}
 use Rattle.std.specs.Str.Parse.{digits_value, without_leading_plus}
 use Rattle.std.specs.Str.{bytes_eq}
-use Rattle.clap.specs.Words.{IsAmong, Kinds, Row, Text, all_of, fault_of, first_of, one_of, subcommand_of, takes}
+use Rattle.clap.specs.Words.{IsAmong, Kinds, Row, Text, all_of, first_of, one_of, subcommand_of, takes}
 use Rattle.clap.specs.declared.error.kind.ErrorKind.{ErrorKind}
 use Rattle.clap.specs.declared.error.kind.ErrorKind.TheVariants.{DisplayHelp, DisplayVersion}
 use Rattle.point_core.specs.declared.refusal.Refusal.{Refusal}
@@ -37,6 +37,7 @@ pub record AskedTrace : Type 0 where
   pub is_perfetto : Bool
   pub from : Option Text
   pub to : Option Text
+  pub output : Option Text
 
 -- a drawing of a script: of its file, or of standard input; a graph or not, and the texts of the options
 pub record AskedDraw : Type 0 where
@@ -52,6 +53,7 @@ pub record AskedExplore : Type 0 where
   pub is_json : Bool
   pub states : Option Text
   pub witness : Option Text
+  pub draw : Option Text
   pub answers : Bool
   pub all_orders : Bool
 
@@ -120,6 +122,7 @@ trace_after rows = record {
   is_perfetto = flag_named (one_of (codes "perfetto") rows);
   from = first_of (codes "from") rows;
   to = first_of (codes "to") rows;
+  output = first_of (codes "output") rows;
 }
 
 abbrev pub draw_after : List Row → AskedDraw
@@ -137,6 +140,7 @@ explore_after rows = record {
   is_json = flag_named (one_of (codes "json") rows);
   states = first_of (codes "states") rows;
   witness = first_of (codes "witness") rows;
+  draw = first_of (codes "draw") rows;
   answers = flag_named (one_of (codes "answers") rows);
   all_orders = flag_named (one_of (codes "all-orders") rows);
 }
@@ -176,6 +180,7 @@ asked_of_trace trace = record {
   is_perfetto = trace.is_perfetto;
   from = option_map (λ t. t.now) trace.from;
   to = option_map (λ t. t.now) trace.to;
+  output = option_map (λ t. t.now) trace.output;
 }
 
 abbrev pub asked_of_draw : DrawAction → AskedDraw
@@ -193,6 +198,7 @@ asked_of_explore explore = record {
   is_json = explore.is_json;
   states = option_map (λ t. t.now) explore.states;
   witness = option_map (λ t. t.now) explore.witness;
+  draw = option_map (λ t. t.now) explore.draw;
   answers = explore.answers;
   all_orders = explore.all_orders;
 }

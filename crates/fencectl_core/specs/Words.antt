@@ -24,6 +24,10 @@ flag_rule name = record (new_rule name) { long = Some name; action = Some SetTru
 abbrev pub option_rule : Text → Rule
 option_rule name = record (new_rule name) { long = Some name; action = Some Set; value_names = 1 }
 
+-- with the letter o
+abbrev pub output_rule : Text → Rule
+output_rule name = record (option_rule name) { short = Some 111 }
+
 abbrev pub number_rule : Text → ℕ → Rule
 number_rule name most = record (new_rule name) { required = true; parser = Some (parser.Signed (pos 1) (pos most)) }
 
@@ -51,12 +55,12 @@ explain_app = with_rules (new_app (codes "explain")) (file_rule (codes "FILE") �
 abbrev pub trace_app : App
 trace_app = with_rules (new_app (codes "trace"))
     (file_rule (codes "FILE") ∷ flag_rule (codes "json") ∷ flag_rule (codes "script") ∷ flag_rule (codes "draw")
-    ∷ flag_rule (codes "perfetto") ∷ option_rule (codes "from") ∷ option_rule (codes "to") ∷ [])
+    ∷ flag_rule (codes "perfetto") ∷ option_rule (codes "from") ∷ option_rule (codes "to") ∷ output_rule (codes "output") ∷ [])
 
 abbrev pub draw_app : App
 draw_app = with_rules (new_app (codes "draw"))
     (file_rule (codes "FILE") ∷ flag_rule (codes "graph") ∷ option_rule (codes "line") ∷ option_rule (codes "lines")
-    ∷ option_rule (codes "output") ∷ [])
+    ∷ output_rule (codes "output") ∷ [])
 
 abbrev pub clients_app : App
 clients_app = with_rules (new_app (codes "clients"))
@@ -65,7 +69,7 @@ clients_app = with_rules (new_app (codes "clients"))
 abbrev pub explore_app : App
 explore_app = with_rules (new_app (codes "explore"))
     (file_rule (codes "FILE") ∷ flag_rule (codes "json") ∷ option_rule (codes "states") ∷ option_rule (codes "witness")
-    ∷ flag_rule (codes "answers") ∷ flag_rule (codes "all-orders") ∷ [])
+    ∷ option_rule (codes "draw") ∷ flag_rule (codes "answers") ∷ flag_rule (codes "all-orders") ∷ [])
 
 abbrev pub apps : List App
 apps = run_app ∷ check_app ∷ explain_app ∷ trace_app ∷ draw_app ∷ clients_app ∷ explore_app ∷ []
@@ -83,6 +87,7 @@ rule_in name form.File = file_rule name
 rule_in name form.Paths = paths_rule name
 rule_in name form.Flag = flag_rule name
 rule_in name (form.Option value) = option_rule name
+rule_in name (form.Output value) = output_rule name
 rule_in name (form.Number most) = number_rule name most
 
 abbrev pub rule_by : Argument → Rule

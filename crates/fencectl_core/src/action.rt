@@ -82,6 +82,8 @@ pub(crate) struct Trace<'a> {
     pub from: Option<&'a str>,
     /// The end of the window.
     pub to: Option<&'a str>,
+    /// The file that is written.
+    pub output: Option<&'a str>,
 }
 
 /// The options of `explore`. The texts are as the command line has them.
@@ -94,6 +96,8 @@ pub(crate) struct Explore<'a> {
     pub states: Option<&'a str>,
     /// The front of the names of the files that get the schedules.
     pub witness: Option<&'a str>,
+    /// The front of the names of the files that get the schedules' pictures.
+    pub draw: Option<&'a str>,
     /// Whether the answers of all lines are listed.
     pub answers: bool,
     /// Whether every order of the clients is followed.

@@ -13,6 +13,9 @@ use std::alloc::{AllocError, Global};
 
 const PROGRAM: &str = "fencectl";
 
+/// The letter of the option that names a file to write.
+const OUTPUT_LETTER: char = 'o';
+
 const ABOUT: &str = "Runs, checks, explains, draws and explores scripts of GPU fence commands";
 
 /// The version, and the logic in which the program is proved: kits of one logic prove the same.
@@ -21,7 +24,7 @@ const VERSION: &str = "0.1.0 (proved in Rattle's logic dac8208d650f15bf)";
 const HELP: &str = "\
 A script is read from standard input or from FILE, one command a line; a line that begins with # is
 a note. A single word that is no subcommand is a FILE to run. At a terminal each line is prompted
-for, and a refused line is explained.
+for, and a refused line is explained; `help` lists the commands there, and `quit` leaves.
 
 Options of every command:
   --color <WHEN>  Colours help, checks and explanations: auto, always or never [default: auto]
@@ -60,23 +63,25 @@ A refused line is answered `err NUMBER NAME`, and changes nothing:
   4 Overflow  the value would be too great  15 Cancelled  its timeline is closed
   6 Limit     a limit is reached            16 Memory     memory was refused
 
-The script language is documented in docs/SCRIPT.md, and in the manual page fencectl-script.
+The script language is documented in the manual page fencectl-script(5). The documents that are
+named below are in share/doc/bimphlai.
 
 After a command a note `#= TEXT` expects TEXT as a line of its answer. `fencectl check` compares
 these in files and in the *.fence files below folders, and reports each answer that differs on
-standard error. `fencectl explain` reports there which word of a refused line is at fault, and why,
-and what a `wait` waits for. `fencectl draw` writes a picture of a run as SVG, which
-docs/SCRIPT.md explains, and with --graph what waits for what as Graphviz DOT.
+standard error; a note that is nearly `#=`, as `# = TEXT`, is a slip, and reported too. `fencectl
+explain` reports there which word of a refused line is at fault, and why, and what a `wait` waits
+for. `fencectl draw` writes a picture of a run as SVG, which SCRIPT.md explains, and with --graph
+what waits for what as Graphviz DOT.
 
 `fencectl trace` reads the text of ftrace's dma_fence events, as tracefs, trace-cmd or perf print
 them, and reports which fences were never signalled, who waits for them, and what each timeline did;
-docs/RUN.md says how to record one. With --script it writes what happened as a script, with
---draw it draws that, and with --perfetto it writes it as trace events, in JSON, which Perfetto and
+RUN.md says how to record one. With --script it writes what happened as a script, with --draw it
+draws that, and with --perfetto it writes it as trace events, in JSON, which Perfetto and
 chrome://tracing open; --from and --to, in seconds, choose a window.
 
-Clients run on threads, each with a timeline of its own, and share two buffers; docs/LIBRARY.md says
-what they do. What they settle is the same in every run: a row for each timeline, and for each
-buffer the points that are pending.
+Clients run on threads, each with a timeline of its own, and share two buffers; LIBRARY.md says what
+they do. What they settle is the same in every run: a row for each timeline, and for each buffer the
+points that are pending.
 
 `fencectl run --json` writes a JSON object for each answer, on a line of its own.
 
@@ -87,14 +92,16 @@ can be answered.
 Exit status:
   0  every line was accepted; of a check: every script passes; of clients: they settled;
      of a report of a trace: nothing hangs, and no rule is broken; of a plan: nothing is found
-  1  a line was refused; of a check: an answer differs, or a script expects nothing;
-     of a report of a trace: a fence hangs, or a rule is broken; of a plan: something is found
+  1  a line was refused; of a check: an answer differs, a note is a slip, or a script expects
+     nothing; of a report of a trace: a fence hangs, or a rule is broken; of a plan: something is
+     found
   2  wrong usage, or a fault of reading, writing, memory or threads; of a check: a script can't be
-     read or updated, or is too long; of a drawing: its options don't fit, or a long script lacks
+     read or updated, or is too long; with --tap these are tests that fail, and the status is 0 once
+     all tests are written; of a drawing: its options don't fit, or a long script lacks
      --lines; of a trace: no event, or too many; of a plan: it is none, it has too many states, or
      a schedule's file exists already
 
-Examples:
+Examples, in share/doc/bimphlai:
   printf 'timeline gpu\\nfence frame gpu 5\\ninfo frame\\n' | fencectl
   fencectl examples/merge.fence
   fencectl check examples
@@ -144,8 +151,8 @@ fn program<'a>(alloc: Global) -> Result<Command<'a>, AllocError>
     command.bin_name(PROGRAM)
 }
 
-/// The help text after the options.
-fn help() -> &'static str {
+/// The help text after the options, which the prompt shows in parts.
+pub(crate) fn help() -> &'static str {
     HELP
 }
 
@@ -179,6 +186,11 @@ fn argument_of<'a>(alloc: Global, argument: &Argument) -> Arg<'a>
         ArgumentForm::Flag => arg.long(argument.name).action(ArgAction::SetTrue),
         ArgumentForm::Option(value) => arg
             .long(argument.name)
+            .action(ArgAction::Set)
+            .value_name(value),
+        ArgumentForm::Output(value) => arg
+            .long(argument.name)
+            .short(OUTPUT_LETTER)
             .action(ArgAction::Set)
             .value_name(value),
         ArgumentForm::Number(most) => arg.required(true).value_parser(up_to(most)),

@@ -127,6 +127,7 @@ fn trace_of<'a>(matches: &ArgMatches<'a>) -> Trace<'a>
         is_perfetto: has_flag(matches, PERFETTO),
         from: text_of(matches, FROM),
         to: text_of(matches, TO),
+        output: text_of(matches, OUTPUT),
     }
 }
 
@@ -159,6 +160,7 @@ fn explore_of<'a>(matches: &ArgMatches<'a>) -> Explore<'a>
         is_json: has_flag(matches, JSON),
         states: text_of(matches, STATES_OPTION),
         witness: text_of(matches, WITNESS),
+        draw: text_of(matches, DRAW),
         answers: has_flag(matches, ANSWERS),
         all_orders: has_flag(matches, ALL_ORDERS),
     }

@@ -137,8 +137,12 @@ fn status_of(history: &History) -> u8
     if history.refused { REFUSED } else { ACCEPTED }
 }
 
-/// Draws the script of a trace's events, to standard output.
-pub(crate) fn draw_trace(rt: &HostRuntime, script: &[u8]) -> Result<u8, Refusal>
+/// Draws the script of a trace's events, to standard output or to a file.
+pub(crate) fn draw_trace(
+    rt: &HostRuntime,
+    output: Option<&str>,
+    script: &[u8],
+) -> Result<u8, Refusal>
     ensures status { IfOk result (λ status. (status ≡ 0) ⊎ (status ≡ 2)) }
 {
     if count_lines(rt.alloc(), script)? > COLUMNS {
@@ -150,7 +154,18 @@ pub(crate) fn draw_trace(rt: &HostRuntime, script: &[u8]) -> Result<u8, Refusal>
         window: &window,
     };
     let drawing = drawing_of(rt, &lines)?;
-    write_picture(rt, None, &drawing, ACCEPTED)
+    write_picture(rt, output, &drawing, ACCEPTED)
+}
+
+/// The picture of a script that is no file, as SVG.
+pub(crate) fn svg_of(rt: &HostRuntime, script: &[u8]) -> Result<Vec<u8>, Refusal> {
+    let window = Window::whole();
+    let lines = DrawnLines {
+        script,
+        window: &window,
+    };
+    let drawing = drawing_of(rt, &lines)?;
+    drawing.svg(rt.alloc())
 }
 
 const TOO_LONG_A_WINDOW: &str =
@@ -247,7 +262,7 @@ fn is_too_long(rt: &HostRuntime, asked: &Draw<'_>, script: &[u8]) -> Result<bool
 }
 
 /// Gives that status once the document is written.
-fn write_document(
+pub(crate) fn write_document(
     rt: &HostRuntime,
     output: Option<&str>,
     document: &[u8],

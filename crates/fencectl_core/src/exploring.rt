@@ -3,7 +3,7 @@ ghost use Rattle.std.specs.Prelude.{◌≡◌, IfOk};
 ghost use Rattle.explore_core.specs.Found.{CanBeExplored};
 
 use crate::action::Explore;
-use crate::drawing::{report_mistake, script_of, write_output};
+use crate::drawing::{report_mistake, script_of, svg_of, write_output};
 use crate::fault::FAULT;
 use crate::status::{ACCEPTED, REFUSED};
 use explore_core::{Found, Orders, STATES};
@@ -108,6 +108,9 @@ fn write_report(rt: &HostRuntime, asked: &Explore<'_>, report: &Report<'_>) -> R
     if let Some(prefix) = asked.witness {
         write_schedules(rt, prefix, report)?;
     }
+    if let Some(prefix) = asked.draw {
+        draw_schedules(rt, prefix, report)?;
+    }
     Ok(status)
 }
 
@@ -119,6 +122,19 @@ fn write_schedules(rt: &HostRuntime, prefix: &str, report: &Report<'_>) -> Resul
         };
         let file = format!(in rt.alloc(); "{prefix}-{number}.fence")?;
         write_new(rt, file.as_str(), script.as_slice())?;
+    }
+    Ok(())
+}
+
+/// Draws each schedule into a file of its own. A file that is there stays, and is a fault.
+fn draw_schedules(rt: &HostRuntime, prefix: &str, report: &Report<'_>) -> Result<(), Refusal> {
+    for number in 1..usize::MAX {
+        let Some(script) = report.script(number)? else {
+            break;
+        };
+        let file = format!(in rt.alloc(); "{prefix}-{number}.svg")?;
+        let picture = svg_of(rt, script.as_slice())?;
+        write_new(rt, file.as_str(), picture.as_slice())?;
     }
     Ok(())
 }

@@ -5,9 +5,10 @@ use crate::color::{ColorChoice, Colors, take_color};
 use crate::drawing::draw;
 use crate::exploring::explore;
 use crate::fault::{FAULT, tell_fault};
+use crate::prompt::Typed;
 use crate::run::run_script;
 use crate::scripts::{explain_script, json_script};
-use crate::status::{ACCEPTED, status_of_verdict};
+use crate::status::{ACCEPTED, status_of_check, status_of_verdict};
 use crate::traces::trace;
 use crate::unread_word::report_unread_word;
 use crate::usage::action_of;
@@ -22,9 +23,10 @@ use std::io::{IsTerminal, Read, Write};
 use std::sync::Wait;
 use std::thread::Threads;
 
-/// The first line of a session at a terminal.
-const GREETING: &str =
-    "fencectl: type one command a line; Ctrl-D leaves, and 'fencectl --help' lists the commands";
+/// The first lines of a session at a terminal. No handle of an interrupt is there, so Ctrl-C ends the program.
+const GREETING: &str = "\
+fencectl: type one command a line; 'help' lists the commands, and 'quit' or Ctrl-D leaves
+Ctrl-C leaves too, and ends what was made here; for a history of lines start it as 'rlwrap fencectl'";
 
 /// Reads the command line, and does what it asks for. Gives the exit status, which is 2 after a fault. A fault is reported on
 /// standard error.
@@ -85,20 +87,61 @@ fn act<T: Threads + Wait + Sync>(
     action: Action,
 ) -> Result<u8, Refusal> {
     match action {
-        Action::Run(script) => run(rt, colors, script),
-        Action::Json(script) => json(rt, script),
+        Action::Run(script) => untold(run(rt, colors, script), script, None),
+        Action::Json(script) => untold(json(rt, script), script, None),
         Action::Check(asked) => check(rt, colors, &asked),
         Action::Update(paths) => update(rt, paths.as_slice()),
-        Action::Explain(script) => explain(rt, colors, script),
-        Action::Trace(asked) => trace(rt, &asked),
-        Action::Draw(asked) => draw(rt, &asked),
+        Action::Explain(script) => untold(explain(rt, colors, script), script, None),
+        Action::Trace(asked) => {
+            announce(rt, asked.text, "a trace")?;
+            untold(trace(rt, &asked), asked.text, asked.output)
+        }
+        Action::Draw(asked) => {
+            announce(rt, asked.script, "a script")?;
+            untold(draw(rt, &asked), asked.script, asked.output)
+        }
         Action::Clients(clients) => {
             write_clients(threads, rt.alloc(), &clients, &mut rt.stdout())?;
             Ok(ACCEPTED)
         }
-        Action::Explore(asked) => explore(rt, &asked),
+        Action::Explore(asked) => {
+            announce(rt, asked.script, "a plan")?;
+            untold(explore(rt, &asked), asked.script, None)
+        }
         Action::End(status) => Ok(status),
     }
+}
+
+/// The end of an action on an input, which may write a file. A fault of a file was reported with its name and its reason, so it
+/// gets no line of its own.
+fn untold(
+    ended: Result<u8, Refusal>,
+    input: Input<'_>,
+    output: Option<&str>,
+) -> Result<u8, Refusal> {
+    match ended {
+        Ok(status) => Ok(status),
+        Err(refusal) if was_told(refusal, input, output) => Ok(FAULT),
+        Err(refusal) => Err(refusal),
+    }
+}
+
+fn was_told(refusal: Refusal, input: Input<'_>, output: Option<&str>) -> bool {
+    match (refusal, input) {
+        (Refusal::Read, Input::File(_)) => true,
+        (Refusal::Write, _) => output.is_some(),
+        _ => false,
+    }
+}
+
+/// Says what is read, if it is typed at a terminal: nothing else would show that the program waits.
+fn announce(rt: &HostRuntime, input: Input<'_>, what: &str) -> Result<(), Refusal> {
+    if is_typed(rt, input) {
+        eprintln!(rt; "fencectl: reading {what} from this terminal; Ctrl-D ends it").map_err(
+            |_| Refusal::Write,
+        )?;
+    }
+    Ok(())
 }
 
 /// Runs clients over the board, or over buffers under locks, and writes what they settle.
@@ -131,7 +174,7 @@ fn is_typed(rt: &HostRuntime, script: Input) -> bool {
 /// Answers and explains what is typed, line by line.
 fn converse(rt: &HostRuntime, colors: Colors) -> Result<u8, Refusal> {
     eprintln!(rt; "{GREETING}").map_err(|_| Refusal::Write)?;
-    let mut reader = Prompted::new(rt.stdin(), rt.stderr());
+    let mut reader = Typed::new(Prompted::new(rt.stdin(), rt.stderr()), rt.stderr());
     Ok(explain_from(rt, colors, &mut reader))
 }
 
@@ -148,11 +191,15 @@ fn explain_from<R: Read>(rt: &HostRuntime, colors: Colors, reader: &mut R) -> u8
 }
 
 fn json(rt: &HostRuntime, script: Input) -> Result<u8, Refusal> {
+    announce(rt, script, "a script")?;
     let mut source = Source::open(rt, script, rt.stdin())?;
     Ok(json_script(rt.alloc(), &mut source, &mut rt.stdout(), &mut rt.stderr()))
 }
 
 fn check(rt: &HostRuntime, colors: Colors, asked: &Check) -> Result<u8, Refusal> {
+    for path in asked.paths.as_slice() {
+        announce(rt, Input::named(*path), "a script")?;
+    }
     let names = script_files(rt, asked.paths.as_slice())?;
     let options = CheckOptions {
         form: form_of(rt, colors, asked.report),
@@ -166,7 +213,7 @@ fn check(rt: &HostRuntime, colors: Colors, asked: &Check) -> Result<u8, Refusal>
         &mut rt.stdout(),
         &mut rt.stderr(),
     )?;
-    Ok(status_of_verdict(verdict))
+    Ok(status_of_check(asked.report, verdict))
 }
 
 fn update(rt: &HostRuntime, paths: &[&str]) -> Result<u8, Refusal> {
@@ -194,6 +241,9 @@ fn tap_version(rt: &HostRuntime) -> u64 {
 }
 
 fn explain(rt: &HostRuntime, colors: Colors, script: Input) -> Result<u8, Refusal> {
+    if is_typed(rt, script) {
+        return converse(rt, colors);
+    }
     let mut source = Source::open(rt, script, rt.stdin())?;
     Ok(explain_from(rt, colors, &mut source))
 }

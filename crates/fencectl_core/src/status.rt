@@ -1,8 +1,9 @@
 //! Exit statuses: 0 is success, 1 a refused line or a difference, 2 a fault.
 ghost use Rattle.std.specs.Prelude.{◌≡◌, ◌==◌, if◌then◌else◌};
 ghost use Rattle.fencectl_core.specs.Ends.{ReportsFault, run_status};
-ghost use Rattle.fencectl_core.specs.Verdicts.{check_status};
+ghost use Rattle.fencectl_core.specs.Verdicts.{check_status, verdict_status};
 
+use crate::action::CheckReport;
 use crate::fault::{FAULT, tell_fault};
 use check_core::Verdict;
 use point_core::Refusal;
@@ -37,9 +38,20 @@ pub(crate) fn status_of_run<W: Write>(ended: Result<Totals, Refusal>, writer: &m
     }
 }
 
-/// The status of a check: 0 if every script passes, 1 if one does not, and 2 if one could not be checked to its end.
+/// The status of a check: 0 if every script passes, 1 if one does not, and 2 if one could not be checked to its end. Tests of the
+/// Test Anything Protocol say themselves which of them fail, and their readers take another status for a broken stream: it is 0.
+pub(crate) fn status_of_check(report: CheckReport, verdict: Verdict) -> u8
+    ensures status { result ≡ check_status report verdict }
+{
+    match report {
+        CheckReport::All | CheckReport::Counts => status_of_verdict(verdict),
+        CheckReport::Tap => ACCEPTED,
+    }
+}
+
+/// The status of a check or an update whose report is no stream of tests.
 pub(crate) fn status_of_verdict(verdict: Verdict) -> u8
-    ensures status { result ≡ check_status verdict }
+    ensures status { result ≡ verdict_status verdict }
 {
     match verdict {
         Verdict::Passed => ACCEPTED,

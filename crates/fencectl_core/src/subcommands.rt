@@ -29,6 +29,8 @@ pub(crate) enum ArgumentForm {
     Flag,
     /// An option with a value, which may be left out; the string is its metavariable.
     Option(&'static str),
+    /// As `Option`, with the letter `o` too.
+    Output(&'static str),
     /// A number from 1 to this one, without which the command line is wrong.
     Number(u16),
 }
@@ -68,7 +70,7 @@ pub(crate) const FROM: &str = "from";
 
 pub(crate) const TO: &str = "to";
 
-/// The word for drawing a script, and the flag for drawing what happened in a trace.
+/// The word for drawing a script, the flag for drawing what happened in a trace, and the option for drawing schedules.
 pub(crate) const DRAW: &str = "draw";
 
 /// The options of a drawing.
@@ -196,6 +198,11 @@ static SUBCOMMANDS: &[Subcommand] = &[
                 form: ArgumentForm::Option("SECONDS"),
                 help: "Ends them at this time",
             },
+            Argument {
+                name: OUTPUT,
+                form: ArgumentForm::Output("FILE"),
+                help: "Writes the script or the picture to this file instead of standard output",
+            },
         ],
     },
     Subcommand {
@@ -220,7 +227,7 @@ static SUBCOMMANDS: &[Subcommand] = &[
             },
             Argument {
                 name: OUTPUT,
-                form: ArgumentForm::Option("PICTURE"),
+                form: ArgumentForm::Output("PICTURE"),
                 help: "Writes this file, as a whole or not at all",
             },
         ],
@@ -269,6 +276,11 @@ static SUBCOMMANDS: &[Subcommand] = &[
                 name: WITNESS,
                 form: ArgumentForm::Option("PREFIX"),
                 help: "Writes the schedules that are shown as scripts PREFIX-1.fence, PREFIX-2.fence ..",
+            },
+            Argument {
+                name: DRAW,
+                form: ArgumentForm::Option("PREFIX"),
+                help: "Draws the schedules that are shown: PREFIX-1.svg, PREFIX-2.svg ..",
             },
             Argument {
                 name: ANSWERS,

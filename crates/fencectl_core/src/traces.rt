@@ -3,7 +3,7 @@ ghost use Rattle.std.specs.Prelude.{◌≡◌, IfOk};
 ghost use Rattle.fencectl_core.specs.Verdicts.{IsScriptStatus, outcome_status, written_status};
 
 use crate::action::Trace;
-use crate::drawing::{draw_trace, report_mistake, write_output};
+use crate::drawing::{draw_trace, report_mistake, write_document};
 use crate::fault::FAULT;
 use crate::status::{ACCEPTED, REFUSED};
 use point_core::Refusal;
@@ -49,6 +49,8 @@ window with --from and --to";
 const ONE_FORM: &str =
     "fencectl: --json, --script, --draw and --perfetto each ask for another form";
 
+const NO_OUTPUT: &str = "fencectl: --output goes with --script or --draw";
+
 const NO_TIMES: &str =
     "fencectl: --from and --to take seconds with up to six decimals, the first not after the second";
 
@@ -57,6 +59,9 @@ const NO_TIMES: &str =
 pub(crate) fn trace(rt: &HostRuntime, asked: &Trace<'_>) -> Result<u8, Refusal> {
     if has_several_forms(asked) {
         return report_mistake(rt, ONE_FORM);
+    }
+    if asked.output.is_some() && !asked.is_script && !asked.is_drawing {
+        return report_mistake(rt, NO_OUTPUT);
     }
     match Span::read(asked.from, asked.to) {
         Some(span) => trace_within(rt, asked, span),
@@ -110,9 +115,9 @@ fn write_script(rt: &HostRuntime, asked: &Trace<'_>, scripted: &Scripted) -> Res
     match scripted {
         Scripted::Script(text) => {
             if asked.is_drawing {
-                draw_trace(rt, text.as_slice())
+                draw_trace(rt, asked.output, text.as_slice())
             } else {
-                write_output(rt, text.as_slice(), ACCEPTED)
+                write_document(rt, asked.output, text.as_slice(), ACCEPTED)
             }
         }
         Scripted::NoEvents => report_none(rt, asked),

@@ -10,6 +10,7 @@ use crate::arguments::matches_of;
 use crate::asked::action_by;
 use crate::color::Colors;
 use crate::fault::FAULT;
+use crate::meant::{advised, meant_by};
 use crate::paint::painted;
 use crate::status::ACCEPTED;
 use crate::subcommands::RUN;
@@ -20,6 +21,9 @@ use source_core::Input;
 use std::alloc::Global;
 use std::fs;
 use std::rt::Files;
+
+/// The last line of a report of wrong usage.
+const MORE: &str = "For more information, try '--help'.";
 
 /// The action that the words of the command line ask for; the first is the program's name. A lone word that is no subcommand
 /// runs the script of that file, if there is one. Help and the version are printed here, and wrong usage is reported.
@@ -76,30 +80,28 @@ fn action_instead<'a>(
 {
     if error.kind() == ErrorKind::InvalidSubcommand {
         if let [_, name] = words {
-            if is_file(rt, name.as_str()) {
+            if names_file(rt, name.as_str()) {
                 return Ok(Action::Run(Input::File(name.as_str())));
             }
         }
     }
-    Ok(Action::End(report_error(rt, alloc, colors, error)?))
+    Ok(Action::End(report_error(rt, alloc, colors, words, error)?))
 }
 
-/// Whether there is a file of that name, and no folder.
-fn is_file(rt: &impl Files, name: &str) -> bool {
-    match fs::metadata(rt, name) {
-        Ok(found) => !found.is_dir(),
-        Err(_) => false,
-    }
+/// Whether a word that is no subcommand is meant as a file: it has a dot or a slash, or there is a file or a folder of that name.
+fn names_file(rt: &impl Files, word: &str) -> bool {
+    word.contains('.') || word.contains('/') || fs::metadata(rt, word).is_ok()
 }
 
-/// Prints what clap says, and gives its status: 0 for help and version, 2 for wrong usage. If a word is no
-/// subcommand, it also says how to run a script in a file.
+/// Reports why words are not taken, or prints help or the version, and gives the status: 0 for help and version, 2 for wrong
+/// usage.
 ///
-/// Fails with `Write` if that could not be printed, and with `Memory` if clap had none.
+/// Fails with `Write` if that could not be printed, and with `Memory` if memory was refused.
 fn report_error(
-    rt: &(impl Print + Eprint),
+    rt: &(impl Print + Eprint + Files),
     alloc: Global,
     colors: Colors,
+    words: &[String],
     error: &Error,
 ) -> Result<u8, Refusal>
     ensures memory { kind_of error.now ≡ ErrorKind.OutOfMemory → result ≡ Err Memory }
@@ -109,13 +111,46 @@ fn report_error(
     if error.kind() == ErrorKind::OutOfMemory {
         return Err(Refusal::Memory);
     }
-    print_error(rt, alloc, colors, error)?;
-    if error.kind() == ErrorKind::InvalidSubcommand {
-        eprintln!(rt; "To run the script of a file, use 'fencectl run FILE'.").map_err(
-            |_| Refusal::Write,
-        )?;
+    match error.kind() {
+        ErrorKind::InvalidSubcommand => report_word(rt, alloc, colors, words, error)?,
+        _ => print_error(rt, alloc, colors, words, error)?,
     }
     Ok(status_of_kind(error.kind()))
+}
+
+/// Reports a first word that is no subcommand: what follows a file, or what the word may stand for.
+fn report_word(
+    rt: &(impl Print + Eprint + Files),
+    alloc: Global,
+    colors: Colors,
+    words: &[String],
+    error: &Error,
+) -> Result<(), Refusal>
+    ensures refusals { IfErr result (λ refusal. (refusal ≡ WriteFault) ⊎ (refusal ≡ Memory)) }
+{
+    if let [_, name, extra, ..] = words {
+        if names_file(rt, name.as_str()) {
+            return report_extra(rt, name.as_str(), extra.as_str());
+        }
+    }
+    print_error(rt, alloc, colors, words, error)?;
+    eprintln!(rt; "To run the script of a file, use 'fencectl run FILE'.").map_err(
+        |_| Refusal::Write,
+    )
+}
+
+/// Reports a word behind a file that is to be run.
+fn report_extra(rt: &impl Eprint, file: &str, extra: &str) -> Result<(), Refusal>
+    ensures refusals { IfErr result (λ refusal. refusal ≡ WriteFault) }
+{
+    let printed = if extra.starts_with('-') {
+        eprintln!(rt;
+            "error: an option needs its subcommand, as in 'fencectl run {extra} {file}'\n\n{MORE}"
+        )
+    } else {
+        eprintln!(rt; "error: run takes one FILE, but '{extra}' follows\n\n{MORE}")
+    };
+    printed.map_err(|_| Refusal::Write)
 }
 
 fn status_of_kind(kind: ErrorKind) -> u8
@@ -128,27 +163,32 @@ fn status_of_kind(kind: ErrorKind) -> u8
     }
 }
 
-/// Prints what clap says to the stream that it belongs to, coloured if that stream is.
+/// Prints what clap says to the stream that it belongs to, coloured if that stream is. A mistyped word gets a tip.
 fn print_error(
     rt: &(impl Print + Eprint),
     alloc: Global,
     colors: Colors,
+    words: &[String],
     error: &Error,
 ) -> Result<(), Refusal>
     ensures refusals { IfErr result (λ refusal. (refusal ≡ WriteFault) ⊎ (refusal ≡ Memory)) }
 {
+    let text = format!(in alloc; "{error}")?;
+    let text = match meant_by(alloc, words, error.kind())? {
+        Some(word) => advised(alloc, text.as_str(), word)?,
+        None => text,
+    };
     let printed = match (error.use_stderr(), colors.output, colors.errors) {
         (true, _, true) => {
-            let text = format!(in alloc; "{error}")?;
             let text = painted(alloc, text.as_str())?;
             eprint!(rt; "{text}")
         }
+        (true, _, false) => eprint!(rt; "{text}"),
         (false, true, _) => {
-            let text = format!(in alloc; "{error}")?;
             let text = painted(alloc, text.as_str())?;
             print!(rt; "{text}")
         }
-        _ => error.print(rt),
+        (false, false, _) => print!(rt; "{text}"),
     };
     printed.map_err(|_| Refusal::Write)
 }
