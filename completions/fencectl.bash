@@ -10,7 +10,7 @@ _fencectl() {
     run) words="--json --help" ;;
     explain) words="--help" ;;
     check) words="--quiet --tap --allow-empty --update --help" ;;
-    trace) words="--json --script --draw --perfetto --from --to --output --help" files="*" ;;
+    trace) words="--json --script --draw --perfetto --hangs --from --to --output --help" files="*" ;;
     draw) words="--graph --line --lines --output --help" ;;
     clients) words="--locks --help" takes_files="" ;;
     explore) words="--json --states --witness --draw --answers --all-orders --help" files="*.plan" ;;

@@ -35,6 +35,7 @@ pub record AskedTrace : Type 0 where
   pub is_script : Bool
   pub is_drawing : Bool
   pub is_perfetto : Bool
+  pub is_hanging : Bool
   pub from : Option Text
   pub to : Option Text
   pub output : Option Text
@@ -120,6 +121,7 @@ trace_after rows = record {
   is_script = flag_named (one_of (codes "script") rows);
   is_drawing = flag_named (one_of (codes "draw") rows);
   is_perfetto = flag_named (one_of (codes "perfetto") rows);
+  is_hanging = flag_named (one_of (codes "hangs") rows);
   from = first_of (codes "from") rows;
   to = first_of (codes "to") rows;
   output = first_of (codes "output") rows;
@@ -178,6 +180,7 @@ asked_of_trace trace = record {
   is_script = trace.is_script;
   is_drawing = trace.is_drawing;
   is_perfetto = trace.is_perfetto;
+  is_hanging = trace.is_hanging;
   from = option_map (λ t. t.now) trace.from;
   to = option_map (λ t. t.now) trace.to;
   output = option_map (λ t. t.now) trace.output;

@@ -55,7 +55,8 @@ explain_app = with_rules (new_app (codes "explain")) (file_rule (codes "FILE") �
 abbrev pub trace_app : App
 trace_app = with_rules (new_app (codes "trace"))
     (file_rule (codes "FILE") ∷ flag_rule (codes "json") ∷ flag_rule (codes "script") ∷ flag_rule (codes "draw")
-    ∷ flag_rule (codes "perfetto") ∷ option_rule (codes "from") ∷ option_rule (codes "to") ∷ output_rule (codes "output") ∷ [])
+    ∷ flag_rule (codes "perfetto") ∷ flag_rule (codes "hangs") ∷ option_rule (codes "from") ∷ option_rule (codes "to")
+    ∷ output_rule (codes "output") ∷ [])
 
 abbrev pub draw_app : App
 draw_app = with_rules (new_app (codes "draw"))

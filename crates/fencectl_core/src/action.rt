@@ -78,6 +78,8 @@ pub(crate) struct Trace<'a> {
     pub is_drawing: bool,
     /// Whether the events are written as Perfetto's trace events.
     pub is_perfetto: bool,
+    /// Whether the script or the picture has only what hangs, and a little before.
+    pub is_hanging: bool,
     /// The start of the window, in seconds.
     pub from: Option<&'a str>,
     /// The end of the window.

@@ -32,8 +32,8 @@ ghost use Rattle.fencectl_core.specs.Asked.{
 use crate::action::{Action, Check, CheckReport, Clients, Draw, Explore, Table, Trace};
 use crate::subcommands::{
     ALL_ORDERS, ALLOW_EMPTY, ANSWERS, CHECK, CLIENTS_WORD, COUNT, DRAW, EXPLAIN, EXPLORE, FILE,
-    FROM, GRAPH, JSON, LINE, LINES, LOCKS, OUTPUT, PATH, PERFETTO, QUIET, ROUNDS_WORD, SCRIPT,
-    STATES_OPTION, TAP, TO, TRACE, UPDATE, WITNESS,
+    FROM, GRAPH, HANGS, JSON, LINE, LINES, LOCKS, OUTPUT, PATH, PERFETTO, QUIET, ROUNDS_WORD,
+    SCRIPT, STATES_OPTION, TAP, TO, TRACE, UPDATE, WITNESS,
 };
 use clap::ArgMatches;
 use clients_core::{CLIENTS, ROUNDS};
@@ -125,6 +125,7 @@ fn trace_of<'a>(matches: &ArgMatches<'a>) -> Trace<'a>
         is_script: has_flag(matches, SCRIPT),
         is_drawing: has_flag(matches, DRAW),
         is_perfetto: has_flag(matches, PERFETTO),
+        is_hanging: has_flag(matches, HANGS),
         from: text_of(matches, FROM),
         to: text_of(matches, TO),
         output: text_of(matches, OUTPUT),

@@ -65,6 +65,9 @@ pub(crate) const SCRIPT: &str = "script";
 /// Asks for the events of a trace as Perfetto's trace events.
 pub(crate) const PERFETTO: &str = "perfetto";
 
+/// Asks for only what hangs, in a trace's script or picture.
+pub(crate) const HANGS: &str = "hangs";
+
 /// The window of a trace.
 pub(crate) const FROM: &str = "from";
 
@@ -189,14 +192,19 @@ static SUBCOMMANDS: &[Subcommand] = &[
                 help: "Writes what happened as trace events, in JSON, for Perfetto instead",
             },
             Argument {
+                name: HANGS,
+                form: ArgumentForm::Flag,
+                help: "Draws, or writes as a script, only what hangs, who waits for it, and a little before",
+            },
+            Argument {
                 name: FROM,
                 form: ArgumentForm::Option("SECONDS"),
-                help: "Begins the script, the picture or the events at this time",
+                help: "Begins at this time",
             },
             Argument {
                 name: TO,
                 form: ArgumentForm::Option("SECONDS"),
-                help: "Ends them at this time",
+                help: "Ends at this time",
             },
             Argument {
                 name: OUTPUT,

@@ -51,17 +51,16 @@ const ONE_FORM: &str =
 
 const NO_OUTPUT: &str = "fencectl: --output goes with --script or --draw";
 
+const NO_HANGS: &str = "fencectl: --hangs goes with --script or --draw";
+
 const NO_TIMES: &str =
     "fencectl: --from and --to take seconds with up to six decimals, the first not after the second";
 
 /// Reads a trace, and prints the report, or what happened as a script, a picture or trace events. Options that don't fit are
 /// reported, with the status of a fault.
 pub(crate) fn trace(rt: &HostRuntime, asked: &Trace<'_>) -> Result<u8, Refusal> {
-    if has_several_forms(asked) {
-        return report_mistake(rt, ONE_FORM);
-    }
-    if asked.output.is_some() && !asked.is_script && !asked.is_drawing {
-        return report_mistake(rt, NO_OUTPUT);
+    if let Some(mistake) = mistake_in(asked) {
+        return report_mistake(rt, mistake);
     }
     match Span::read(asked.from, asked.to) {
         Some(span) => trace_within(rt, asked, span),
@@ -76,6 +75,20 @@ fn trace_within(rt: &HostRuntime, asked: &Trace<'_>, span: Span) -> Result<u8, R
         script_within(rt, asked, span)
     } else {
         report(rt, asked, span)
+    }
+}
+
+/// What is wrong with the options together, if anything is.
+fn mistake_in(asked: &Trace<'_>) -> Option<&'static str> {
+    let has_script = asked.is_script || asked.is_drawing;
+    if has_several_forms(asked) {
+        Some(ONE_FORM)
+    } else if asked.output.is_some() && !has_script {
+        Some(NO_OUTPUT)
+    } else if asked.is_hanging && !has_script {
+        Some(NO_HANGS)
+    } else {
+        None
     }
 }
 
@@ -105,8 +118,17 @@ fn status_of_written(rt: &HostRuntime, asked: &Trace<'_>, written: Written) -> R
 /// which is reported on standard error.
 fn script_within(rt: &HostRuntime, asked: &Trace<'_>, span: Span) -> Result<u8, Refusal> {
     let mut source = Source::open(rt, asked.text, rt.stdin())?;
-    let scripted = script_of_trace(rt.alloc(), span, ScriptFences::All, &mut source)?;
+    let scripted = script_of_trace(rt.alloc(), span, fences_of(asked), &mut source)?;
     write_script(rt, asked, &scripted)
+}
+
+/// Which fences the script has.
+fn fences_of(asked: &Trace<'_>) -> ScriptFences {
+    if asked.is_hanging {
+        ScriptFences::Hanging
+    } else {
+        ScriptFences::All
+    }
 }
 
 fn write_script(rt: &HostRuntime, asked: &Trace<'_>, scripted: &Scripted) -> Result<u8, Refusal>
