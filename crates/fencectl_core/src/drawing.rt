@@ -137,12 +137,27 @@ fn status_of(history: &History) -> u8
     if history.refused { REFUSED } else { ACCEPTED }
 }
 
-/// Draws the script of a trace's events, to standard output or to a file.
+/// The most pixels of a trace's picture whose beginning nobody has chosen.
+const TRACE_WIDTH: u64 = 2_000;
+
+/// Draws the script of a trace's events, to standard output or to a file: all of it if its beginning was chosen, or else the last
+/// events that fit.
 pub(crate) fn draw_trace(
     rt: &HostRuntime,
     output: Option<&str>,
     script: &[u8],
+    is_chosen: bool,
 ) -> Result<u8, Refusal>
+    ensures status { IfOk result (λ status. (status ≡ 0) ⊎ (status ≡ 2)) }
+{
+    if is_chosen {
+        draw_chosen(rt, output, script)
+    } else {
+        draw_last(rt, output, script)
+    }
+}
+
+fn draw_chosen(rt: &HostRuntime, output: Option<&str>, script: &[u8]) -> Result<u8, Refusal>
     ensures status { IfOk result (λ status. (status ≡ 0) ⊎ (status ≡ 2)) }
 {
     if count_lines(rt.alloc(), script)? > COLUMNS {
@@ -154,6 +169,14 @@ pub(crate) fn draw_trace(
         window: &window,
     };
     let drawing = drawing_of(rt, &lines)?;
+    write_picture(rt, output, &drawing, ACCEPTED)
+}
+
+fn draw_last(rt: &HostRuntime, output: Option<&str>, script: &[u8]) -> Result<u8, Refusal>
+    ensures status { IfOk result (λ status. (status ≡ 0) ⊎ (status ≡ 2)) }
+{
+    let mut reasons = Reasons::new(rt.alloc());
+    let drawing = Drawing::of_last(rt.alloc(), script, TRACE_WIDTH, &mut reasons)?;
     write_picture(rt, output, &drawing, ACCEPTED)
 }
 

@@ -137,7 +137,7 @@ fn write_script(rt: &HostRuntime, asked: &Trace<'_>, scripted: &Scripted) -> Res
     match scripted {
         Scripted::Script(text) => {
             if asked.is_drawing {
-                draw_trace(rt, asked.output, text.as_slice())
+                draw_trace(rt, asked.output, text.as_slice(), asked.from.is_some())
             } else {
                 write_document(rt, asked.output, text.as_slice(), ACCEPTED)
             }
