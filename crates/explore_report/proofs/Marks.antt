@@ -7,7 +7,8 @@ use Rattle.point_core.specs.declared.name.TheConstants.{NAME_BYTES}
 use Rattle.line_core.specs.Following.{is_name}
 use Rattle.explore_report.specs.declared.cause.Cause.TheVariants as cause
 use Rattle.explore_report.specs.declared.mark.Mark.TheVariants as mark
-use Rattle.explore_report.specs.Mark.{client_named}
+use Rattle.explore_report.specs.declared.verb.Verb.{Verb}
+use Rattle.explore_report.specs.Mark.{access_named, client_named}
 
 is_name-IsName : (word : List ℕ) → IsName word → is_name word ≡ true
 is_name-IsName word named =
@@ -26,6 +27,16 @@ client_named-name word name named same = rw (is_name-IsName word named) (ap mark
 
 pub client_named-other : (word : List ℕ) → (IsName word → false ≡ true) → mark.Wrong (cause.NoName NAME_BYTES) ≡ client_named word
 client_named-other word other =
+    elim (cases_Bool (is_name word)) [
+      | inl named ↦ absurd (false≢true (other (IsName-is_name word named)))
+      | inr unnamed ↦ rw unnamed refl
+    ]
+
+pub access_named-name : (v : Verb) (word name : List ℕ) → IsName word → name ≡ word → mark.Access v name ≡ access_named v word
+access_named-name v word name named same = rw (is_name-IsName word named) (ap (mark.Access v) same)
+
+pub access_named-other : (v : Verb) (word : List ℕ) → (IsName word → false ≡ true) → mark.Wrong (cause.NoBuffer NAME_BYTES) ≡ access_named v word
+access_named-other v word other =
     elim (cases_Bool (is_name word)) [
       | inl named ↦ absurd (false≢true (other (IsName-is_name word named)))
       | inr unnamed ↦ rw unnamed refl

@@ -8,7 +8,9 @@ use Rattle.std.proofs.lemmas.Option.{get_or_from_slice_get, none-some, same_Some
 use Rattle.explore_report.specs.declared.cause.TheConstants.{PLAN_LINES}
 use Rattle.explore_report.specs.declared.mistake.Mistake.{Mistake}
 use Rattle.explore_report.specs.declared.row.Row.{Row}
-use Rattle.explore_report.specs.Mistake.{AreFew, AreOwn, EndsClosed, EndsWhole, IsClientless, IsLaterMistake, IsMisplaced, IsMissing, IsMistake, IsOpen, IsOwn, IsPastLimit, IsPlaced, IsPlan, IsRepeated, IsRow, IsWhole, cause_of, depth_below, else_after, in_else, is_line, repeated, unfollowed}
+use Rattle.explore_report.specs.Mistake.{AreFew, AllFit, EndsClosed, EndsWhole, IsClientless, IsLaterMistake, IsMisplaced, IsMissing, IsMistake, IsOpen, Fits, IsPastLimit, IsPlaced, IsPlan, IsMisfit, IsRow, IsWhole, cause_among, cause_of, depth_below, else_after, in_else, unfollowed}
+use Rattle.explore_report.specs.Accesses.{is_open, open_after}
+use Rattle.explore_report.specs.Rows.{is_line}
 use Rattle.explore_report.proofs.Exploring.{All-at}
 use Rattle.explore_report.proofs.Expectations.{drop-at}
 
@@ -27,21 +29,21 @@ pub placed-next : (rows : List Row) (i : ℕ) (row : Row) → i < length rows �
     → All IsPlaced (take i rows) → IsPlaced row → All IsPlaced (take (i + 1) rows)
 placed-next rows i row low at before here = subst (All IsPlaced) (sym (rows-more rows i row low at)) (All-push IsPlaced (take i rows) row before here)
 
-pub repeated-at : (rows : List Row) (i : ℕ) (row : Row) (m : Mistake) → i < length rows → row ≡ get_or rows i row
-    → m.line ≡ row.number → repeated (take i rows) row ≡ Some m.cause → ((k : ℕ) → k < i → IsOwn rows k) → IsRepeated rows m
-repeated-at rows i row m low at line why first =
+pub misfit-at : (rows : List Row) (i : ℕ) (row : Row) (m : Mistake) → i < length rows → row ≡ get_or rows i row
+    → m.line ≡ row.number → cause_among (take i rows) row (drop (i + 1) rows) ≡ Some m.cause → ((k : ℕ) → k < i → Fits rows k) → IsMisfit rows m
+misfit-at rows i row m low at line why first =
     record { index = i; row = row; at = row-at rows i row low at; line = line; why = why; first = first }
 
--- a row that the rows above allow
-own-here : (rows : List Row) (i : ℕ) (row : Row) → IsRow rows i row → repeated (take i rows) row ≡ None → IsOwn rows i
-own-here rows i row at own other is = subst (λ r. repeated (take i rows) r ≡ None) (same_Some row other (sym at ∙ is)) own
+-- a row that the others allow
+fit-here : (rows : List Row) (i : ℕ) (row : Row) → IsRow rows i row → cause_among (take i rows) row (drop (i + 1) rows) ≡ None → Fits rows i
+fit-here rows i row at own other is = subst (λ r. cause_among (take i rows) r (drop (i + 1) rows) ≡ None) (same_Some row other (sym at ∙ is)) own
 
-pub own-next : (rows : List Row) (i : ℕ) (row : Row) → i < length rows → row ≡ get_or rows i row
-    → ((k : ℕ) → k < i → IsOwn rows k) → repeated (take i rows) row ≡ None → (k : ℕ) → k < i + 1 → IsOwn rows k
-own-next rows i row low at before own = below_more (IsOwn rows) i before (own-here rows i row (row-at rows i row low at) own)
+pub fit-next : (rows : List Row) (i : ℕ) (row : Row) → i < length rows → row ≡ get_or rows i row
+    → ((k : ℕ) → k < i → Fits rows k) → cause_among (take i rows) row (drop (i + 1) rows) ≡ None → (k : ℕ) → k < i + 1 → Fits rows k
+fit-next rows i row low at before own = below_more (Fits rows) i before (fit-here rows i row (row-at rows i row low at) own)
 
-pub own-all : (rows : List Row) (i : ℕ) → length rows ≤ i → ((k : ℕ) → k < i → IsOwn rows k) → AreOwn rows
-own-all rows i past before k row at = before k (omega (arith, slice_get_within rows k row at)) row at
+pub fit-all : (rows : List Row) (i : ℕ) → length rows ≤ i → ((k : ℕ) → k < i → Fits rows k) → AllFit rows
+fit-all rows i past before k row at = before k (omega (arith, slice_get_within rows k row at)) row at
 
 pub few-all : (rows : List Row) (i left : ℕ) → length rows ≤ i → left + count_by is_line (take i rows) ≡ PLAN_LINES → AreFew rows
 few-all rows i left past sum =
@@ -57,6 +59,15 @@ in_else-next depth rows i row inside next all low at is same =
 pub in_else-end : (depth : ℕ) (rows : List Row) (i : ℕ) (inside all : Bool) → length rows ≤ i → in_else depth inside (drop i rows) ≡ all → inside ≡ all
 in_else-end depth rows i inside all past same = ap (in_else depth inside) (sym (drop_all i rows past)) ∙ same
 
+-- the rows up to one, and this one, leave it to the others whether an access is open
+pub is_open-next : (name : List ℕ) (rows : List Row) (i : ℕ) (row : Row) (lasts next all : Bool) → i < length rows → row ≡ get_or rows i row
+    → next ≡ open_after name lasts row → is_open name lasts (drop i rows) ≡ all → is_open name next (drop (i + 1) rows) ≡ all
+is_open-next name rows i row lasts next all low at is same =
+    ap (λ b. is_open name b (drop (i + 1) rows)) is ∙ ap (is_open name lasts) (sym (drop-at rows i row low at)) ∙ same
+
+pub is_open-end : (name : List ℕ) (rows : List Row) (i : ℕ) (lasts all : Bool) → length rows ≤ i → is_open name lasts (drop i rows) ≡ all → lasts ≡ all
+is_open-end name rows i lasts all past same = ap (is_open name lasts) (sym (drop_all i rows past)) ∙ same
+
 -- no last row, or one that is about no line that follows
 pub ends-none : (rows : List Row) → None ≡ slice_get rows (length rows - 1) → EndsWhole rows
 ends-none rows is row at = absurd (none-some row (is ∙ at))
@@ -65,10 +76,10 @@ pub ends-row : (rows : List Row) (last : Row) → Some last ≡ slice_get rows (
 ends-row rows last is other row at = subst (λ r. unfollowed r.mark ≡ None) (same_Some last row (is ∙ at)) other
 
 -- rows in which only what is missing may be wrong
-pub or_missing : (rows : List Row) (last : ℕ) (o : Option Mistake) → All IsPlaced rows → AreOwn rows → AreFew rows
+pub or_missing : (rows : List Row) (last : ℕ) (o : Option Mistake) → All IsPlaced rows → AllFit rows → AreFew rows
     → MatchOption o (IsWhole rows) (IsMissing rows last) → MatchOption o (IsPlan rows) (IsMistake rows last)
-or_missing rows last None placed own few whole = record { placed = placed; own = own; few = few; whole = whole }
-or_missing rows last (Some m) placed own few found = inr (placed, inr (own, inr (few, found)))
+or_missing rows last None placed fit few whole = record { placed = placed; fit = fit; few = few; whole = whole }
+or_missing rows last (Some m) placed fit few found = inr (placed, inr (fit, inr (few, found)))
 
 -- no `#if` is open below the last row, if there is one
 
@@ -89,8 +100,8 @@ counted-at p xs i x at passes =
 not-misplaced : (rows : List Row) (m : Mistake) → IsMisplaced rows m → All IsPlaced rows → ⊥
 not-misplaced rows m found placed = none-some m.cause (sym (All-at IsPlaced rows found.index found.row placed found.at) ∙ found.why)
 
-not-repeated : (rows : List Row) (m : Mistake) → IsRepeated rows m → AreOwn rows → ⊥
-not-repeated rows m found own = none-some m.cause (sym (own found.index found.row found.at) ∙ found.why)
+not-misfit : (rows : List Row) (m : Mistake) → IsMisfit rows m → AllFit rows → ⊥
+not-misfit rows m found own = none-some m.cause (sym (own found.index found.row found.at) ∙ found.why)
 
 not-past : (rows : List Row) (m : Mistake) → IsPastLimit rows m → AreFew rows → ⊥
 not-past rows m found few = absurd (omega (arith, found.full, counted-at is_line rows found.index found.row found.at found.counted))
@@ -108,7 +119,7 @@ not-last rows last m (inl found) plan = not-past rows m found plan.few
 not-last rows last m (inr found) plan = not-missing rows last m found.1 plan.whole
 
 not-later : (rows : List Row) (last : ℕ) (m : Mistake) → IsLaterMistake rows last m → IsPlan rows → ⊥
-not-later rows last m (inl found) plan = not-repeated rows m found plan.own
+not-later rows last m (inl found) plan = not-misfit rows m found plan.fit
 not-later rows last m (inr found) plan = not-last rows last m found.1 plan
 
 -- rows with a mistake make no plan

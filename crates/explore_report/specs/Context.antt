@@ -30,6 +30,7 @@ after at mark.Await = record { section = at.section; above = above.Await; depth 
 after at mark.Once = record { section = at.section; above = above.Once; depth = at.depth }
 after at mark.If = record { section = at.section; above = above.If; depth = one_more at.depth }
 after at mark.Else = record { section = at.section; above = above.Nothing; depth = at.depth }
+after at (mark.Access v name) = record { section = at.section; above = above.Nothing; depth = at.depth }
 after at mark.End = record { section = at.section; above = above.Nothing; depth = at.depth - 1 }
 after at mark.Expected = record { section = at.section; above = above.Command; depth = at.depth }
 after at mark.OrExpected = record { section = at.section; above = above.Command; depth = at.depth }

@@ -1,3 +1,4 @@
+pub mod Accesses
 pub mod Cases
 pub mod Context
 pub mod Finding

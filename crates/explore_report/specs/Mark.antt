@@ -11,6 +11,8 @@ use Rattle.line_core.specs.declared.line.Body.TheVariants.{Cmd, Bad}
 use Rattle.explore_report.specs.declared.cause.Cause.TheVariants as cause
 use Rattle.explore_report.specs.declared.mark.Mark.{Mark}
 use Rattle.explore_report.specs.declared.mark.Mark.TheVariants as mark
+use Rattle.explore_report.specs.declared.verb.Verb.{Verb}
+use Rattle.explore_report.specs.declared.verb.Verb.TheVariants as verb
 use Rattle.explore_report.specs.Words.{first_word, words_after}
 
 -- a letter follows the first byte
@@ -26,6 +28,15 @@ client_named name = if is_name name then mark.Client name else mark.Wrong (cause
 -- if one word follows, and no other
 abbrev pub client_mark : List ℕ → Mark
 client_mark words = if length (words_after words) == 0 then client_named (first_word words) else mark.Wrong (cause.NoName NAME_BYTES)
+
+-- an access to the buffer of that name, if it is one
+abbrev pub access_named : Verb → List ℕ → Mark
+access_named v name = if is_name name then mark.Access v name else mark.Wrong (cause.NoBuffer NAME_BYTES)
+
+-- if one word follows, and no other
+abbrev pub access_mark : Verb → List ℕ → Mark
+access_mark v words =
+    if length (words_after words) == 0 then access_named v (first_word words) else mark.Wrong (cause.NoBuffer NAME_BYTES)
 
 -- that mark, if no word follows
 abbrev pub without_words : List ℕ → Mark → Mark
@@ -59,6 +70,9 @@ directive_of word words =
     else if bytes_eq word (codes "#if") then Some (if_mark words)
     else if bytes_eq word (codes "#else") then Some (without_words words mark.Else)
     else if bytes_eq word (codes "#end") then Some (without_words words mark.End)
+    else if bytes_eq word (codes "#reads") then Some (access_mark verb.Reads words)
+    else if bytes_eq word (codes "#writes") then Some (access_mark verb.Writes words)
+    else if bytes_eq word (codes "#done") then Some (access_mark verb.Done words)
     else if bytes_eq word (codes "#") then blank_note words
     else if begins_directive word then Some (mark.Wrong cause.NoDirective)
     else None

@@ -1,5 +1,5 @@
 -- Why a script is no plan.
-use Rattle.std.specs.Prelude.{◌≡◌, ◌⊎◌, ◌<◌, ◌≤◌, ℕ, ◌-◌, ◌&&◌, ◌||◌, ◌==◌, nat_le, nat_lt, All, Bool, true, false, if◌then◌else◌, List, [], ◌∷◌, length, take, count_by, slice_get, Option, None, Some, is_some}
+use Rattle.std.specs.Prelude.{◌≡◌, ◌⊎◌, ◌<◌, ◌≤◌, ℕ, ◌+◌, ◌-◌, ◌&&◌, ◌||◌, ◌==◌, nat_le, nat_lt, All, Bool, true, false, if◌then◌else◌, List, [], ◌∷◌, length, take, drop, count_by, slice_get, Option, None, Some}
 use Rattle.std.specs.List.{list_any}
 use Rattle.std.specs.Str.{bytes_eq}
 use Rattle.command_core.specs.declared.command.Command.{Command}
@@ -16,8 +16,9 @@ use Rattle.explore_report.specs.declared.mark.Mark.{Mark}
 use Rattle.explore_report.specs.declared.mark.Mark.TheVariants as mark
 use Rattle.explore_report.specs.declared.mistake.Mistake.{Mistake}
 use Rattle.explore_report.specs.declared.row.Row.{Row}
+use Rattle.explore_report.specs.Accesses.{accessed, is_closed, is_done, is_open}
 use Rattle.explore_report.specs.Context.{after}
-use Rattle.explore_report.specs.Rows.{command_said, is_else, is_if}
+use Rattle.explore_report.specs.Rows.{is_else, is_if, is_line}
 
 -- a command has to follow `#await` directly, and a `wait` has to follow `#once`; else that cause counts
 abbrev pub unless_awaited : Above → Option Cause → Option Cause
@@ -104,6 +105,15 @@ finally_cause at = unless_awaited at.above (unless_open at.depth (finally_below 
 abbrev pub waiting_cause : Context → Option Cause
 waiting_cause at = unless_awaited at.above (waiting_in at.section)
 
+-- a client accesses buffers
+abbrev pub access_in : Section → Option Cause
+access_in section.First = Some cause.AccessOutside
+access_in (section.Client number) = None
+access_in section.Last = Some cause.AccessOutside
+
+abbrev pub access_cause : Context → Option Cause
+access_cause at = unless_awaited at.above (access_in at.section)
+
 abbrev pub if_cause : Context → Option Cause
 if_cause at = unless_awaited at.above (branch_in at.section (if_below at.above))
 
@@ -125,6 +135,7 @@ cause_of at mark.Once = waiting_cause at
 cause_of at mark.If = if_cause at
 cause_of at mark.Else = else_cause at
 cause_of at mark.End = end_cause at
+cause_of at (mark.Access v name) = access_cause at
 cause_of at mark.Expected = expected_cause at
 cause_of at mark.OrExpected = expected_cause at
 cause_of at (mark.Command command) = command_cause at.above at.section command
@@ -176,41 +187,43 @@ abbrev pub in_else : ℕ → Bool → List Row → Bool
 in_else depth inside [] = inside
 in_else depth inside (row ∷ rows) = in_else depth (else_after depth inside row) rows
 
--- Why the rows above do not allow a row that they would allow by its context: the row begins the lines of a client whose name a client
--- above has, or it is the second `#else` of an `#if`.
-abbrev pub repeated_by : List Row → Row → Mark → Option Cause
-repeated_by above row (mark.Client name) = if has_client above name then Some cause.NameTaken else None
-repeated_by above row mark.Else = if in_else row.context.depth false above then Some cause.ElseTwice else None
-repeated_by above row _ = None
+-- why an access to the buffer can't begin above these rows, where that many `#if` are open
+abbrev pub access_above : List ℕ → ℕ → List Row → Option Cause
+access_above name depth rows =
+    if is_closed name depth rows then (if count_by is_line (accessed name depth rows) == 0 then Some cause.AccessesNothing else None)
+    else Some cause.NotDone
 
-abbrev pub repeated : List Row → Row → Option Cause
-repeated above row = repeated_by above row row.mark
+-- why an access to the buffer can't end below these rows
+abbrev pub done_below : List ℕ → List Row → Option Cause
+done_below name rows = if is_open name false rows then None else Some cause.DoneNothing
 
--- the rows above allow the row of that index
-abbrev pub IsOwn : List Row → ℕ → Type 0
-IsOwn rows index = (row : Row) → IsRow rows index row → repeated (take index rows) row ≡ None
+abbrev pub cause_by : List Row → ℕ → List Row → Mark → Option Cause
+cause_by above depth below (mark.Client name) = if has_client above name then Some cause.NameTaken else None
+cause_by above depth below mark.Else = if in_else depth false above then Some cause.ElseTwice else None
+cause_by above depth below (mark.Access v name) = if is_done v then done_below name above else access_above name depth below
+cause_by above depth below _ = None
 
--- no two clients have the same name, and no `#if` has two `#else`
-abbrev pub AreOwn : List Row → Type 0
-AreOwn rows = (index : ℕ) → IsOwn rows index
+-- Why the rows above and below do not allow a row that its context allows: the row begins the lines of a client whose name a client
+-- above has; it is the second `#else` of an `#if`; or it begins an access that has no end, or ends one that has not begun.
+abbrev pub cause_among : List Row → Row → List Row → Option Cause
+cause_among above row below = cause_by above row.context.depth below row.mark
 
--- the rows above do not allow the row, and it is the first such row
-pub record IsRepeated (rows : List Row) (m : Mistake) : Type 0 where
+-- the other rows allow the row of that index
+abbrev pub Fits : List Row → ℕ → Type 0
+Fits rows index = (row : Row) → IsRow rows index row → cause_among (take index rows) row (drop (index + 1) rows) ≡ None
+
+-- no two clients have the same name, no `#if` has two `#else`, and each access begins and ends
+abbrev pub AllFit : List Row → Type 0
+AllFit rows = (index : ℕ) → Fits rows index
+
+-- the other rows do not allow the row, and it is the first such row
+pub record IsMisfit (rows : List Row) (m : Mistake) : Type 0 where
   pub index : ℕ
   pub row : Row
   pub at : IsRow rows index row
   pub line : m.line ≡ row.number
-  pub why : repeated (take index rows) row ≡ Some m.cause
-  pub first : (above : ℕ) → above < index → IsOwn rows above
-
-abbrev pub is_in_client : Section → Bool
-is_in_client section.First = false
-is_in_client (section.Client number) = true
-is_in_client section.Last = false
-
--- whether a row is a line of a client
-abbrev pub is_line : Row → Bool
-is_line row = is_some (command_said row.mark) && is_in_client row.context.section
+  pub why : cause_among (take index rows) row (drop (index + 1) rows) ≡ Some m.cause
+  pub first : (above : ℕ) → above < index → Fits rows above
 
 -- the clients have together no more lines than the limit
 abbrev pub AreFew : List Row → Type 0
@@ -286,14 +299,14 @@ IsMissing rows last m = IsUnfollowed rows m ⊎ (EndsWhole rows × (IsOpen rows 
 -- rows that make a plan
 pub record IsPlan (rows : List Row) : Type 0 where
   pub placed : All IsPlaced rows
-  pub own : AreOwn rows
+  pub fit : AllFit rows
   pub few : AreFew rows
   pub whole : IsWhole rows
 
--- why rows that are placed make no plan: a name or an `#else` that is there already; else too many lines; else what is missing at the end
+-- why rows that are placed make no plan: a row that the others do not allow; else too many lines; else what is missing at the end
 abbrev pub IsLaterMistake : List Row → ℕ → Mistake → Type 0
 IsLaterMistake rows last m =
-    IsRepeated rows m ⊎ (AreOwn rows × (IsPastLimit rows m ⊎ (AreFew rows × IsMissing rows last m)))
+    IsMisfit rows m ⊎ (AllFit rows × (IsPastLimit rows m ⊎ (AreFew rows × IsMissing rows last m)))
 
 -- Why the rows make no plan, and the first line of that kind: a row that its context does not allow; else a later mistake. The last
 -- line has that number.

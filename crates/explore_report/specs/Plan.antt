@@ -1,11 +1,12 @@
 -- The plan that rows make.
-use Rattle.std.specs.Prelude.{ℕ, ◌+◌, ◌-◌, ◌==◌, ◌&&◌, ◌||◌, not, Bool, true, false, if◌then◌else◌, List, [], ◌∷◌, ◌++◌, length, drop, map, position, slice_get, Option, None, Some, option_map, unwrap_or}
+use Rattle.std.specs.Prelude.{ℕ, ◌+◌, ◌-◌, ◌==◌, not, Bool, true, false, if◌then◌else◌, List, [], ◌∷◌, ◌++◌, length, drop, map, position, slice_get, Option, None, Some, option_map, unwrap_or}
 use Rattle.std.specs.Borrow.{Bor}
 use Rattle.std.specs.List.{flat_map}
 use Rattle.std.specs.Option.{option_to_list}
 use Rattle.command_core.specs.declared.command.Command.{Command}
 use Rattle.command_core.specs.declared.command.Command.TheVariants as command
 use Rattle.explore_core.specs.Branch.{Branching}
+use Rattle.explore_core.specs.declared.access.Access.{Access}
 use Rattle.explore_core.specs.Schedule.{Lines}
 use Rattle.explore_core.specs.declared.plan.Step.{Step}
 use Rattle.explore_report.specs.declared.context.Above.{Above}
@@ -17,11 +18,13 @@ use Rattle.explore_report.specs.declared.mark.Mark.TheVariants as mark
 use Rattle.explore_report.specs.declared.row.Row.{Row}
 use Rattle.explore_report.specs.declared.way.Way.{Way}
 use Rattle.explore_report.specs.declared.way.Way.TheVariants as way
+use Rattle.explore_report.specs.Accesses.{access_at}
+use Rattle.explore_report.specs.Cases.{by_place}
 use Rattle.explore_report.specs.Context.{next_client}
 use Rattle.explore_report.specs.Finding.{expects}
 use Rattle.explore_report.specs.Mark.{branch_text}
-use Rattle.explore_report.specs.Mistake.{is_line, depth_below}
-use Rattle.explore_report.specs.Rows.{command_in, is_else, is_end, is_if}
+use Rattle.explore_report.specs.Mistake.{depth_below}
+use Rattle.explore_report.specs.Rows.{command_in, ends_part, is_else, is_end, is_if, is_line}
 
 -- the command of a row of that section
 abbrev pub commands_at : Section → Row → List Command
@@ -37,10 +40,6 @@ waits above.Await c = true
 waits above.Once c = false
 waits _ (command.Wait f) = true
 waits _ _ = false
-
--- the row ends a part of a branch in which that many `#if` are open
-abbrev pub ends_part : ℕ → Row → Bool
-ends_part depth row = (is_else row.mark || is_end row.mark) && (row.context.depth == depth)
 
 -- below a row that a client comes to: an `#else` ends the lines of its `#if`, so the client passes the other lines
 abbrev pub way_past : Row → Way
@@ -138,13 +137,17 @@ clients_at lines rows row = lines_begun lines rows row.context.section row.mark
 abbrev pub clients_in : List (List ℕ) → List Row → List (List Step)
 clients_in lines rows = flat_map (clients_at lines rows) rows
 
--- the commands above the first client, the lines of each client, and the commands below `#finally`; no note says what clients access
+-- the accesses of clients, in the order of their first notes
+abbrev pub accesses_of : List Row → List Access
+accesses_of rows = by_place (access_at rows) 0 rows
+
+-- the commands above the first client, the lines of each client, the commands below `#finally`, and what clients access
 abbrev pub plan_of : List (List ℕ) → List Row → Lines
 plan_of lines rows = record {
   first = commands_in section.First rows;
   clients = clients_in lines rows;
   last = commands_in section.Last rows;
-  accesses = [];
+  accesses = accesses_of rows;
 }
 
 -- the texts of borrowed lines

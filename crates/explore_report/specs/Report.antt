@@ -1,5 +1,5 @@
 -- What a report says of an exploration.
-use Rattle.std.specs.Prelude.{◌≡◌, ℕ, nat_lt, Bool, true, false, if◌then◌else◌, map, count_by, is_some}
+use Rattle.std.specs.Prelude.{◌≡◌, ℕ, nat_lt, Bool, true, false, if◌then◌else◌, length, map, count_by, is_some}
 use Rattle.explore_core.specs.declared.found.Found.{Found}
 use Rattle.explore_report.specs.declared.case.Case.{Case}
 use Rattle.explore_report.specs.declared.plan_script.PlanScript.{PlanScript}
@@ -25,10 +25,15 @@ findings_in report = count_by is_wrong report.cases.items
 abbrev pub stuck_in : Report → ℕ
 stuck_in report = if is_some report.found.now.stuck then 1 else 0
 
-abbrev pub outcome_by : Bool → ℕ → ℕ → Outcome
-outcome_by true stuck findings = if nat_lt 0 stuck then Findings else if nat_lt 0 findings then Findings else Clean
-outcome_by false stuck findings = NotCovered
+-- how many races are shown
+abbrev pub races_in : Report → ℕ
+races_in report = length report.found.now.races.items
 
--- nothing is wrong exactly if every schedule was covered, none of them gets stuck, and no answer is wrong
+abbrev pub outcome_by : Bool → ℕ → ℕ → ℕ → Outcome
+outcome_by true stuck races findings =
+    if nat_lt 0 stuck then Findings else if nat_lt 0 races then Findings else if nat_lt 0 findings then Findings else Clean
+outcome_by false stuck races findings = NotCovered
+
+-- nothing is wrong exactly if every schedule was covered, none of them gets stuck, no two clients race, and no answer is wrong
 abbrev pub outcome_of : Report → Outcome
-outcome_of report = outcome_by report.found.now.covered (stuck_in report) (findings_in report)
+outcome_of report = outcome_by report.found.now.covered (stuck_in report) (races_in report) (findings_in report)

@@ -1,8 +1,9 @@
 -- The rows of a plan: its lines that say something.
-use Rattle.std.specs.Prelude.{ℕ, ◌+◌, Bool, true, false, if◌then◌else◌, List, [], ◌∷◌, ◌++◌, Option, None, Some}
+use Rattle.std.specs.Prelude.{ℕ, ◌+◌, ◌==◌, ◌||◌, ◌&&◌, is_some, Bool, true, false, if◌then◌else◌, List, [], ◌∷◌, ◌++◌, Option, None, Some}
 use Rattle.command_core.specs.declared.command.Command.{Command}
 use Rattle.explore_report.specs.declared.context.Context.{Context}
 use Rattle.explore_report.specs.declared.context.Section.{Section}
+use Rattle.explore_report.specs.declared.context.Section.TheVariants as section
 use Rattle.explore_report.specs.declared.mark.Mark.{Mark}
 use Rattle.explore_report.specs.declared.mark.Mark.TheVariants as mark
 use Rattle.explore_report.specs.declared.row.Row.{Row}
@@ -53,3 +54,16 @@ is_else _ = false
 abbrev pub is_end : Mark → Bool
 is_end mark.End = true
 is_end _ = false
+
+abbrev pub is_in_client : Section → Bool
+is_in_client section.First = false
+is_in_client (section.Client number) = true
+is_in_client section.Last = false
+
+-- whether a row is a line of a client
+abbrev pub is_line : Row → Bool
+is_line row = is_some (command_said row.mark) && is_in_client row.context.section
+
+-- the row ends a part of a branch in which that many `#if` are open
+abbrev pub ends_part : ℕ → Row → Bool
+ends_part depth row = (is_else row.mark || is_end row.mark) && (row.context.depth == depth)

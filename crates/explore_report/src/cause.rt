@@ -15,12 +15,14 @@ pub const PLAN_LINES: usize = 4096;
 pub enum Cause {
     #[error("the line is not a command; fencectl explain says why")]
     NoCommand,
-    #[error("there is no such directive, only #client, #finally, #await, #once, #if, #else and #end; a note has a space after its #")]
+    #[error("there is no such directive, only #client, #finally, #await, #once, #if, #else, #end, #reads, #writes and #done; a note has a space after its #")]
     NoDirective,
     #[error("a blank after the # makes this a note; #client, #finally and #await have none")]
     BlankFollows,
     #[error("#client takes one name of 1 to {0} letters, digits, _, . and -")]
     NoName(usize),
+    #[error("#reads, #writes and #done take one name of 1 to {0} letters, digits, _, . and -")]
+    NoBuffer(usize),
     #[error("#finally, #await, #once, #else and #end take no words")]
     WordFollows,
     #[error("#if takes the first line of an answer")]
@@ -55,6 +57,14 @@ pub enum Cause {
     EndsNothing,
     #[error("an #if has no #end in its client's section")]
     NotEnded,
+    #[error("#reads, #writes and #done are only allowed in a client's section")]
+    AccessOutside,
+    #[error("the access has no #done below, in its client's section and its part of a branch, before another access to the buffer")]
+    NotDone,
+    #[error("a command of the client has to be between #reads or #writes and #done")]
+    AccessesNothing,
+    #[error("the client does not access this buffer here")]
+    DoneNothing,
     #[error("there is no command above it whose answer this could be")]
     ExpectsNothing,
     #[error("report is only allowed above the first client; its rows are in the order of making, which schedules change")]

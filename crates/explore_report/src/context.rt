@@ -74,7 +74,7 @@ impl Context {
                 above: Above::If,
                 depth: one_more(self.depth),
             },
-            Mark::Else => self.below(Above::Nothing),
+            Mark::Else | Mark::Access(_, _) => self.below(Above::Nothing),
             Mark::End => Context {
                 section: self.section,
                 above: Above::Nothing,

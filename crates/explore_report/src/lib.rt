@@ -4,6 +4,7 @@
 //! `fencectl explore` calls this crate.
 #![tactic(auto)]
 
+mod accesses;
 mod case;
 mod cause;
 mod context;
@@ -14,11 +15,13 @@ mod mistake;
 mod need;
 mod objects;
 mod plan_script;
+mod races;
 mod report;
 mod row;
 mod schedule;
 mod sections;
 mod text;
+mod verb;
 mod way;
 mod why;
 mod witness;
@@ -31,3 +34,4 @@ pub use mistake::Mistake;
 pub use plan_script::{PlanScript, Reading};
 pub use report::{Outcome, Report};
 pub use row::Row;
+pub use verb::Verb;

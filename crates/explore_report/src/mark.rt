@@ -2,9 +2,10 @@
 ghost use Rattle.std.specs.Prelude.{◌≡◌};
 ghost use Rattle.explore_report.specs.Mistake.{is_named, unfollowed};
 ghost use Rattle.explore_report.specs.Rows.{command_said, is_else, is_end, is_if};
-ghost use Rattle.explore_report.specs.Mark.{after_mark, begins_directive, blank_note, branch_text, client_mark, client_named, directive_of, expected_text, if_mark, is_directive, mark_of, mark_of_body, note_of, without_words};
+ghost use Rattle.explore_report.specs.Mark.{access_mark, access_named, after_mark, begins_directive, blank_note, branch_text, client_mark, client_named, directive_of, expected_text, if_mark, is_directive, mark_of, mark_of_body, note_of, without_words};
 
 use crate::cause::Cause;
+use crate::verb::Verb;
 use crate::words::{first_word, words_after};
 use command_core::Command;
 use line_core::{Body, body_of, strip_prefix, without_spaces};
@@ -27,6 +28,8 @@ pub enum Mark {
     Else,
     /// `#end`: ends the lines of an `#if`, or of its `#else`.
     End,
+    /// `#reads B`, `#writes B` or `#done B`.
+    Access(Verb, Name),
     /// `#= TEXT`: a line of the answer that is expected of the line above.
     Expected,
     /// `#| TEXT`: the first line of another right answer.
@@ -100,6 +103,12 @@ const ELSE: &[u8] = b"#else";
 
 const END: &[u8] = b"#end";
 
+const READS: &[u8] = b"#reads";
+
+const WRITES: &[u8] = b"#writes";
+
+const DONE: &[u8] = b"#done";
+
 /// The first word of a note with a blank behind its `#`.
 const BLANK: &[u8] = b"#";
 
@@ -172,6 +181,15 @@ fn directive_of(word: &[u8], rest: &[u8]) -> Option<Mark>
     if word == END {
         return Some(without_words(rest, Mark::End));
     }
+    if word == READS {
+        return Some(access_mark(Verb::Reads, rest));
+    }
+    if word == WRITES {
+        return Some(access_mark(Verb::Writes, rest));
+    }
+    if word == DONE {
+        return Some(access_mark(Verb::Done, rest));
+    }
     if word == BLANK {
         return blank_note(rest);
     }
@@ -225,6 +243,26 @@ fn client_named(name: &[u8]) -> Mark
     match Name::read(name) {
         Some(name) => Mark::Client(name),
         None => Mark::Wrong(Cause::NoName(NAME_BYTES)),
+    }
+}
+
+/// The mark of a note on an access, which the name of a buffer has to follow.
+fn access_mark(verb: Verb, rest: &[u8]) -> Mark
+    ensures mark { result ≡ access_mark verb rest.now }
+{
+    if words_after(rest).is_empty() {
+        access_named(verb, first_word(rest))
+    } else {
+        Mark::Wrong(Cause::NoBuffer(NAME_BYTES))
+    }
+}
+
+fn access_named(verb: Verb, name: &[u8]) -> Mark
+    ensures mark { result ≡ access_named verb name.now }
+{
+    match Name::read(name) {
+        Some(name) => Mark::Access(verb, name),
+        None => Mark::Wrong(Cause::NoBuffer(NAME_BYTES)),
     }
 }
 

@@ -1,10 +1,12 @@
 //! `Mistake`: the first line that makes a script no plan, and why. `PlanScript::read` looks for one.
 ghost use Rattle.std.specs.Prelude.{◌≡◌, All, MatchOption, false};
-ghost use Rattle.explore_report.specs.Mistake.{AreFew, AreOwn, EndsClosed, EndsWhole, IsMisplaced, IsMissing, IsMistake, IsOpen, IsPastLimit, IsPlaced, IsPlan, IsRepeated, IsUnfollowed, IsWhole, branch_in, cause_of, client_below, client_cause, command_cause, else_after, else_below, else_cause, end_below, end_cause, expected_cause, finally_below, finally_cause, has_client, has_some_client, if_below, if_cause, in_else, repeated, section_cause, unless_awaited, unless_open, waiting_cause};
+ghost use Rattle.explore_report.specs.Mistake.{AllFit, AreFew, EndsClosed, EndsWhole, IsMisfit, IsMisplaced, IsMissing, IsMistake, IsOpen, IsPastLimit, IsPlaced, IsPlan, IsUnfollowed, IsWhole, access_above, access_cause, access_in, branch_in, cause_among, cause_of, client_below, client_cause, command_cause, done_below, else_after, else_below, else_cause, end_below, end_cause, expected_cause, finally_below, finally_cause, has_client, has_some_client, if_below, if_cause, in_else, section_cause, unless_awaited, unless_open, waiting_cause};
 
+use crate::accesses::{is_closed, is_open, lines_accessed};
 use crate::cause::{Cause, LAST_CLIENT, PLAN_CLIENTS, PLAN_LINES};
 use crate::context::{Above, Context, Section};
 use crate::mark::Mark;
+use crate::plan_script::below;
 use crate::row::Row;
 use command_core::Command;
 use point_core::Name;
@@ -17,15 +19,15 @@ pub struct Mistake {
     pub cause: Cause,
 }
 
-/// The first mistake of the rows: a row that its context does not allow; else a name or an `#else` that is there already; else a
-/// line past the limit; else what is missing at the end, with the number of the last line.
+/// The first mistake of the rows: a row that its context does not allow; else a row that the other rows do not allow; else a line
+/// past the limit; else what is missing at the end, with the number of the last line.
 pub(crate) fn mistake_of(rows: &[Row], last: usize) -> Option<Mistake>
     ensures found { MatchOption result (IsPlan rows.now) (IsMistake rows.now last) }
 {
     if let Some(mistake) = misplaced(rows) {
         return Some(mistake);
     }
-    if let Some(mistake) = twice(rows) {
+    if let Some(mistake) = misfit(rows) {
         return Some(mistake);
     }
     if let Some(mistake) = too_many(rows) {
@@ -60,6 +62,7 @@ fn cause_of(context: &Context, mark: &Mark) -> Option<Cause>
         Mark::If => if_cause(context),
         Mark::Else => else_cause(context),
         Mark::End => end_cause(context),
+        Mark::Access(_, _) => access_cause(context),
         Mark::Expected | Mark::OrExpected => expected_cause(context),
         Mark::Command(command) => command_cause(context, command),
         Mark::Wrong(cause) => Some(*cause),
@@ -202,6 +205,21 @@ fn expected_cause(context: &Context) -> Option<Cause>
     unless_awaited(context.above, cause)
 }
 
+fn access_cause(context: &Context) -> Option<Cause>
+    ensures cause { result ≡ access_cause context.now }
+{
+    unless_awaited(context.above, access_in(context.section))
+}
+
+fn access_in(section: Section) -> Option<Cause>
+    ensures cause { result ≡ access_in section }
+{
+    match section {
+        Section::Client(_) => None,
+        _ => Some(Cause::AccessOutside),
+    }
+}
+
 /// Only a `wait` can be checked once.
 fn command_cause(context: &Context, command: &Command) -> Option<Cause>
     ensures cause { result ≡ command_cause context.now.above context.now.section command.now }
@@ -226,12 +244,12 @@ fn section_cause(section: Section, command: &Command) -> Option<Cause>
     }
 }
 
-/// The first row that the rows above it do not allow.
-fn twice(rows: &[Row]) -> Option<Mistake>
-    ensures found { MatchOption result (AreOwn rows.now) (IsRepeated rows.now) }
+/// The first row that the other rows do not allow.
+fn misfit(rows: &[Row]) -> Option<Mistake>
+    ensures found { MatchOption result (AllFit rows.now) (IsMisfit rows.now) }
 {
     for (index, row) in rows.iter().enumerate() {
-        if let Some(cause) = repeated(&rows[..index], row) {
+        if let Some(cause) = cause_among(&rows[..index], row, below(rows, index)) {
             return Some(Mistake {
                 line: row.number,
                 cause,
@@ -241,15 +259,41 @@ fn twice(rows: &[Row]) -> Option<Mistake>
     None
 }
 
-/// Why the rows above do not allow a row that they would allow by its context: a name or an `#else` is there already.
-fn repeated(above: &[Row], row: &Row) -> Option<Cause>
-    ensures cause { result ≡ repeated above.now row.now }
+/// Why the rows above and below do not allow a row that its context allows.
+fn cause_among(above: &[Row], row: &Row, below: &[Row]) -> Option<Cause>
+    ensures cause { result ≡ cause_among above.now row.now below.now }
 {
     match &row.mark {
         Mark::Client(name) if has_client(above, name) => Some(Cause::NameTaken),
         Mark::Else if is_in_else(above, row.context.depth) => Some(Cause::ElseTwice),
+        Mark::Access(verb, name) if verb.is_done() => done_below(name, above),
+        Mark::Access(_, name) => access_above(name, row.context.depth, below),
         _ => None,
     }
+}
+
+/// Why an access to the buffer can't end below these rows.
+fn done_below(name: &Name, rows: &[Row]) -> Option<Cause>
+    ensures cause { result ≡ done_below name.now rows.now }
+{
+    if is_open(name, rows) {
+        None
+    } else {
+        Some(Cause::DoneNothing)
+    }
+}
+
+/// Why an access to the buffer can't begin above these rows, where this many `#if` are open.
+fn access_above(name: &Name, depth: usize, rows: &[Row]) -> Option<Cause>
+    ensures cause { result ≡ access_above name.now depth rows.now }
+{
+    if !is_closed(name, depth, rows) {
+        return Some(Cause::NotDone);
+    }
+    if lines_accessed(name, depth, rows) == 0 {
+        return Some(Cause::AccessesNothing);
+    }
+    None
 }
 
 /// Whether the innermost of that many branches is in its `#else` below these rows.

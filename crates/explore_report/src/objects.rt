@@ -3,9 +3,11 @@
 use crate::case::Case;
 use crate::expected::Finding;
 use crate::plan_script::PlanScript;
+use crate::races::Racing;
 use crate::report::Report;
 use crate::schedule::Making;
 use crate::why::{Form, Waiting, add_stuck_lines};
+use explore_core::Race;
 use std::alloc::AllocError;
 use text_core::Page;
 
@@ -14,6 +16,7 @@ pub(crate) fn json_of(report: &Report<'_>, making: &mut Making) -> Result<Vec<u8
     if let Some(schedule) = &report.found.stuck {
         add_stuck(report, schedule.as_slice(), making, &mut page);
     }
+    add_races(report, &mut page);
     add_rows(report, &mut page);
     add_totals(report, &mut page);
     page.finish()
@@ -37,6 +40,27 @@ fn add_stuck(report: &Report<'_>, schedule: &[usize], making: &mut Making, page:
     }
     add_stuck_lines(report, making, Form::Json, page);
     page.text("]}}\n");
+}
+
+fn add_races(report: &Report<'_>, page: &mut Page) {
+    for race in report.found.races.as_slice() {
+        if let Some(racing) = Racing::of(report.plan, race) {
+            add_race(report, race, &racing, page);
+        }
+    }
+}
+
+/// The object of a race.
+fn add_race(report: &Report<'_>, race: &Race, racing: &Racing, page: &mut Page) {
+    page.text("{\"race\":{\"buffer\":\"");
+    racing.add_buffer(report.plan, page);
+    page.text("\",\"accesses\":[{");
+    add_line(report.plan, racing.one, page);
+    page.text("},{");
+    add_line(report.plan, racing.other, page);
+    page.text("}]");
+    add_schedule(report.plan, race.schedule.as_slice(), None, page);
+    page.text("}}\n");
 }
 
 /// A line at which a client waits, and why.
@@ -121,6 +145,9 @@ fn add_totals(report: &Report<'_>, page: &mut Page) {
     page.counted(",\"lines\":", report.plan.line_count());
     page.counted(",\"states\":", report.found.states);
     page.counted(",\"stuck\":", report.stuck());
+    if report.plan.has_accesses() {
+        page.counted(",\"races\":", report.races());
+    }
     page.counted(",\"findings\":", report.findings());
     page.text("}\n");
 }

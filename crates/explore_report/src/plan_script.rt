@@ -158,6 +158,12 @@ impl<'a> PlanScript<'a> {
         plan.clients.len()
     }
 
+    /// Whether notes say what clients access.
+    pub(crate) fn has_accesses(&self) -> bool {
+        let plan = &self.plan;
+        !plan.accesses.is_empty()
+    }
+
     /// How many lines the clients have together.
     pub(crate) fn line_count(&self) -> usize {
         let mut count: usize = 0;

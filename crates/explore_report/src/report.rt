@@ -2,7 +2,7 @@
 //! makes one.
 ghost use Rattle.std.specs.Prelude.{◌≡◌, IfErr, IfOk, count_by};
 ghost use Rattle.point_core.specs.declared.refusal.Refusal.TheVariants.{Memory};
-ghost use Rattle.explore_report.specs.Report.{IsReport, findings_in, is_wrong, outcome_of, stuck_in};
+ghost use Rattle.explore_report.specs.Report.{IsReport, findings_in, is_wrong, outcome_of, races_in, stuck_in};
 
 use crate::case::{Case, cases_of};
 use crate::plan_script::PlanScript;
@@ -109,6 +109,13 @@ impl<'a> Report<'a> {
         }
     }
 
+    /// How many races of two accesses are shown.
+    pub fn races(&self) -> usize
+        ensures races { result ≡ races_in self.now }
+    {
+        self.found.races.len()
+    }
+
     pub fn outcome(&self) -> Outcome
         ensures outcome { result ≡ outcome_of self.now }
     {
@@ -116,6 +123,9 @@ impl<'a> Report<'a> {
             return Outcome::NotCovered;
         }
         if self.stuck() > 0 {
+            return Outcome::Findings;
+        }
+        if self.races() > 0 {
             return Outcome::Findings;
         }
         if self.findings() > 0 {

@@ -3,13 +3,14 @@ ghost use Rattle.std.specs.Prelude.{◌≡◌, ◌+◌, ◌++◌, OnOk, IfOk, So
 ghost use Rattle.explore_report.specs.Cases.{command_rows, index_at};
 ghost use Rattle.explore_report.specs.Context.{after};
 ghost use Rattle.explore_report.specs.Finding.{begins_answer, expects};
-ghost use Rattle.explore_report.specs.Mistake.{begins_part, depth_below, is_client_row, is_line};
-ghost use Rattle.explore_report.specs.Plan.{ends_part};
-ghost use Rattle.explore_report.specs.Rows.{command_in, command_said, context_below, is_else, is_end, is_if, row_if, rows_at, rows_of};
+ghost use Rattle.explore_report.specs.Accesses.{begins_section, ends_access, is_access, stops_access};
+ghost use Rattle.explore_report.specs.Mistake.{begins_part, depth_below, is_client_row};
+ghost use Rattle.explore_report.specs.Rows.{command_in, command_said, context_below, ends_part, is_else, is_end, is_if, is_line, row_if, rows_at, rows_of};
 
 use crate::context::{Context, Section};
 use crate::mark::{Mark, mark_of};
 use command_core::Command;
+use point_core::Name;
 use std::alloc::{AllocError, Global};
 
 /// A line of a plan that says something.
@@ -96,6 +97,47 @@ impl Row {
         ensures { result ≡ ends_part depth self.now }
     {
         (self.is_else() || self.is_end()) && self.context.depth == depth
+    }
+
+    /// Whether it is a note on an access to the buffer of that name.
+    pub(crate) fn is_access(&self, name: &Name) -> bool
+        ensures { result ≡ is_access name.now self.now.mark }
+    {
+        match &self.mark {
+            Mark::Access(_, buffer) => buffer == name,
+            _ => false,
+        }
+    }
+
+    /// Whether it ends an access.
+    pub(crate) fn ends_access(&self) -> bool
+        ensures { result ≡ ends_access self.now.mark }
+    {
+        match &self.mark {
+            Mark::Access(verb, _) => verb.is_done(),
+            _ => false,
+        }
+    }
+
+    /// Whether it begins an access.
+    pub(crate) fn begins_access(&self) -> bool {
+        match &self.mark {
+            Mark::Access(verb, _) => !verb.is_done(),
+            _ => false,
+        }
+    }
+
+    pub(crate) fn begins_section(&self) -> bool
+        ensures { result ≡ begins_section self.now.mark }
+    {
+        matches!(self.mark, Mark::Client(_) | Mark::Finally)
+    }
+
+    /// Whether below it there is no more of an access to that buffer, which begins where this many `#if` are open.
+    pub(crate) fn stops_access(&self, name: &Name, depth: usize) -> bool
+        ensures { result ≡ stops_access name.now depth self.now }
+    {
+        self.is_access(name) || self.ends_part(depth) || self.begins_section()
     }
 
     /// Whether it expects a line of an answer.

@@ -5,6 +5,7 @@ ghost use Rattle.std.specs.Global.{Global};
 ghost use Rattle.explore_core.specs.declared.plan.Step.{Step};
 ghost use Rattle.explore_report.specs.Plan.{branch_at, branch_below, branch_line, branch_of, clients_at, clients_in, commands_at, commands_in, jump, plan_of, steps_at, steps_in, text_at, texts_of, waits};
 
+use crate::accesses::accesses_of;
 use crate::context::{Above, Section};
 use crate::mark::{Mark, branch_text};
 use crate::plan_script::{after_notes, below};
@@ -21,11 +22,12 @@ pub(crate) fn plan_of(alloc: Global, lines: &[&[u8]], rows: &[Row]) -> Result<Pl
     let first = commands_in(alloc, rows, Section::First)?;
     let clients = clients_of(alloc, lines, rows)?;
     let last = commands_in(alloc, rows, Section::Last)?;
+    let accesses = accesses_of(alloc, rows)?;
     Ok(Plan {
         first,
         clients,
         last,
-        accesses: Vec::new(alloc),
+        accesses,
     })
 }
 

@@ -2,10 +2,12 @@
 use crate::case::Case;
 use crate::expected::Finding;
 use crate::plan_script::PlanScript;
+use crate::races::Racing;
 use crate::report::Report;
 use crate::row::Row;
 use crate::schedule::Making;
 use crate::why::{Form, Waiting, add_stuck_lines};
+use explore_core::Race;
 use std::alloc::AllocError;
 use text_core::Page;
 
@@ -24,6 +26,7 @@ pub(crate) fn text_of(
     let mut page = Page::new(report.alloc);
     let mut waiting = Vec::new(report.alloc);
     add_stuck(report, name, making, &mut waiting, &mut page);
+    add_races(report, name, making, &mut page);
     add_findings(report, name, making, &mut page);
     add_answers(report, name, everything, &mut page);
     if report.found.covered {
@@ -79,6 +82,33 @@ pub(crate) fn add_waiting(
     add_head(report.plan, name, waiting.row, page);
     waiting.add_why(report.plan, making, page);
     page.text("\n");
+}
+
+/// Each race, with the number of its schedule.
+fn add_races(report: &Report<'_>, name: &str, making: &mut Making, page: &mut Page) {
+    let mut number = report.stuck();
+    for race in report.found.races.as_slice() {
+        number = number.saturating_add(1);
+        add_race(report, name, race, number, page);
+        if making
+            .follow(report.plan, race.schedule.as_slice())
+            .is_err()
+        {
+            page.fail();
+        }
+        add_making(report.plan, making.rows.as_slice(), page);
+    }
+}
+
+fn add_race(report: &Report<'_>, name: &str, race: &Race, number: usize, page: &mut Page) {
+    if let Some(racing) = Racing::of(report.plan, race) {
+        page.text(name);
+        page.counted(":", report.plan.number_of(racing.one));
+        page.text(": ");
+        racing.add(report.plan, page);
+        page.counted(" (schedule ", number);
+        page.text(")\n");
+    }
 }
 
 /// `FILE:LINE: CLIENT: COMMAND: `.
@@ -167,7 +197,7 @@ impl Run {
 
 /// Each answer that is wrong, with the number of its schedule.
 fn add_findings(report: &Report<'_>, name: &str, making: &mut Making, page: &mut Page) {
-    let mut number = report.stuck();
+    let mut number = report.stuck().saturating_add(report.races());
     for case in report.cases.as_slice() {
         if let Some(finding) = case.finding {
             number = number.saturating_add(1);
@@ -362,6 +392,9 @@ fn add_totals(report: &Report<'_>, page: &mut Page) {
     page.counted(", lines: ", report.plan.line_count());
     page.counted(", states: ", report.found.states);
     page.counted(", stuck: ", report.stuck());
+    if report.plan.has_accesses() {
+        page.counted(", races: ", report.races());
+    }
     page.counted(", findings: ", report.findings());
     page.text("\n");
 }

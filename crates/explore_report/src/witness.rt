@@ -2,9 +2,11 @@
 use crate::case::{Case, answer_text};
 use crate::context::Section;
 use crate::plan_script::PlanScript;
+use crate::races::{Racing, race_of};
 use crate::report::Report;
 use crate::schedule::Making;
 use command_core::Answer;
+use explore_core::Race;
 use std::alloc::{AllocError, Global};
 use text_core::Page;
 
@@ -28,7 +30,36 @@ fn add_script(report: &Report<'_>, number: usize, making: &mut Making, page: &mu
             add_stuck(report, schedule.as_slice(), making, page);
             true
         }
-        _ => add_finding(report, number, making, page),
+        _ => add_wrong(report, number, making, page),
+    }
+}
+
+/// The schedule of a race, or else of an answer that is wrong.
+fn add_wrong(report: &Report<'_>, number: usize, making: &mut Making, page: &mut Page) -> bool {
+    match race_of(report, number) {
+        Some(race) => {
+            add_race(report, race, making, page);
+            true
+        }
+        None => add_finding(report, number, making, page),
+    }
+}
+
+/// A schedule after which two clients race.
+fn add_race(report: &Report<'_>, race: &Race, making: &mut Making, page: &mut Page) {
+    page.text("# a schedule after which two clients race\n");
+    if making
+        .follow(report.plan, race.schedule.as_slice())
+        .is_err()
+    {
+        page.fail();
+    }
+    let going = making.rows.len();
+    add_steps(report, making, going, page);
+    if let Some(racing) = Racing::of(report.plan, race) {
+        page.text("# ");
+        racing.add(report.plan, page);
+        page.text("\n");
     }
 }
 
@@ -47,7 +78,7 @@ fn add_stuck(report: &Report<'_>, schedule: &[usize], making: &mut Making, page:
 
 /// The schedule of an answer that is wrong.
 fn add_finding(report: &Report<'_>, number: usize, making: &mut Making, page: &mut Page) -> bool {
-    let mut reached = report.stuck();
+    let mut reached = report.stuck().saturating_add(report.races());
     for case in report.cases.as_slice() {
         if case.finding.is_none() {
             continue;

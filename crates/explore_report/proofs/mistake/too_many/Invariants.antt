@@ -1,6 +1,6 @@
 use Rattle.std.proofs.Common.{◌≡◌, ◌+◌, take}
 use Rattle.std.specs.Prelude.{count_by}
-use Rattle.explore_report.specs.Mistake.{is_line}
+use Rattle.explore_report.specs.Rows.{is_line}
 use Rattle.explore_report.specs.declared.cause.TheConstants.{PLAN_LINES}
 use Rattle.explore_report.proofs.mistake.too_many.Given as goal
 
