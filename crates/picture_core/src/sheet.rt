@@ -374,7 +374,8 @@ pub fn columns_past(alloc: Global, history: &History, width: u64) -> Result<usiz
     let widths = widths_of(alloc, history, 0)?;
     let fixed = names_width(history)
         .saturating_add(beside(history))
-        .saturating_add(values_width(history));
+        .saturating_add(values_width(history))
+        .saturating_add(time_width(history));
     Ok(first_past(widths.as_slice(), width.saturating_sub(fixed)))
 }
 
@@ -385,6 +386,17 @@ fn values_width(history: &History) -> u64 {
         value = lane.steps.last().map_or(0, |step| step.value).max(value);
     }
     text_width(digits(value)).saturating_add(BESIDE)
+}
+
+/// The most that a time takes which the first column shows once the one before it is left out.
+fn time_width(history: &History) -> u64 {
+    let mut length = 0;
+    for column in &history.columns {
+        if let ColumnHead::Time(time) = column.head {
+            length = time_length(time).max(length);
+        }
+    }
+    text_width(length)
 }
 
 /// How many of the first columns have to go so that the others fit in that room. `widths` begins with column 0.
