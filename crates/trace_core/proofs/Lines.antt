@@ -9,7 +9,7 @@ use Rattle.std.proofs.lemmas.List.Sums.{position_or_len_is, fails_before_first, 
 use Rattle.std.proofs.lemmas.Option.{cond_some}
 use Rattle.trace_core.specs.declared.item.TheConstants.{PIECE_BYTES}
 use Rattle.trace_core.specs.Cutting.{MayFollow, HasNoLineFeed, IsLine, IsRestOfLine}
-use Rattle.trace_core.specs.Item.{Meaning, Event, Other, Unread, Lost, BufferStarted, Counts, Note}
+use Rattle.trace_core.specs.Item.{Meaning, Unread}
 use Rattle.trace_core.specs.Piece.{is_line_feed, is_unread, item_of, first_line, after_line, begins_record, record_or, joined_from, joined_or_unread, with_lines, first_item}
 use Rattle.trace_core.specs.Record.{Printed, record_of}
 
@@ -104,22 +104,12 @@ module _ (bytes : List ℕ) (whole : Bool) (line : List ℕ) (len : ℕ) (is : I
 
 module _ (line rest : List ℕ) where
   pub with_lines-read : (item : Meaning) → is_unread item ≡ false → with_lines item line rest ≡ (item, rest)
-  with_lines-read (Event r) e = refl
-  with_lines-read Other e = refl
   with_lines-read Unread e = absurd (false≢true (sym e))
-  with_lines-read (Lost cpu events) e = refl
-  with_lines-read (BufferStarted cpu) e = refl
-  with_lines-read (Counts held written processors) e = refl
-  with_lines-read Note e = refl
+  with_lines-read item e = refl
 
   unread : (item : Meaning) → is_unread item ≡ true → item ≡ Unread
-  unread (Event r) e = absurd (false≢true e)
-  unread Other e = absurd (false≢true e)
   unread Unread e = refl
-  unread (Lost cpu events) e = absurd (false≢true e)
-  unread (BufferStarted cpu) e = absurd (false≢true e)
-  unread (Counts held written processors) e = absurd (false≢true e)
-  unread Note e = absurd (false≢true e)
+  unread item e = absurd (false≢true e)
 
   pub with_lines-alone : (item : Meaning) → is_unread item ≡ true → begins_record line ≡ false → with_lines item line rest ≡ (item, rest)
   with_lines-alone item u b =

@@ -3,7 +3,7 @@ use Rattle.std.proofs.Common.{◌≡◌, ℕ, inl, inr, Bool, true, false, not, 
 use Rattle.std.specs.Prelude.{is_some}
 use Rattle.std.proofs.lemmas.Bool.{false≢true, true≢false}
 use Rattle.std.proofs.lemmas.List.{reverse-append}
-use Rattle.trace_core.specs.Item.{Meaning, Event, Other, Unread, Lost, BufferStarted, Counts, Note}
+use Rattle.trace_core.specs.Item.{Meaning, Event, Lost, BufferStarted}
 use Rattle.trace_core.specs.Pieces.{IsNext}
 use Rattle.trace_core.specs.Record.{Printed}
 use Rattle.trace_core.specs.declared.reading.Next.{Next}
@@ -26,18 +26,8 @@ reversed item items = sym (reverse-append (item ∷ []) items)
 pub stage-given : (span : Span) (stage : Stage) (o : Option TrackedEvent) (item : Meaning) (earlier : List (TrackedEvent × Printed)) → is_some o ≡ is_event item → stage ≡ stage_at span earlier → stage_with stage span item ≡ stage_at span (given o item ++ earlier)
 stage-given span stage (Some seen) (Event r) earlier some is = ap (stage_after span r.time) is
 stage-given span stage None (Event r) earlier some is = absurd (false≢true some)
-stage-given span stage None Other earlier some is = is
-stage-given span stage None Unread earlier some is = is
-stage-given span stage None (Lost cpu events) earlier some is = is
-stage-given span stage None (BufferStarted cpu) earlier some is = is
-stage-given span stage None (Counts held written processors) earlier some is = is
-stage-given span stage None Note earlier some is = is
-stage-given span stage (Some seen) Other earlier some is = absurd (false≢true (sym some))
-stage-given span stage (Some seen) Unread earlier some is = absurd (false≢true (sym some))
-stage-given span stage (Some seen) (Lost cpu events) earlier some is = absurd (false≢true (sym some))
-stage-given span stage (Some seen) (BufferStarted cpu) earlier some is = absurd (false≢true (sym some))
-stage-given span stage (Some seen) (Counts held written processors) earlier some is = absurd (false≢true (sym some))
-stage-given span stage (Some seen) Note earlier some is = absurd (false≢true (sym some))
+stage-given span stage None item earlier some is = is
+stage-given span stage (Some seen) item earlier some is = absurd (false≢true (sym some))
 
 -- what `next` gives for a piece that was taken in
 module _ (span : Span) (r : Reading) (t : Tracker) (before now : Option (List ℕ)) (items : List Meaning) (earlier : List (TrackedEvent × Printed)) where
@@ -46,24 +36,10 @@ module _ (span : Span) (r : Reading) (t : Tracker) (before now : Option (List �
   told Within (Some seen) (Event printed) some goes is h = (printed, h, sym is)
   told After (Some seen) item some goes is h = absurd (false≢true (sym goes))
   told stage None (Event printed) some goes is h = absurd (false≢true some)
-  told stage None Other some goes is h = inl (Other, refl, h)
-  told stage None Unread some goes is h = inl (Unread, refl, h)
   told stage None (Lost cpu events) some goes is h = (cpu, h)
   told stage None (BufferStarted cpu) some goes is h = (cpu, h)
-  told stage None (Counts held written processors) some goes is h = inl (Counts held written processors, refl, h)
-  told stage None Note some goes is h = inl (Note, refl, h)
-  told Before (Some seen) Other some goes is h = absurd (false≢true (sym some))
-  told Before (Some seen) Unread some goes is h = absurd (false≢true (sym some))
-  told Before (Some seen) (Lost cpu events) some goes is h = absurd (false≢true (sym some))
-  told Before (Some seen) (BufferStarted cpu) some goes is h = absurd (false≢true (sym some))
-  told Before (Some seen) (Counts held written processors) some goes is h = absurd (false≢true (sym some))
-  told Before (Some seen) Note some goes is h = absurd (false≢true (sym some))
-  told Within (Some seen) Other some goes is h = absurd (false≢true (sym some))
-  told Within (Some seen) Unread some goes is h = absurd (false≢true (sym some))
-  told Within (Some seen) (Lost cpu events) some goes is h = absurd (false≢true (sym some))
-  told Within (Some seen) (BufferStarted cpu) some goes is h = absurd (false≢true (sym some))
-  told Within (Some seen) (Counts held written processors) some goes is h = absurd (false≢true (sym some))
-  told Within (Some seen) Note some goes is h = absurd (false≢true (sym some))
+  told stage None item some goes is h = inl (item, refl, h)
+  told stage (Some seen) item some goes is h = absurd (false≢true (sym some))
 
   -- the window is over only where the next piece is an event
   pub past : (item : Meaning) (len : ℕ) → HasRead span r t before now items earlier → IsNext r.pieces item len → is_over (stage_with r.stage r.span item) ≡ true → IsPast span r.pieces earlier
@@ -76,12 +52,7 @@ module _ (span : Span) (r : Reading) (t : Tracker) (before now : Option (List �
         ∙ sym (ap (λ s. is_over (stage_after r.span printed.time s)) h.stage)
         ∙ over;
   }
-  past Other len h next over = absurd (false≢true (sym h.going ∙ over))
-  past Unread len h next over = absurd (false≢true (sym h.going ∙ over))
-  past (Lost cpu events) len h next over = absurd (false≢true (sym h.going ∙ over))
-  past (BufferStarted cpu) len h next over = absurd (false≢true (sym h.going ∙ over))
-  past (Counts held written processors) len h next over = absurd (false≢true (sym h.going ∙ over))
-  past Note len h next over = absurd (false≢true (sym h.going ∙ over))
+  past item len h next over = absurd (false≢true (sym h.going ∙ over))
 
 -- a piece that was taken in was passed; the window begins before its first event
 begun : (b : Bool) → not b ≡ false → b ≡ true
@@ -91,8 +62,7 @@ begun false none = absurd (true≢false none)
 pub begins-once : (stage : Stage) (b : Bool) → begins stage b ≡ true → b ≡ false
 begins-once stage false is = refl
 begins-once Before true is = absurd (false≢true is)
-begins-once Within true is = absurd (false≢true is)
-begins-once After true is = absurd (false≢true is)
+begins-once stage true is = absurd (false≢true is)
 
 pub begins-first : (stage : Stage) (b : Bool) → is_over stage ≡ true → begins stage b ≡ false → b ≡ true
 begins-first Before b over none = absurd (false≢true over)
@@ -104,13 +74,9 @@ module _ (old new : Reading) (before after : Option (List ℕ)) (passes : Passes
   got-ahead Before (Some seen) item none = passes
   got-ahead Within (Some seen) item none = (begun old.has_begun none, passes)
   got-ahead After (Some seen) item none = (begun old.has_begun none, passes)
-  got-ahead stage None (Event r) none = inl passes
-  got-ahead stage None Other none = inl passes
-  got-ahead stage None Unread none = inl passes
   got-ahead stage None (Lost cpu events) none = passes
   got-ahead stage None (BufferStarted cpu) none = passes
-  got-ahead stage None (Counts held written processors) none = inl passes
-  got-ahead stage None Note none = inl passes
+  got-ahead stage None item none = inl passes
 
 -- nothing was read
 pub reading-none : (span : Span) (r : Reading) (t : Tracker) (text : Option (List ℕ)) → HasRead span r t text text [] [] → IsReading span r t text text

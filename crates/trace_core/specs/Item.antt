@@ -1,5 +1,5 @@
 -- What a piece of the text is.
-use Rattle.std.specs.Prelude.{ℕ, Option}
+use Rattle.std.specs.Prelude.{ℕ, Bool, Option}
 use Rattle.trace_core.specs.declared.item.TraceItem.{TraceItem}
 use Rattle.trace_core.specs.declared.item.TraceItem.TheVariants as item
 use Rattle.trace_core.specs.Record.{Printed, printed}
@@ -7,7 +7,7 @@ use Rattle.trace_core.specs.Record.{Printed, printed}
 -- what an item says, with the bytes of its names
 pub data Meaning : Type 0 where
   Event : Printed → Meaning
-  Other : Meaning
+  Other : ℕ → Bool → Meaning
   Unread : Meaning
   Lost : ℕ → Option ℕ → Meaning
   BufferStarted : ℕ → Meaning
@@ -16,7 +16,7 @@ pub data Meaning : Type 0 where
 
 abbrev pub meaning_of : TraceItem → Meaning
 meaning_of (item.Event r) = Event (printed r)
-meaning_of (item.Other time is_end) = Other
+meaning_of (item.Other time is_end) = Other time is_end
 meaning_of item.Unread = Unread
 meaning_of (item.Lost cpu events) = Lost cpu events
 meaning_of (item.BufferStarted cpu) = BufferStarted cpu

@@ -25,6 +25,7 @@ pub mod Names
 pub mod Task
 pub mod Waits
 pub mod Pending
+pub mod Summary
 pub mod Tracker
 pub mod Window
 pub mod Reading

@@ -2,14 +2,18 @@
 use Rattle.std.specs.Prelude.{◌≡◌, ℕ, zero, suc, ◌-◌, ◌==◌, Bool, true, false, ◌||◌, nat_lt, is_some, if◌then◌else◌, List, [], ◌∷◌, ◌++◌, length, Option, None, Some, codes}
 use Rattle.std.specs.List.{before_first, after_first}
 use Rattle.trace_core.specs.declared.event.Event.{Event as EventKind}
-use Rattle.trace_core.specs.declared.item.TheConstants.{PIECE_BYTES}
+use Rattle.trace_core.specs.declared.item.TheConstants.{END, PIECE_BYTES}
 use Rattle.trace_core.specs.declared.piece.TheConstants.{RECORD_LINES}
 use Rattle.trace_core.specs.Event.{event_at}
 use Rattle.trace_core.specs.Header.{Head, header_of}
-use Rattle.trace_core.specs.Item.{Meaning, Event, Other, Unread, Lost, BufferStarted, Counts, Note}
+use Rattle.trace_core.specs.Item.{Meaning, Event, Other, Unread, Lost}
 use Rattle.trace_core.specs.Loss.{lost, note}
 use Rattle.trace_core.specs.Record.{Printed, record_of, record_with}
-use Rattle.trace_core.specs.Steps.{after}
+use Rattle.trace_core.specs.Steps.{after, before}
+
+-- whether another event marks the end of the trace
+abbrev pub marks_end : List ℕ → Bool
+marks_end text = is_some (before text END.now)
 
 abbrev pub event_or_unread : Option Printed → Meaning
 event_or_unread None = Unread
@@ -17,7 +21,7 @@ event_or_unread (Some r) = Event r
 
 -- a header and its event
 abbrev pub meaning_of_event : Head → Option (EventKind × List ℕ) → Meaning
-meaning_of_event head None = Other
+meaning_of_event head None = Other head.time (marks_end head.text)
 meaning_of_event head (Some event) = event_or_unread (record_with head event.0 event.1)
 
 abbrev pub meaning_of_header : Option Head → Meaning
@@ -82,12 +86,7 @@ joined_or_alone line rest = joined_or_unread (joined_from (RECORD_LINES - 1) lin
 -- an unread line that begins as a record may continue in the next lines
 abbrev pub with_lines : Meaning → List ℕ → List ℕ → Meaning × List ℕ
 with_lines Unread line rest = if begins_record line then joined_or_alone line rest else (Unread, rest)
-with_lines (Event r) line rest = (Event r, rest)
-with_lines Other line rest = (Other, rest)
-with_lines (Lost cpu events) line rest = (Lost cpu events, rest)
-with_lines (BufferStarted cpu) line rest = (BufferStarted cpu, rest)
-with_lines (Counts held written processors) line rest = (Counts held written processors, rest)
-with_lines Note line rest = (Note, rest)
+with_lines item line rest = (item, rest)
 
 -- what the first piece of a text is, and what follows it
 unfoldable pub first_item : List ℕ → Meaning × List ℕ

@@ -1,6 +1,6 @@
 -- A window of a trace, as it is read.
 use Rattle.std.specs.Prelude.{◌≡◌, ℕ, ◌⊎◌, Bool, true, false, not, List, [], ◌∷◌, reverse, Option, None, Some}
-use Rattle.trace_core.specs.Item.{Meaning, Event, Other, Unread, Lost, BufferStarted, Counts, Note}
+use Rattle.trace_core.specs.Item.{Meaning, Event, Lost, BufferStarted}
 use Rattle.trace_core.specs.Pieces.{HasPassed, HasReadAll, HasReadOn, IsNext, Unpassed, passed}
 use Rattle.trace_core.specs.Record.{Printed}
 use Rattle.trace_core.specs.declared.reading.Next.{Next}
@@ -10,19 +10,14 @@ use Rattle.trace_core.specs.declared.tracker.TrackedEvent.{TrackedEvent}
 use Rattle.trace_core.specs.declared.tracker.Tracker.{Tracker}
 use Rattle.trace_core.specs.declared.window.Span.{Span}
 use Rattle.trace_core.specs.declared.window.Stage.{Stage}
-use Rattle.trace_core.specs.declared.window.Stage.TheVariants.{Before, Within, After}
+use Rattle.trace_core.specs.declared.window.Stage.TheVariants.{Before, Within}
 use Rattle.trace_core.specs.Tracker.{Tracks}
 use Rattle.trace_core.specs.Window.{is_over, stage_after}
 
 -- the stage after an item; only events have a time
 abbrev pub stage_with : Stage → Span → Meaning → Stage
 stage_with stage span (Event r) = stage_after span r.time stage
-stage_with stage span Other = stage
-stage_with stage span Unread = stage
-stage_with stage span (Lost cpu events) = stage
-stage_with stage span (BufferStarted cpu) = stage
-stage_with stage span (Counts held written processors) = stage
-stage_with stage span Note = stage
+stage_with stage span _ = stage
 
 -- the stage after these events, the newest first
 abbrev pub stage_at : Span → List (TrackedEvent × Printed) → Stage
@@ -30,28 +25,18 @@ stage_at span [] = Before
 stage_at span (seen ∷ earlier) = stage_after span seen.1.time (stage_at span earlier)
 
 abbrev pub is_end : Next → Bool
-is_end next.Begin = false
-is_end (next.Lost events) = false
-is_end next.StartedLate = false
-is_end (next.Before seen) = false
-is_end (next.Within seen) = false
-is_end next.Other = false
 is_end next.End = true
+is_end _ = false
 
 -- an event is before the window or in it
 abbrev pub event_at : Stage → TrackedEvent → Next
 event_at Before seen = next.Before seen
-event_at Within seen = next.Within seen
-event_at After seen = next.Within seen
+event_at _ seen = next.Within seen
 
 abbrev pub loss_of : Meaning → Next
-loss_of (Event r) = next.Other
-loss_of Other = next.Other
-loss_of Unread = next.Other
 loss_of (Lost cpu events) = next.Lost events
 loss_of (BufferStarted cpu) = next.StartedLate
-loss_of (Counts held written processors) = next.Other
-loss_of Note = next.Other
+loss_of _ = next.Other
 
 abbrev pub next_of : Stage → Option TrackedEvent → Meaning → Next
 next_of stage (Some seen) item = event_at stage seen
@@ -112,8 +97,7 @@ GoesOn span r t before now items earlier next.Other =
 -- whether a window begins at that stage, unless it has begun
 abbrev pub begins : Stage → Bool → Bool
 begins Before begun = false
-begins Within begun = not begun
-begins After begun = not begun
+begins _ begun = not begun
 
 -- the next piece was passed
 pub record Passes (old new : Reading) : Type 0 where

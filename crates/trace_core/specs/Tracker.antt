@@ -1,6 +1,6 @@
 -- What a tracker keeps of the items of a text.
 use Rattle.std.specs.Prelude.{◌≡◌, ℕ, ⊤, Bool, true, false, IfSome, List, [], ◌∷◌, map, Option, None, Some, option_map}
-use Rattle.trace_core.specs.Item.{Meaning, Event, Other, Unread, Lost as LostEvents, BufferStarted, Counts, Note}
+use Rattle.trace_core.specs.Item.{Meaning, Event, Lost as LostEvents, BufferStarted}
 use Rattle.trace_core.specs.Record.{Printed}
 use Rattle.trace_core.specs.declared.names.Names.{Names}
 use Rattle.trace_core.specs.declared.fence_event.FenceEvent.{FenceEvent}
@@ -8,6 +8,7 @@ use Rattle.trace_core.specs.declared.tracker.TrackedEvent.{TrackedEvent}
 use Rattle.trace_core.specs.declared.tracker.Tracker.{Tracker}
 use Rattle.trace_core.specs.History.{Step, Seen, Lost, Forgot, IsLedgerOf, found_in, life_in}
 use Rattle.trace_core.specs.Names.{name_at}
+use Rattle.trace_core.specs.Summary.{end_in}
 use Rattle.trace_core.specs.Waits.{AreOpen, IsWaitOf, open_waits, started_of, wait_in}
 
 -- the event says what the record says, with numbers for names
@@ -26,17 +27,12 @@ steps_of [] = []
 steps_of (Event r ∷ items) = Some r ∷ steps_of items
 steps_of (LostEvents cpu events ∷ items) = None ∷ steps_of items
 steps_of (BufferStarted cpu ∷ items) = None ∷ steps_of items
-steps_of (Other ∷ items) = steps_of items
-steps_of (Unread ∷ items) = steps_of items
-steps_of (Counts held written processors ∷ items) = steps_of items
-steps_of (Note ∷ items) = steps_of items
+steps_of (_ ∷ items) = steps_of items
 
 abbrev pub IsStep : Names → Names → Option Printed → Step → Type 0
 IsStep drivers timelines (Some r) (Seen e) = Says drivers timelines e r
-IsStep drivers timelines (Some r) Lost = ⊥
-IsStep drivers timelines None (Seen e) = ⊥
 IsStep drivers timelines None Lost = ⊤
-IsStep drivers timelines said (Forgot key) = ⊥
+IsStep drivers timelines _ _ = ⊥
 
 -- the steps but for what was forgotten
 abbrev pub unforgetting : List Step → List Step
@@ -78,34 +74,18 @@ AreSeen (Forgot key ∷ earlier) seen = AreSeen earlier seen
 -- whether an item is the record of an event
 abbrev pub is_event : Meaning → Bool
 is_event (Event r) = true
-is_event (LostEvents cpu events) = false
-is_event (BufferStarted cpu) = false
-is_event Other = false
-is_event Unread = false
-is_event (Counts held written processors) = false
-is_event Note = false
+is_event _ = false
 
 -- the answer for an item, with its record
 abbrev pub given : Option TrackedEvent → Meaning → List (TrackedEvent × Printed)
-given None item = []
 given (Some seen) (Event r) = (seen, r) ∷ []
-given (Some seen) (LostEvents cpu events) = []
-given (Some seen) (BufferStarted cpu) = []
-given (Some seen) Other = []
-given (Some seen) Unread = []
-given (Some seen) (Counts held written processors) = []
-given (Some seen) Note = []
+given _ _ = []
 
 -- the records among the items
 abbrev pub records_in : List Meaning → List Printed
 records_in [] = []
 records_in (Event r ∷ items) = r ∷ records_in items
-records_in (LostEvents cpu events ∷ items) = records_in items
-records_in (BufferStarted cpu ∷ items) = records_in items
-records_in (Other ∷ items) = records_in items
-records_in (Unread ∷ items) = records_in items
-records_in (Counts held written processors ∷ items) = records_in items
-records_in (Note ∷ items) = records_in items
+records_in (_ ∷ items) = records_in items
 
 -- The steps are the items' events and losses, each once and in order, and these are the answers. The newest come first.
 pub record Saw (drivers timelines : Names) (items : List Meaning) (seen : List (TrackedEvent × Printed)) (steps : List Step) : Type 0 where
@@ -115,8 +95,13 @@ pub record Saw (drivers timelines : Names) (items : List Meaning) (seen : List (
 
 -- The ledger is the folds over the items' events and losses, the waits that are kept are the open ones, and these were the
 -- answers for the events.
-pub record Tracks (t : Tracker) (items : List Meaning) (seen : List (TrackedEvent × Printed)) : Type 0 where
+pub record Follows (t : Tracker) (items : List Meaning) (seen : List (TrackedEvent × Printed)) : Type 0 where
   pub steps : List Step
   pub saw : Saw t.drivers t.timelines items seen steps
   pub ledger : IsLedgerOf t.ledger steps
   pub waits : AreOpen t.waits (open_waits steps)
+
+-- The tracker follows the fences of a text of these items, and knows up to when the text goes.
+pub record Tracks (t : Tracker) (items : List Meaning) (seen : List (TrackedEvent × Printed)) : Type 0 where
+  pub fences : Follows t items seen
+  pub end : t.summary.end ≡ end_in items

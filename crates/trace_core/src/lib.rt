@@ -57,7 +57,7 @@ pub use pieces::Pieces;
 pub use points::Points;
 pub use reading::{Next, Reading};
 pub use record::{Record, record_of};
-pub use summary::{Counts, Summary, TraceClock};
+pub use summary::{Counts, Summary, TraceClock, TraceEnd};
 pub use tally::{EventCounts, Tally};
 pub use task::{TASK_BYTES, TaskName};
 pub use timelines::TimelineTallies;

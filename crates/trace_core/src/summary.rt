@@ -1,7 +1,9 @@
-//! `Summary`: counts of a text's lines, losses and times. Tested, not proved; `Tracker` adds each piece, and the bytes
-//! that are in none.
-ghost use Rattle.std.specs.Prelude.{◌≡◌, IfErr};
+//! `Summary`: counts of a text's lines, losses and times. Only its end is proved (`end_in`), and all else is tested. `Tracker`
+//! adds each piece, and the bytes that are in none.
+ghost use Rattle.std.specs.Prelude.{◌≡◌, [], false, IfErr, OnOk};
 ghost use Rattle.point_core.specs.declared.refusal.Refusal.TheVariants.{Memory};
+ghost use Rattle.trace_core.specs.Item.{meaning_of};
+ghost use Rattle.trace_core.specs.Summary.{end_in, end_with, reached};
 
 use crate::item::TraceItem;
 use crate::piece::Piece;
@@ -30,6 +32,27 @@ pub struct TraceClock {
     pub steps_back: u64,
 }
 
+/// Up to when a trace is known.
+#[derive(Clone, Copy)]
+pub struct TraceEnd {
+    /// The greatest time of a record of any event, in microseconds, up to which a fence that hangs is known to be pending.
+    pub latest: u64,
+    /// Whether a record marks the end of the trace, so that it is known how long what hangs was pending.
+    pub is_marked: bool,
+}
+
+impl TraceEnd {
+    /// The end after a record, which marks the end of the trace or not.
+    fn reached(self, time: u64, is_end: bool) -> TraceEnd
+        ensures { result ≡ reached time is_end self }
+    {
+        TraceEnd {
+            latest: self.latest.max(time),
+            is_marked: self.is_marked || is_end,
+        }
+    }
+}
+
 /// What a text was made of.
 #[derive(Drop)]
 pub struct Summary {
@@ -52,15 +75,14 @@ pub struct Summary {
     /// order of the text.
     pub late_buffers: Vec<u32>,
     pub clock: Option<TraceClock>,
-    /// The greatest time of a record of any event, in microseconds, up to which a fence that hangs is known to be pending.
-    pub latest: u64,
-    /// Whether a record marks the end of the trace, so that it is known how long what hangs was pending.
-    pub has_end: bool,
+    pub end: TraceEnd,
 }
 
 impl Summary {
     /// The summary of an empty text. Does not allocate.
-    pub fn new(alloc: Global) -> Summary {
+    pub fn new(alloc: Global) -> Summary
+        ensures end { result.end ≡ end_in [] }
+    {
         Summary {
             bytes: 0,
             lines: 0,
@@ -73,8 +95,10 @@ impl Summary {
             counts: None,
             late_buffers: Vec::new(alloc),
             clock: None,
-            latest: 0,
-            has_end: false,
+            end: TraceEnd {
+                latest: 0,
+                is_marked: false,
+            },
         }
     }
 
@@ -82,6 +106,7 @@ impl Summary {
     ///
     /// Fails only with `Memory`; then the piece may be counted in part.
     pub fn take(&mut self, piece: &Piece<'_>) -> Result<(), Refusal>
+        ensures end { OnOk result (self.new.end ≡ end_with (meaning_of piece.now.item) self.old.end) }
         ensures memory { IfErr result (λ e. e ≡ Memory) }
     {
         self.add_bytes(piece.length);
@@ -109,12 +134,16 @@ impl Summary {
     }
 
     /// Counts bytes of the text.
-    pub fn add_bytes(&mut self, bytes: usize) {
+    pub fn add_bytes(&mut self, bytes: usize)
+        ensures end { self.new.end ≡ self.old.end }
+    {
         self.bytes = self.bytes.saturating_add(bytes as u64);
     }
 
-    fn record(&mut self, time: u64, over_lines: bool) {
-        self.latest = self.latest.max(time);
+    fn record(&mut self, time: u64, over_lines: bool)
+        ensures end { self.new.end ≡ reached time false self.old.end }
+    {
+        self.end = self.end.reached(time, false);
         if over_lines {
             self.over_lines = self.over_lines.saturating_add(1);
         }
@@ -138,13 +167,16 @@ impl Summary {
         });
     }
 
-    fn other(&mut self, time: u64, is_end: bool) {
+    fn other(&mut self, time: u64, is_end: bool)
+        ensures end { self.new.end ≡ reached time is_end self.old.end }
+    {
         self.others = self.others.saturating_add(1);
-        self.latest = self.latest.max(time);
-        self.has_end = self.has_end || is_end;
+        self.end = self.end.reached(time, is_end);
     }
 
-    fn lose(&mut self, events: Option<u64>) {
+    fn lose(&mut self, events: Option<u64>)
+        ensures end { self.new.end ≡ self.old.end }
+    {
         self.loss_markers = self.loss_markers.saturating_add(1);
         match events {
             Some(events) => self.lost_events = self.lost_events.saturating_add(events),
@@ -153,6 +185,7 @@ impl Summary {
     }
 
     fn start_late(&mut self, cpu: u32) -> Result<(), Refusal>
+        ensures end { self.new.end ≡ self.old.end }
         ensures memory { IfErr result (λ e. e ≡ Memory) }
     {
         if self.late_buffers.len() < LATE_BUFFERS {

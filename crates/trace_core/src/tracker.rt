@@ -5,7 +5,8 @@ ghost use Rattle.point_core.specs.declared.refusal.Refusal.TheVariants.{Memory};
 ghost use Rattle.trace_core.specs.Item.{Meaning, meaning_of, Event as EventMeaning};
 ghost use Rattle.trace_core.specs.Record.{Printed, printed};
 ghost use Rattle.trace_core.specs.Names.{name_or_none};
-ghost use Rattle.trace_core.specs.Tracker.{Keeps, Says, Tracks, given, is_event};
+ghost use Rattle.trace_core.specs.Tracker.{Follows, Keeps, Says, Tracks, given, is_event};
+ghost use Rattle.trace_core.specs.Summary.{last_time};
 ghost use Rattle.trace_core.specs.Waits.{AreOpen, IsWaitOf, Started, started_of, wait_by, waits_after};
 
 use crate::delays::Delays;
@@ -21,6 +22,7 @@ use crate::record::Record;
 use crate::summary::Summary;
 use crate::task::TaskName;
 use crate::waits::{Wait, Waits};
+use crate::window::Span;
 use point_core::Refusal;
 use std::alloc::Global;
 
@@ -97,6 +99,14 @@ impl Tracker {
         self.summary.add_bytes(bytes);
     }
 
+    /// The last time of the window or of the text, in microseconds, up to which a fence that hangs is known to be pending.
+    pub fn end(&self, span: Span) -> u64
+        ensures end { (items : List Meaning) → (seen : List (TrackedEvent × Printed)) →
+            Tracks self.now items seen → result ≡ last_time span items }
+    {
+        self.summary.end.latest.min(span.to)
+    }
+
     /// The names of the timeline's driver and of the timeline, each empty if it was not seen.
     pub fn names(&self, key: &TimelineKey) -> (&[u8], &[u8])
         ensures driver { result.0.now ≡ name_or_none self.now.drivers key.now.driver }
@@ -109,8 +119,9 @@ impl Tracker {
 
     fn see(&mut self, raw: &Record<'_>) -> Result<TrackedEvent, Refusal>
         ensures seen { IfOk result (λ seen. (items : List Meaning) → (earlier : List (TrackedEvent × Printed)) →
-            Tracks self.old items earlier → Tracks self.new (EventMeaning (printed raw.now) ∷ items)
+            Follows self.old items earlier → Follows self.new (EventMeaning (printed raw.now) ∷ items)
             ((seen, printed raw.now) ∷ earlier)) }
+        ensures summary { self.new.summary ≡ self.old.summary }
         ensures memory { IfErr result (λ e. e ≡ Memory) }
     {
         let event = self.fence_event(raw)?;
@@ -132,6 +143,7 @@ impl Tracker {
         ensures timelines { Keeps self.old.timelines self.new.timelines }
         ensures ledger { self.new.ledger ≡ self.old.ledger }
         ensures waits { self.new.waits ≡ self.old.waits }
+        ensures summary { self.new.summary ≡ self.old.summary }
         ensures memory { IfErr result (λ e. e ≡ Memory) }
     {
         let driver = self.drivers.number(raw.driver)?;
@@ -159,6 +171,7 @@ impl Tracker {
             option_map started_of wait ≡ wait_by event.now.kind event.now waits) }
         ensures waits { OnOk result ((waits : List Started) → AreOpen self.old.waits waits →
             AreOpen self.new.waits (waits_after event.now.kind event.now waits)) }
+        ensures summary { self.new.summary ≡ self.old.summary }
         ensures memory { IfErr result (λ e. e ≡ Memory) }
     {
         match event.kind {

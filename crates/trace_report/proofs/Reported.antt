@@ -40,20 +40,20 @@ module _ (steps : List Step) where
 
 -- the trace was read, and these are its steps
 module _ (span : Span) (t : Tracker) (text rest before after : Option (List ℕ)) (h : HasTakenIn span t text rest) where
-  pub reported : (outcome : TraceOutcome) → Shows h.tracks.steps before after outcome → ReportsTrace span text rest before after outcome
+  pub reported : (outcome : TraceOutcome) → Shows h.tracks.fences.steps before after outcome → ReportsTrace span text rest before after outcome
   reported outcome shows = record {
     items = h.items;
     seen = h.seen;
     drivers = t.drivers;
     timelines = t.timelines;
-    steps = h.tracks.steps;
+    steps = h.tracks.fences.steps;
     window = h.window;
-    saw = h.tracks.saw;
-    forgets = h.tracks.ledger.forgets;
+    saw = h.tracks.fences.saw;
+    forgets = h.tracks.fences.ledger.forgets;
     shows = shows;
   }
 
-  pub judged : (outcome : TraceOutcome) → (events_in h.tracks.steps ≡ 0 → ⊥) → IsVerdict h.tracks.steps outcome → ReportsTrace span text rest before after outcome
+  pub judged : (outcome : TraceOutcome) → (events_in h.tracks.fences.steps ≡ 0 → ⊥) → IsVerdict h.tracks.fences.steps outcome → ReportsTrace span text rest before after outcome
   judged Sound some verdict = reported Sound (some, verdict)
   judged Broken some verdict = reported Broken (some, verdict)
   judged NoEvents some verdict = absurd verdict

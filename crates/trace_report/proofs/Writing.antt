@@ -12,11 +12,11 @@ use Rattle.trace_report.specs.Events.{IsWritten, WritesTrace}
 
 module _ (span : Span) (t : Tracker) (text rest : Option (List ℕ)) (h : HasTakenIn span t text rest) where
   writes : (w : Written) → IsWritten h.seen w → WritesTrace span text rest w
-  writes w is = record { items = h.items; seen = h.seen; window = h.window; records = h.tracks.saw.records; is = is }
+  writes w is = record { items = h.items; seen = h.seen; window = h.window; records = h.tracks.fences.saw.records; is = is }
 
-  pub no-events : events_in h.tracks.steps ≡ 0 → WritesTrace span text rest NoEvents
-  no-events zero = writes NoEvents (none-given h.tracks.steps h.seen h.tracks.saw.seen_are zero)
+  pub no-events : events_in h.tracks.fences.steps ≡ 0 → WritesTrace span text rest NoEvents
+  no-events zero = writes NoEvents (none-given h.tracks.fences.steps h.seen h.tracks.fences.saw.seen_are zero)
 
-  pub some-events : (events_in h.tracks.steps ≡ 0 → ⊥) → WritesTrace span text rest Document
+  pub some-events : (events_in h.tracks.fences.steps ≡ 0 → ⊥) → WritesTrace span text rest Document
   some-events events =
-      writes Document (λ none. events (none-seen h.tracks.steps (subst (AreSeen h.tracks.steps) none h.tracks.saw.seen_are)))
+      writes Document (λ none. events (none-seen h.tracks.fences.steps (subst (AreSeen h.tracks.fences.steps) none h.tracks.fences.saw.seen_are)))

@@ -26,7 +26,7 @@ impl Content<'_> {
     /// What to say before a length up to the end: nothing if the end is known. The last record of a kernel's trace says only that
     /// the trace went on up to there.
     pub(crate) fn bound(&self) -> &'static str {
-        if self.tracker.summary.has_end {
+        if self.tracker.summary.end.is_marked {
             ""
         } else {
             "at least "

@@ -65,7 +65,7 @@ fn write_trace<R: Read, W: Write>(
     if tracker.ledger.events() == 0 {
         return Ok(Written::NoEvents);
     }
-    let end = tracker.summary.latest.min(span.to);
+    let end = tracker.end(span);
     chart.finish(tracker, end, writer)?;
     Ok(Written::Document)
 }

@@ -92,7 +92,7 @@ fn read_and_report<R: Read, W: Write>(
         return Ok(TraceOutcome::NoEvents);
     }
     let found = PendingFences::new(alloc, &tracker.ledger)?;
-    let end = tracker.summary.latest.min(span.to);
+    let end = tracker.end(span);
     let outcome = write_report(alloc, form, end, tracker, &found, writer);
     drop(found);
     outcome

@@ -81,7 +81,7 @@ fn script_of<R: Read>(
         tracker,
         acts,
         timelines: &timelines,
-        end: tracker.summary.latest.min(span.to),
+        end: tracker.end(span),
     };
     let scripted = written(alloc, &recorded)?;
     Ok(scripted)

@@ -26,7 +26,7 @@ pub(crate) fn add_summary(page: &mut JsonPage, content: Content<'_>) {
         );
     }
     page.numbers("until_us", &[content.end]);
-    if summary.has_end {
+    if summary.end.is_marked {
         page.numbers("end_us", &[content.end]);
     }
     add_losses(page, summary);
