@@ -1,5 +1,5 @@
 -- The lines of a script.
-use Rattle.std.specs.Prelude.{◌≡◌, ℕ, Bool, if◌then◌else◌, ⊤, All, List, [], ◌∷◌, ◌++◌, map, take, codes, decimal, Option, None, Some}
+use Rattle.std.specs.Prelude.{◌≡◌, ℕ, Bool, if◌then◌else◌, ⊤, All, List, [], ◌++◌, map, take, codes, decimal, Option, None, Some}
 use Rattle.std.specs.List.{flat_map}
 use Rattle.point_core.specs.Name.{IsName}
 use Rattle.text_core.specs.Escape.{noted}
@@ -28,10 +28,6 @@ said (line.Signal name) = Signal name.now
 said (line.Close file) = Close file.now
 said (line.Wait file task pid time is_over) = Wait file.now task.now pid time is_over
 said (line.End time) = End time
-
--- the name of a fence's file: its timeline's, its context and its seqno, with points between
-abbrev pub file_name : List ℕ → ℕ → ℕ → List ℕ
-file_name timeline context seqno = timeline ++ 46 ∷ (decimal context ++ 46 ∷ decimal seqno)
 
 -- the first bytes of a name of the trace, in a note
 abbrev pub name_noted : List ℕ → List ℕ

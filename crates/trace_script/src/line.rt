@@ -1,7 +1,8 @@
 //! `TraceLine`: a line of the script, with its text by `specs/Line.antt`. `ScriptDraft` adds the lines in the order of the acts.
-ghost use Rattle.std.specs.Prelude.{◌≡◌, ◌++◌, OnOk, take};
+ghost use Rattle.std.specs.Prelude.{◌≡◌, ◌++◌, OnOk};
 ghost use Rattle.trace_script.specs.Line.{context_noted, line_text, said, timeline_text, verb};
 
+use crate::safe_names::front;
 use std::alloc::AllocError;
 use text_core::{Part, push_parts};
 
@@ -103,7 +104,7 @@ pub(crate) fn push_line(text: &mut Vec<u8>, line: &TraceLine<'_>) -> Result<(), 
                 Part::Text("# "),
                 Part::Seconds(*time),
                 Part::Text(" "),
-                Part::Noted(front(task)),
+                Part::Noted(front(task, NOTED_BYTES)),
                 Part::Text("-"),
                 Part::Number(u64::from(*pid)),
                 Part::Text(verb(*is_over)),
@@ -132,9 +133,9 @@ fn push_timeline<'a>(
         text,
         &[
             Part::Text("# "),
-            Part::Noted(front(driver)),
+            Part::Noted(front(driver, NOTED_BYTES)),
             Part::Text("/"),
-            Part::Noted(front(raw)),
+            Part::Noted(front(raw, NOTED_BYTES)),
         ],
     )?;
     push_context(text, context)?;
@@ -169,16 +170,5 @@ fn verb(is_over: bool) -> &'static str
         " waited for "
     } else {
         " waits for "
-    }
-}
-
-/// The bytes of a name that a note has.
-fn front(name: &[u8]) -> &[u8]
-    ensures front { result.now ≡ take NOTED_BYTES name.now }
-{
-    if name.len() > NOTED_BYTES {
-        &name[..NOTED_BYTES]
-    } else {
-        name
     }
 }

@@ -13,7 +13,7 @@ ghost use Rattle.trace_script.specs.Scripted.{IsWritten, ScriptsTrace};
 
 use crate::acts::{ActKind, Acts, TraceAct, Waiter};
 use crate::line::{TraceLine, push_line};
-use crate::timelines::{FenceFile, ScriptFences, ScriptTimeline, Timelines};
+use crate::timelines::{FenceFile, Lane, ScriptFences, Timelines};
 use indexmap::IndexSet;
 use line_core::SCRIPT_BYTES;
 use point_core::{CONTEXTS, Name, Refusal};
@@ -165,7 +165,7 @@ impl ScriptDraft {
         let Some(timeline) = recorded.timelines.timelines.get(file.timeline) else {
             return Ok(());
         };
-        let Some(name) = file.name else {
+        let (Some(name), Some(timeline_name)) = (file.name, timeline.name) else {
             self.is_crowded = true;
             return Ok(());
         };
@@ -175,8 +175,9 @@ impl ScriptDraft {
             act,
             &ScriptFile {
                 file,
-                timeline,
                 name,
+                lane: timeline.lane,
+                timeline: timeline_name,
             },
         )
     }
@@ -203,7 +204,7 @@ impl ScriptDraft {
     {
         match act.kind {
             ActKind::Make => self.make(tracker, fence),
-            ActKind::Signal => self.add(&TraceLine::Signal(fence.timeline.name.as_bytes())),
+            ActKind::Signal => self.add(&TraceLine::Signal(fence.timeline.as_bytes())),
             ActKind::Close => {
                 self.files = self.files.saturating_sub(1);
                 self.add(&TraceLine::Close(fence.name.as_bytes()))
@@ -223,7 +224,7 @@ impl ScriptDraft {
         self.is_crowded |= self.files > FILES;
         self.add(&TraceLine::Fence {
             file: fence.name.as_bytes(),
-            timeline: fence.timeline.name.as_bytes(),
+            timeline: fence.timeline.as_bytes(),
             point: fence.file.point,
         })
     }
@@ -237,7 +238,7 @@ impl ScriptDraft {
         if !is_new {
             return Ok(());
         }
-        self.timeline(tracker, fence.timeline)
+        self.timeline(tracker, fence)
     }
 
     /// Adds a note on a fence that is not signalled up to the end.
@@ -250,15 +251,15 @@ impl ScriptDraft {
         self.add(&TraceLine::Unsignalled(fence.name.as_bytes()))
     }
 
-    fn timeline(&mut self, tracker: &Tracker, timeline: &ScriptTimeline) -> Result<(), AllocError>
+    fn timeline(&mut self, tracker: &Tracker, fence: &ScriptFile<'_>) -> Result<(), AllocError>
         ensures lines { OnOk result (AreLines self.old.bytes.items → AreLines self.new.bytes.items) }
     {
-        let (driver, raw) = tracker.names(&timeline.lane.timeline());
+        let (driver, raw) = tracker.names(&fence.lane.timeline());
         self.add(&TraceLine::Timeline {
             driver,
             raw,
-            context: timeline.lane.context(),
-            name: timeline.name.as_bytes(),
+            context: fence.lane.context(),
+            name: fence.timeline.as_bytes(),
         })
     }
 
@@ -292,6 +293,7 @@ impl ScriptDraft {
 #[derive(Clone, Copy)]
 struct ScriptFile<'a> {
     file: &'a FenceFile,
-    timeline: &'a ScriptTimeline,
     name: Name,
+    lane: Lane,
+    timeline: Name,
 }

@@ -4,7 +4,7 @@
 //! Which timelines there are, and which points fences get, is tested. Which fences hang is proved of `hangs`.
 ghost use Rattle.std.specs.Prelude.{◌≡◌, ◌&&◌, List, not, IfOk, IfSome};
 ghost use Rattle.trace_core.specs.History.{IsLedgerOf, Step, hangs, is_unnumbered};
-ghost use Rattle.trace_script.specs.Line.{file_name};
+ghost use Rattle.trace_script.specs.Names.{file_name, lane_name};
 
 use crate::acts::{ActKind, Acts, ScriptFence, TraceAct};
 use crate::safe_names::SafeNames;
@@ -63,7 +63,8 @@ impl Lane {
 #[derive(Clone, Copy)]
 pub(crate) struct ScriptTimeline {
     pub(crate) lane: Lane,
-    pub(crate) name: Name,
+    /// Its name, or none if no script may have it.
+    pub(crate) name: Option<Name>,
     // the name of the trace's timeline, with which the names of files begin
     base: Name,
     // how many points its fences have
@@ -177,7 +178,7 @@ impl Timelines {
         let base = self.names.name(self.alloc, key, raw)?;
         let timeline = ScriptTimeline {
             lane,
-            name: name_of(self.alloc, lane, base)?,
+            name: lane_name(self.alloc, base, lane.context())?,
             base,
             points: 0,
             hangs_from: None,
@@ -281,10 +282,12 @@ fn has_several(tracker: &Tracker, key: &FenceKey) -> bool {
     !points.are_none() && !points.is_only(key.seqno)
 }
 
-/// The name of a timeline of the script: `NAME`, or `NAME.CONTEXT`.
-fn name_of(alloc: Global, lane: Lane, base: Name) -> Result<Name, AllocError> {
-    let Some(context) = lane.context() else {
-        return Ok(base);
+/// The name of a timeline of the script, `NAME` or `NAME.CONTEXT`, if a script may have it.
+fn lane_name(alloc: Global, base: Name, context: Option<u32>) -> Result<Option<Name>, AllocError>
+    ensures name { IfOk result (λ name. IfSome name (λ n. n ≡ lane_name base context)) }
+{
+    let Some(context) = context else {
+        return Ok(Some(base));
     };
     let mut name = Vec::new(alloc);
     let parts = [
@@ -293,7 +296,7 @@ fn name_of(alloc: Global, lane: Lane, base: Name) -> Result<Name, AllocError> {
         Part::Number(u64::from(context)),
     ];
     push_parts(&mut name, &parts)?;
-    Ok(Name::read(name.as_slice()).unwrap_or(base))
+    Ok(Name::read(name.as_slice()))
 }
 
 /// The name of a fence's file, if a script may have it.
