@@ -16,16 +16,6 @@ use Rattle.trace_core.specs.Piece.{is_line_feed, is_unread, item_of, lost_or_rec
 use Rattle.trace_core.specs.Record.{Printed, record_of}
 use Rattle.trace_core.proofs.Lines.{with_first, first_item-line, with_lines-read, with_lines-alone, with_lines-joined, line-first, line-after, joined-long, joined-begins, joined-end, joined-step}
 
-pub AreLines-line : (bytes : List ℕ) (whole : Bool) (line : List ℕ) (len : ℕ) → IsLine bytes whole line len → AreLines bytes whole line len
-AreLines-line bytes whole line len is = record {
-  some = is.some;
-  within = is.within;
-  ends = elim is.ends [
-    | inl h ↦ inl (ap (take len) (h.0 ∙ sym (append_assoc line (10 ∷ []) (drop len bytes))) ∙ take_at (line ++ 10 ∷ []) (drop len bytes) len (length-append line (10 ∷ []) ∙ sym h.1))
-    | inr h ↦ inr (h.1, h.2)
-  ];
-}
-
 -- without a line feed, a line continues with the bytes after it
 no_feed-longer : (rest more : List ℕ) → HasNoLineFeed rest → length rest ≤ length (first_line (rest ++ more))
 no_feed-longer rest more none =

@@ -20,9 +20,6 @@ module _ (bytes text : List ℕ) where
   begins-all h reads =
       sym ((bytes_eq-Decides (take (length text) bytes) text).1 (ap (take (length text)) (front_from_reads 0 bytes text h reads) ∙ take_at text (drop (length text) bytes) (length text) refl))
 
-  pub begins-whole : length bytes ≡ length text → bytes_eq (take (length text) bytes) text ≡ bytes_eq bytes text
-  begins-whole e = ap (λ xs. bytes_eq xs text) (take_all (length text) bytes (omega arith))
-
   pub before-short : length bytes < length text → None ≡ before bytes text
   unfolding before
   before-short h =

@@ -12,7 +12,7 @@ use Rattle.std.proofs.lemmas.List.{take_at, drop_at, take-append-le, drop-drop, 
 use Rattle.std.proofs.lemmas.List.Sums.{position_or_len_is, fails_before_first}
 use Rattle.trace_core.specs.declared.item.TheConstants.{PIECE_BYTES}
 use Rattle.trace_core.specs.declared.piece.Piece.{Piece}
-use Rattle.trace_core.specs.Cutting.{MayFollow, HasNoLineFeed, IsLine, IsRestOfLine, IsFirstPiece, NeedsMore}
+use Rattle.trace_core.specs.Cutting.{MayFollow, HasNoLineFeed, IsLine, IsRestOfLine, NeedsMore}
 use Rattle.trace_core.specs.Item.{Meaning, Unread, meaning_of}
 use Rattle.trace_core.specs.Piece.{is_line_feed, first_item, ReadsAs}
 use Rattle.trace_core.specs.Pieces.{Unpassed, WasLetGo, HasPassed, HasReadAll, IsNext, IsWaiting, passed}
@@ -71,27 +71,6 @@ module _ (s : Unpassed) where
     within = is.within;
     some = λ short. absurd (false≢true (sym short ∙ l));
     first = λ front more gone may. rest-unread front s.bytes s.whole len gone.alone (gone.long l) is more may ∙ ap (λ i. (i, drop len s.bytes ++ more)) (sym e);
-  }
-
-  pub next-first : (piece : Piece) → s.long ≡ false → 1 ≤ piece.length → piece.length ≤ length s.bytes → IsFirstPiece s.bytes s.whole piece → IsNext s (meaning_of piece.item) piece.length
-  next-first piece l some within is = record {
-    within = within;
-    some = λ _. some;
-    first = λ front more gone may. ap (λ xs. first_item (xs ++ s.bytes ++ more)) (gone.short l) ∙ is more may;
-  }
-
-  pub waits-first : s.long ≡ false → NeedsMore s.bytes s.whole → IsWaiting s
-  waits-first l needs = record {
-    all = λ w. (l, needs.all w);
-    short = needs.short;
-    long = λ h. absurd (false≢true (sym l ∙ h));
-  }
-
-  pub waits-rest : s.whole ≡ false → HasNoLineFeed s.bytes → IsWaiting s
-  waits-rest w none = record {
-    all = λ h. absurd (false≢true (sym w ∙ h));
-    short = inr none;
-    long = λ _. none;
   }
 
 abbrev nothing : List ℕ

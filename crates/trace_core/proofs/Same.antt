@@ -4,10 +4,9 @@ use Rattle.std.specs.Bool.{Decides}
 use Rattle.std.specs.Cmp.{IsEquivalence}
 use Rattle.std.proofs.lemmas.Bool.{eqb-true, and_parts}
 use Rattle.std.proofs.lemmas.Cmp.{and_equiv, nat_eq_equiv, on_equiv}
-use Rattle.trace_core.specs.declared.fence_event.ContextKey.{ContextKey}
 use Rattle.trace_core.specs.declared.fence_event.FenceKey.{FenceKey}
 use Rattle.trace_core.specs.declared.fence_event.TimelineKey.{TimelineKey}
-use Rattle.trace_core.specs.Keys.{same_timeline, same_context, same_key}
+use Rattle.trace_core.specs.Keys.{same_timeline, same_key}
 
 pub swap : {X Y : Type 0} (f : X → Y) (b : Bool) (x z : X) (y : Y) → (b ≡ true → x ≡ z) → cond b (f x) y ≡ cond b (f z) y
 swap f true x z y is = ap f (is refl)
@@ -19,15 +18,6 @@ same_timeline-is a b same =
     let driver : a.driver ≡ b.driver = eqb-true a.driver b.driver parts.0 in
     let timeline : a.timeline ≡ b.timeline = eqb-true a.timeline b.timeline parts.1 in
     λ i. record { driver = driver i; timeline = timeline i }
-
-pub same_context-is : (a b : ContextKey) → same_context a b ≡ true → a ≡ b
-same_context-is a b same =
-    let parts = and_parts (nat_eq a.driver b.driver) (nat_eq a.timeline b.timeline && nat_eq a.context b.context) same in
-    let rest = and_parts (nat_eq a.timeline b.timeline) (nat_eq a.context b.context) parts.1 in
-    let driver : a.driver ≡ b.driver = eqb-true a.driver b.driver parts.0 in
-    let timeline : a.timeline ≡ b.timeline = eqb-true a.timeline b.timeline rest.0 in
-    let context : a.context ≡ b.context = eqb-true a.context b.context rest.1 in
-    λ i. record { driver = driver i; timeline = timeline i; context = context i }
 
 pub same_key-is : (a b : FenceKey) → same_key a b ≡ true → a ≡ b
 same_key-is a b same =

@@ -1,8 +1,7 @@
 -- The waits that are kept are the open ones, as waits begin and end.
-use Rattle.std.proofs.Common.{◌≡◌, ℕ, suc, ◌+◌, ◌-◌, ◌<◌, ◌≤◌, nat_eq, Bool, true, false, true≢false, ◌&&◌, ◌⊎◌, inl, inr, cond, refl, sym, ap, ◌∙◌, List, [], ◌∷◌, ◌++◌, length, map, filter, find, reverse, Option, None, Some, option_map, is_some, arith}
-use Rattle.std.specs.Map.{lookup, remove_entry, values_of}
+use Rattle.std.proofs.Common.{◌≡◌, ℕ, suc, ◌+◌, ◌-◌, ◌<◌, ◌≤◌, nat_eq, Bool, true, false, true≢false, ◌&&◌, ◌⊎◌, inl, inr, cond, refl, sym, ap, ◌∙◌, List, [], ◌∷◌, ◌++◌, length, map, filter, find, Option, None, Some, option_map, is_some, arith}
+use Rattle.std.specs.Map.{lookup, remove_entry}
 use Rattle.std.proofs.lemmas.Bool.{eqb-true, eq-eqb, ne_eqb, cases_lt, and_parts}
-use Rattle.std.proofs.lemmas.List.{reverse-append}
 use Rattle.indexmap.specs.IndexMap.{IndexMap}
 use Rattle.trace_core.specs.declared.fence_event.FenceKey.{FenceKey}
 use Rattle.trace_core.specs.declared.waits.Wait.{Wait}
@@ -332,12 +331,3 @@ kept-next p n all here k h = by (cases_lt k n)
     by : (k < n) ⊎ (n ≤ k) → p k ≡ true
     by (inl below) = all k below
     by (inr over) = let same : k ≡ n = omega (arith, over, h) in ap p same ∙ here
-
--- the waits in the order in which they began
-pub started-all : (ws : List Started) → values_of (keyed ws) ≡ reverse ws
-started-all [] = refl
-started-all (w ∷ ws) = last (keyed ws) ∙ ap (λ xs. xs ++ w ∷ []) (started-all ws) ∙ sym (reverse-append (w ∷ []) ws)
-  where
-    last : (es : List (WaitKey × Started)) → values_of (es ++ (wait_key w.pid w.key (waiting w.pid w.key ws), w) ∷ []) ≡ values_of es ++ w ∷ []
-    last [] = refl
-    last (e ∷ es) = ap (λ xs. e.1 ∷ xs) (last es)

@@ -7,7 +7,7 @@ ghost use Rattle.trace_core.specs.declared.contexts.TheConstants.{KEPT_CONTEXTS}
 ghost use Rattle.trace_core.specs.Contexts.{context_at, context_after, found_of, no_context};
 ghost use Rattle.trace_core.specs.Keys.{same_context, context_of};
 
-use crate::fence_event::{ContextKey, FenceEvent};
+use crate::fence_event::{ContextKey, FenceEvent, FenceKey};
 use crate::finding::Finding;
 use crate::life::Life;
 use crate::order::Order;
@@ -87,6 +87,11 @@ impl Contexts {
             Some(context) => *context,
             None => ContextState::NONE,
         }
+    }
+
+    /// Whether the fence's context has several points.
+    pub fn has_several(&self, key: &FenceKey) -> bool {
+        self.context(&key.context_key()).points.has_other(key.seqno)
     }
 
     /// The contexts with what they did, by first sight, except that the last one takes the place of one that is forgotten.

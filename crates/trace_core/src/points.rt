@@ -33,6 +33,15 @@ impl Points {
         }
     }
 
+    /// Whether another seqno than that was seen.
+    pub fn has_other(&self, seqno: u32) -> bool {
+        match self {
+            Points::None => false,
+            Points::One(one) => *one != seqno,
+            Points::Several => true,
+        }
+    }
+
     /// The set after seeing `seqno`.
     #[inline(always)]
     #[tactic(auto, unfolding(crate::specs::Points::points_after))]

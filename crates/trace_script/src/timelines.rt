@@ -263,7 +263,8 @@ fn hangs(ledger: &Ledger, key: &FenceKey) -> bool
 fn lane_of(tracker: &Tracker, key: &FenceKey) -> Lane {
     let timeline = key.timeline_key();
     let contexts = tracker.ledger.timeline(&timeline).contexts;
-    if contexts > 1 && (has_several(tracker, key) || are_timelines(tracker, &timeline, contexts)) {
+    let has_several = tracker.ledger.contexts().has_several(key);
+    if contexts > 1 && (has_several || are_timelines(tracker, &timeline, contexts)) {
         Lane::Context(key.context_key())
     } else {
         Lane::Timeline(timeline)
@@ -274,12 +275,6 @@ fn lane_of(tracker: &Tracker, key: &FenceKey) -> Lane {
 fn are_timelines(tracker: &Tracker, timeline: &TimelineKey, contexts: u64) -> bool {
     let (_, name) = tracker.names(timeline);
     contexts <= SEPARATE_CONTEXTS && name != UNBOUND
-}
-
-/// Whether several points of the fence's context were seen.
-fn has_several(tracker: &Tracker, key: &FenceKey) -> bool {
-    let points = tracker.ledger.contexts().context(&key.context_key()).points;
-    !points.are_none() && !points.is_only(key.seqno)
 }
 
 /// The name of a timeline of the script, `NAME` or `NAME.CONTEXT`, if a script may have it.

@@ -214,7 +214,7 @@ impl Chart {
             }
             return Ok(Track::Timeline(timeline));
         };
-        if *first == key.context || !has_several(tracker, key) {
+        if *first == key.context || !tracker.ledger.contexts().has_several(key) {
             return Ok(Track::Timeline(timeline));
         }
         Ok(Track::Context(key.context_key()))
@@ -304,12 +304,6 @@ impl Chart {
         }
         Ok(())
     }
-}
-
-/// Whether several points of the fence's context were seen.
-fn has_several(tracker: &Tracker, key: &FenceKey) -> bool {
-    let points = tracker.ledger.contexts().context(&key.context_key()).points;
-    !points.are_none() && !points.is_only(key.seqno)
 }
 
 /// The name of the rows of fences: `TIMELINE`, or `TIMELINE context N`.
