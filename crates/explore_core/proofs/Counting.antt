@@ -1,6 +1,7 @@
 -- What a search knows of every schedule once it has visited a level.
-use Rattle.std.proofs.Common.{◌≡◌, ◌⊎◌, ℕ, ◌+◌, ◌≤◌, Bool, true, refl, sym, ap, ◌∙◌, subst, List, [], ◌∷◌, ◌++◌, length, length-append, None, Some, arith, inl, inr, Contains}
-use Rattle.std.specs.Prelude.{All}
+use Rattle.std.proofs.Common.{◌≡◌, ◌⊎◌, ℕ, ◌+◌, ◌≤◌, Bool, true, refl, sym, ap, ◌∙◌, subst, List, [], ◌∷◌, ◌++◌, length, length-append, Option, None, Some, option_map, arith, inl, inr, Contains}
+use Rattle.std.specs.Prelude.{All, SomeIff, Vec}
+use Rattle.std.specs.Global.{Global}
 use Rattle.std.specs.List.{AllPairs}
 use Rattle.std.proofs.lemmas.List.{length-map, get_or-map}
 use Rattle.std.proofs.lemmas.List.Elements.{All-nil, All-cons, All-head, All-tail, All-append, All-weaker, All-contains, All-contains_itself, Contains-append_left, Contains-append_right}
@@ -13,7 +14,7 @@ use Rattle.explore_core.specs.declared.state.State.{State}
 use Rattle.explore_core.specs.Access.{RaceAt}
 use Rattle.explore_core.specs.Covering.{GoOnAlike, HasAlike, MayAsk}
 use Rattle.explore_core.specs.Found.{CanBeExplored, IsAll, IsOther, IsOtherRace, IsReachable, Suffice, stuck_of}
-use Rattle.explore_core.specs.Levels.{FollowsAll, IsCovered, IsKnown, IsKnownOr, IsFinished, IsVisited, LeadsOn}
+use Rattle.explore_core.specs.Levels.{FollowsAll, IsComplete, IsCovered, IsKnown, IsKnownOr, IsFinished, IsVisited, LeadsOn}
 use Rattle.explore_core.specs.Moving.{LineAnswer, answer_of, answers_of}
 use Rattle.explore_core.specs.Schedule.{Lines, Standing, Schedule, after_line, answer_now, beginning, next_line, ComesTo, IsAnswered, IsLast, Leads}
 use Rattle.explore_core.specs.Search.{is_asked, standing_of, standing_at, standings_of, HasRaces, Grows, IsFollowed, IsState, IsEmptyFound, IsRight, counted}
@@ -24,7 +25,7 @@ use Rattle.explore_core.proofs.Finding.{after-answers, none-next}
 use Rattle.explore_core.proofs.Levels.{HasEnds-alike, IsTrue-empty, go-on-refl, length-none}
 use Rattle.explore_core.proofs.Moving.{leads-alike}
 use Rattle.explore_core.proofs.Scheduling.{Leads-push, sound-comes}
-use Rattle.explore_core.proofs.Trying.{IsTrue-same}
+use Rattle.explore_core.proofs.Trying.{IsAll-same, IsTrue-same}
 
 -- what is found
 
@@ -262,6 +263,20 @@ IsRight-next {plan} {bound} {depth} {old} {new} {states} covered grows right roo
       within = omega (arith, count, room);
     }
 
+-- a sum that fits
+pub some-is : (P : Type 0) (o : Option ℕ) (v x : ℕ) → o ≡ Some x → SomeIff o P v → x ≡ v
+some-is P o v x is iff = (subst (λ (o : Option ℕ). SomeIff o P v) is iff).1
+
+-- what is found is right, however the search has ended
+pub IsRight-same : (plan : Lines) (bound : ℕ) (found new : Found) → new.given ≡ found.given → new.ended ≡ found.ended → new.races ≡ found.races → new.stuck ≡ found.stuck → new.states ≡ found.states
+    → IsRight plan bound found → IsRight plan bound new
+IsRight-same plan bound found new given ended races stuck states r = record {
+  shown = IsTrue-same plan found new given ended races stuck r.shown;
+  once = record { given = rw given r.once.given; ended = rw ended r.once.ended; races = rw races r.once.races };
+  shortest = λ shown schedule now is. r.shortest shown schedule now (sym (ap (option_map (λ (v : Vec ℕ Global). v.items)) stuck) ∙ is);
+  within = rw states r.within;
+}
+
 -- the last level
 
 module _ {plan : Lines} {found : Found} {depth : ℕ} (covered : IsCovered plan found depth []) where
@@ -306,3 +321,7 @@ module _ {plan : Lines} {found : Found} {depth : ℕ} (covered : IsCovered plan 
     answered = λ schedule client place given a. (known schedule client place given a).there;
     last = λ schedule now comes end. (finished schedule now comes).last end;
   }
+
+  pub IsComplete-covered : CanBeExplored plan → (new : Found) → new.given ≡ found.given → new.ended ≡ found.ended → new.races ≡ found.races → new.stuck ≡ found.stuck → new.states ≡ found.states → IsComplete plan new
+  IsComplete-covered can new given ended races stuck states =
+      record { all = IsAll-same plan found new given ended races stuck IsAll-covered; enough = rw states (Suffice-covered can) }

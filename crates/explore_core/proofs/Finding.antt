@@ -16,8 +16,8 @@ use Rattle.explore_core.specs.declared.chooser.Chooser.{Chooser}
 use Rattle.explore_core.specs.declared.found.Found.{Found}
 use Rattle.explore_core.specs.declared.found.Given.{Given}
 use Rattle.explore_core.specs.declared.state.State.{State}
-use Rattle.explore_core.specs.declared.search.Move.{Move}
-use Rattle.explore_core.specs.declared.search.Move.TheVariants as move
+use Rattle.explore_core.specs.declared.tour.Move.{Move}
+use Rattle.explore_core.specs.declared.tour.Move.TheVariants as move
 use Rattle.explore_core.specs.Found.{CanBeExplored, IsOther, Lists, stuck_of}
 use Rattle.explore_core.specs.Schedule.{Lines, Standing, Schedule, answer_now, history_along, beginning, lines_of, next_line, made_by, after_line, made_line, after_one, ComesTo, IsStuck, IsAnswered, IsEndAnswered}
 use Rattle.explore_core.specs.Search.{Seen, LevelState, is_asked, standing_of, standing_at, states_of, Answers, HasLike, Grows, Extends, IsState, IsSeen, Keeps, Records, IsGiven, IsFollowed, IsTried, AreTried, IsMove, AreMoves, together, HasEnds, EndsAre, IsEnd, AreEndsListed}
@@ -68,10 +68,11 @@ Once-grow {old} records once = elim records [
 ]
 
 pub Grows-given : (plan : Lines) (depth : ℕ) (old new : Found) (client place : ℕ) (answer : Answer) (schedule : Schedule) → Records old.given.items new.given.items client place answer schedule
-    → IsAnswered plan schedule client place answer → new.ended ≡ old.ended → new.races ≡ old.races → new.stuck ≡ old.stuck → new.states ≡ old.states → Grows plan depth old new
-Grows-given plan depth old new client place answer schedule records comes ended races stuck states = record {
+    → IsAnswered plan schedule client place answer → new.ended ≡ old.ended → new.races ≡ old.races → new.stuck ≡ old.stuck → new.states ≡ old.states → new.covered ≡ old.covered → Grows plan depth old new
+Grows-given plan depth old new client place answer schedule records comes ended races stuck states covered = record {
   once = λ o. record { given = Once-grow records o.given; ended = rw ended o.ended; races = rw races o.races };
   states = states;
+  covered = covered;
   shown = λ t. record {
     given = All-grow (λ (g : Given). IsAnswered plan g.schedule.items g.client g.place g.answer) records
         (λ g is. rw (is.schedule_is, is.client_is, is.place_is, is.answer_is) comes) t.given;
@@ -266,28 +267,31 @@ module _ (plan : Lines) (found : Found) (next : List State) (state : State) wher
     stuck = λ stuck. absurd (none-some tried.are.1 (sym (stuck.nobody tried.are.0) ∙ tried.are.2));
   })
 
-module _ (plan : Lines) (depth : ℕ) (old found : Found) (next : List State) (state : State) (g : Grows plan depth old found) where
+module _ {plan : Lines} {depth deeper : ℕ} {old new : Found} {next more : LevelState} (state : State) (a : Grows plan depth old new × Extends plan deeper next more) where
   abbrev there : Standing
   there = standing_at plan state
 
-  grown : (client : ℕ) → IsFollowed plan old next there client → IsFollowed plan found next there client
-  grown client f = record {
-    listed = λ place answer a. g.given client place answer (f.listed place answer a);
-    kept = f.kept;
-  }
+  abbrev before : List State
+  before = states_of next.seen
 
-  pub IsLeft-waits : AreTried plan old next state (length plan.clients) move.Waits → (shown : List ℕ) → stuck_of found ≡ Some shown → IsLeft plan found next state
+  abbrev after : List State
+  after = states_of more.seen
+
+  grown : (client : ℕ) → IsFollowed plan old before there client → IsFollowed plan new after there client
+  grown client f = IsFollowed-grows there client a.0 a.1 f
+
+  pub IsLeft-waits : AreTried plan old before state (length plan.clients) move.Waits → (shown : List ℕ) → stuck_of new ≡ Some shown → IsLeft plan new after state
   IsLeft-waits tried shown is = inl (record {
-    followed = λ client. grown client (followed-all plan old next state tried client);
+    followed = λ client. grown client (followed-all plan old before state tried client);
     ended = λ place answer e. absurd (some-none (next_line plan there tried.are.1) tried.are.2 (e.done tried.are.1));
     stuck = λ stuck. (shown, is);
   })
 
-  pub IsLeft-done : AreTried plan old next state (length plan.clients) move.Done → HasEnds plan found there → IsLeft plan found next state
+  pub IsLeft-done : AreTried plan old before state (length plan.clients) move.Done → HasEnds plan new there → IsLeft plan new after state
   IsLeft-done tried ends = inl (record {
-    followed = λ client. grown client (followed-all plan old next state tried client);
+    followed = λ client. grown client (followed-all plan old before state tried client);
     ended = ends;
-    stuck = λ stuck. absurd (some-none (next_line plan there stuck.waiting.0) stuck.waiting.1 (done-all plan old next state tried stuck.waiting.0));
+    stuck = λ stuck. absurd (some-none (next_line plan there stuck.waiting.0) stuck.waiting.1 (done-all plan old before state tried stuck.waiting.0));
   })
 
 -- the chosen clients
@@ -327,14 +331,15 @@ IsLeft-chosen {plan} {chooser = chooser} {kept = kept} state is ready chosen fol
 
 -- a schedule that gets stuck is shown
 
-pub Grows-stuck : (plan : Lines) (depth : ℕ) (old new : Found) (shown : Vec ℕ Global) (now : Standing) → old.stuck ≡ None → new.stuck ≡ Some shown → new.given ≡ old.given → new.ended ≡ old.ended → new.races ≡ old.races → new.states ≡ old.states
+pub Grows-stuck : (plan : Lines) (depth : ℕ) (old new : Found) (shown : Vec ℕ Global) (now : Standing) → old.stuck ≡ None → new.stuck ≡ Some shown → new.given ≡ old.given → new.ended ≡ old.ended → new.races ≡ old.races → new.states ≡ old.states → new.covered ≡ old.covered
     → ComesTo plan shown.items now → IsStuck plan now → length shown.items ≡ depth → Grows plan depth old new
-Grows-stuck plan depth old new shown now none is given ended races states comes stuck deep =
+Grows-stuck plan depth old new shown now none is given ended races states covered comes stuck deep =
     let items : Option (Vec ℕ Global) → Option (List ℕ) = option_map (λ (v : Vec ℕ Global). v.items) in
     record {
       shown = λ t. record { given = rw given t.given; ended = rw ended t.ended; races = rw races t.races; stuck = rw is (now, comes, stuck) };
       once = λ o. record { given = rw given o.given; ended = rw ended o.ended; races = rw races o.races };
       states = states;
+      covered = covered;
       given = λ c p a lists. rw given lists;
       ended = λ c p a lists. rw ended lists;
       races = λ one other lists. rw races lists;
@@ -387,10 +392,11 @@ AreEndsListed-push plan {history} {old} {new} {place} {answer} command before re
 ]
 
 pub Grows-ended : (plan : Lines) (depth : ℕ) (old new : Found) (now : Standing) (schedule : Schedule) → EndsAre plan now.history schedule old.ended.items new.ended.items
-    → ComesTo plan schedule now → ((client : ℕ) → next_line plan now client ≡ None) → new.given ≡ old.given → new.races ≡ old.races → new.stuck ≡ old.stuck → new.states ≡ old.states → Grows plan depth old new
-Grows-ended plan depth old new now schedule ends comes done given races stuck states = record {
+    → ComesTo plan schedule now → ((client : ℕ) → next_line plan now client ≡ None) → new.given ≡ old.given → new.races ≡ old.races → new.stuck ≡ old.stuck → new.states ≡ old.states → new.covered ≡ old.covered → Grows plan depth old new
+Grows-ended plan depth old new now schedule ends comes done given races stuck states covered = record {
   once = λ o. record { given = rw given o.given; ended = ends.once o.ended; races = rw races o.races };
   states = states;
+  covered = covered;
   shown = λ t. record {
     given = rw given t.given;
     ended =

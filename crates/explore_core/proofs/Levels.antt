@@ -1,5 +1,5 @@
 -- What grows while a level is visited.
-use Rattle.std.proofs.Common.{◌≡◌, ℕ, zero, suc, Bool, refl, sym, ◌∙◌, subst, List, [], ◌∷◌, length, take, Some, slice_get, arith, inl, inr}
+use Rattle.std.proofs.Common.{◌≡◌, ℕ, ◌+◌, zero, suc, Bool, refl, sym, ◌∙◌, subst, List, [], ◌∷◌, length, take, Some, slice_get, arith, inl, inr}
 use Rattle.std.specs.Prelude.{All}
 use Rattle.std.specs.List.{AllZip}
 use Rattle.std.proofs.lemmas.List.Elements.{All-nil, All-cons, All-head, All-tail}
@@ -15,6 +15,8 @@ use Rattle.explore_core.specs.declared.found.Given.{Given}
 use Rattle.explore_core.specs.declared.found.Race.{Race}
 use Rattle.explore_core.specs.Access.{IsRace}
 use Rattle.explore_core.specs.declared.state.State.{State}
+use Rattle.explore_core.specs.declared.tour.Tour.{Tour}
+use Rattle.explore_core.specs.Tour.{Advances}
 use Rattle.explore_core.specs.Alike.{AsksOnly, AreAlike, IsSameWatch}
 use Rattle.explore_core.specs.Covering.{MayAsk, GoOnAlike}
 use Rattle.explore_core.specs.Found.{IsTrue}
@@ -32,6 +34,7 @@ Grows-refl plan depth found = record {
   shown = λ t. t;
   once = λ o. o;
   states = refl;
+  covered = refl;
   given = λ client place answer h. h;
   ended = λ client place answer h. h;
   races = λ one other h. h;
@@ -44,6 +47,7 @@ Grows-trans g h = record {
   shown = λ t. h.shown (g.shown t);
   once = λ o. h.once (g.once o);
   states = h.states ∙ g.states;
+  covered = h.covered ∙ g.covered;
   given = λ client place answer l. h.given client place answer (g.given client place answer l);
   ended = λ client place answer l. h.ended client place answer (g.ended client place answer l);
   races = λ one other l. h.races one other (g.races one other l);
@@ -56,6 +60,18 @@ Extends-refl plan depth level = record { seen = λ all. all; alike = λ now has.
 
 pub Extends-trans : {plan : Lines} {depth : ℕ} {a b c : LevelState} → Extends plan depth a b → Extends plan depth b c → Extends plan depth a c
 Extends-trans g h = record { seen = λ all. h.seen (g.seen all); alike = λ now has. h.alike now (g.alike now has); room = h.room ∙ g.room }
+
+module _ {plan : Lines} {depth : ℕ} {old new : Found} where
+  -- more is found, and the next level is the same
+  pub Advances-found : (level : LevelState) → Grows plan depth old new → Grows plan depth old new × Extends plan (depth + 1) level level
+  Advances-found level grows = (grows, Extends-refl plan (depth + 1) level)
+
+  pub Advances-trans : {later : Found} {next more all : LevelState} → Grows plan depth old new × Extends plan (depth + 1) next more → Grows plan depth new later × Extends plan (depth + 1) more all
+      → Grows plan depth old later × Extends plan (depth + 1) next all
+  Advances-trans g h = (Grows-trans g.0 h.0, Extends-trans g.1 h.1)
+
+pub Advances-refl : (plan : Lines) (depth : ℕ) (tour : Tour) → Advances plan depth tour tour
+Advances-refl plan depth tour = Advances-found tour.next (Grows-refl plan depth tour.found)
 
 -- a standing goes on as itself
 

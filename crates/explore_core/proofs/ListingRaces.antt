@@ -55,10 +55,11 @@ once-grow {old} records once = elim records [
 ]
 
 pub Grows-race : (plan : Lines) (depth : ℕ) (old new : Found) (one other : ℕ) (schedule : Schedule) → RecordsRace old.races.items new.races.items one other schedule → IsRace plan schedule one other
-    → new.given ≡ old.given → new.ended ≡ old.ended → new.stuck ≡ old.stuck → new.states ≡ old.states → Grows plan depth old new
-Grows-race plan depth old new one other schedule records is given ended stuck states = record {
+    → new.given ≡ old.given → new.ended ≡ old.ended → new.stuck ≡ old.stuck → new.states ≡ old.states → new.covered ≡ old.covered → Grows plan depth old new
+Grows-race plan depth old new one other schedule records is given ended stuck states covered = record {
   once = λ o. record { given = rw given o.given; ended = rw ended o.ended; races = once-grow records o.races };
   states = states;
+  covered = covered;
   shown = λ t. record {
     given = rw given t.given;
     ended = rw ended t.ended;

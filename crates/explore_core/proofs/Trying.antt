@@ -1,6 +1,6 @@
 -- What a client does at a state, and what the search keeps of it.
-use Rattle.std.proofs.Common.{◌≡◌, ℕ, ◌+◌, ◌<◌, ◌≤◌, true, false, refl, sym, ap, ◌∙◌, subst, List, [], ◌∷◌, ◌++◌, length, length-append, map, take, Option, None, Some, is_some, option_map, unwrap_or, get_or, replicate, arith}
-use Rattle.std.specs.Prelude.{All, IsSome, IsOk, OnOk, Vec, Result, Ok, Err}
+use Rattle.std.proofs.Common.{◌≡◌, ℕ, ◌+◌, ◌<◌, ◌≤◌, true, false, refl, sym, ap, ◌∙◌, subst, List, [], ◌∷◌, ◌++◌, length, length-append, map, take, slice_get, Option, None, Some, is_some, option_map, unwrap_or, get_or, replicate, arith}
+use Rattle.std.specs.Prelude.{All, IsSome, Vec}
 use Rattle.std.specs.Global.{Global}
 use Rattle.std.proofs.lemmas.Bool.{false≢true}
 use Rattle.std.proofs.lemmas.List.{take_more, length-map}
@@ -11,11 +11,10 @@ use Rattle.explore_core.specs.declared.plan.Step.{Step}
 use Rattle.explore_core.specs.declared.found.Found.{Found}
 use Rattle.explore_core.specs.declared.position.Position.{Position}
 use Rattle.explore_core.specs.declared.state.State.{State}
-use Rattle.explore_core.specs.declared.search.Move.{Move}
-use Rattle.explore_core.specs.declared.search.Move.TheVariants as move
-use Rattle.explore_core.specs.declared.search.Stop.{Stop}
+use Rattle.explore_core.specs.declared.tour.Move.{Move}
+use Rattle.explore_core.specs.declared.tour.Move.TheVariants as move
 use Rattle.explore_core.specs.Found.{CanBeExplored, IsTrue, IsAll, Lists}
-use Rattle.explore_core.specs.Schedule.{Lines, Standing, Schedule, history_with, history_along, made_by, next_line, after_line, after_one, ComesTo, IsAnswered}
+use Rattle.explore_core.specs.Schedule.{Lines, Standing, Schedule, history_with, history_along, lines_of, made_by, next_line, after_line, after_one, ComesTo, IsAnswered}
 use Rattle.explore_core.specs.Search.{Look, Seen, Shows, AreAsked, has_name, is_asked, standing_of, standing_at, states_of, standing_after, Answers, Grows, IsAt, IsReached, IsState, IsSeen, IsTried, AreTried, AreMoves, Keeps, Records}
 use Rattle.explore_core.proofs.Asking.{Shows-same}
 use Rattle.explore_core.proofs.Scheduling.{history_along-push}
@@ -68,10 +67,11 @@ reached-made plan schedule {client} {place} {given} {seen} {position} comes a at
     let size : length more ≡ length schedule + 1 = length-append schedule (client ∷ []) in
     (goes ∙ ap Some (next.0 ∙ ap (standing_of plan) (sym kept)), subst (λ n. IsSeen plan n seen) size (make next.1 (subst (IsAt position) to at)))
 
-pub place-here : (plan : Lines) (state : State) (schedule : Schedule) (client place : ℕ) (made : List ℕ) → schedule ≡ state.schedule.items → made ≡ (standing_at plan state).made
-    → place ≡ get_or made client 0 → made_by (standing_of plan schedule) client ≡ place
-place-here plan state schedule client place made is same at =
-    ap (λ (s : Schedule). made_by (standing_of plan s) client) is ∙ sym (ap (λ (ps : List ℕ). get_or ps client 0) same) ∙ sym at
+pub next-here : (plan : Lines) (state : State) (client : ℕ) {place : ℕ} {made : List ℕ} {next : Option Step} → made ≡ (standing_at plan state).made → place ≡ get_or made client 0
+    → slice_get (lines_of plan client) place ≡ next → (made_by (standing_at plan state) client ≡ place) × (next_line plan (standing_at plan state) client ≡ next)
+next-here plan state client {place = place} made at is =
+    let here : made_by (standing_at plan state) client ≡ place = sym (ap (λ (ps : List ℕ). get_or ps client 0) made) ∙ sym at in
+    (here, ap (slice_get (lines_of plan client)) here ∙ is)
 
 -- what is listed and kept of it
 
@@ -96,11 +96,11 @@ module _ {plan : Lines} {state : State} {schedule : Schedule} {client : ℕ} (is
     comes-here : ComesTo plan schedule (standing_of plan schedule)
     comes-here = subst (λ (s : Schedule). ComesTo plan s (standing_of plan s)) (sym is) from.comes
 
-    pub Grows-answered : (old new : Found) → Records old.given.items new.given.items client place given schedule → new.ended ≡ old.ended → new.races ≡ old.races → new.stuck ≡ old.stuck → new.states ≡ old.states → Grows plan depth old new
-    Grows-answered old new records ended races stuck states =
+    pub Grows-answered : (old new : Found) → Records old.given.items new.given.items client place given schedule → new.ended ≡ old.ended → new.races ≡ old.races → new.stuck ≡ old.stuck → new.states ≡ old.states → new.covered ≡ old.covered → Grows plan depth old new
+    Grows-answered old new records ended races stuck states covered =
         let answered : IsAnswered plan schedule client place given =
         record { now = standing_of plan schedule; comes = comes-here; at = a.at; step = a.step; next = a.next; made = a.made; answer = a.answer } in
-        Grows-given plan depth old new client place given schedule records answered ended races stuck states
+        Grows-given plan depth old new client place given schedule records answered ended races stuck states covered
 
     pub later-reached : {later : Seen} {position : Position} → IsAt position (standing_after plan (standing_of plan schedule) client) → later.state.schedule.items ≡ schedule ++ client ∷ []
         → (ComesTo plan (schedule ++ client ∷ []) (standing_of plan (schedule ++ client ∷ [])) → IsAt position (standing_of plan (schedule ++ client ∷ []))
@@ -157,11 +157,7 @@ pub history_along-next : (history commands : List Command) (i : ℕ) (command : 
 history_along-next history commands i command low at =
     ap (history_along history) (take_more commands i command low ∙ ap (λ (d : Command). take i commands ++ d ∷ []) (sym at)) ∙ history_along-push history (take i commands) command
 
--- a search that ended well
-
-pub when-ok : {X : Type 0} (r : Result (Unit {0}) Stop) → OnOk r X → IsOk r → X
-when-ok (Ok v) x ok = x
-when-ok (Err e) x ok = absurd (false≢true ok)
+-- what is found, but for how the search ended
 
 pub IsTrue-same : (plan : Lines) (found new : Found) → new.given ≡ found.given → new.ended ≡ found.ended → new.races ≡ found.races → new.stuck ≡ found.stuck → IsTrue plan found → IsTrue plan new
 IsTrue-same plan found new given ended races stuck t = record { given = rw given t.given; ended = rw ended t.ended; races = rw races t.races; stuck = rw stuck t.stuck }

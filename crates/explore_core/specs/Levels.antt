@@ -1,10 +1,10 @@
 -- What a search knows of every schedule once it has visited a level.
-use Rattle.std.specs.Prelude.{◌≡◌, ◌⊎◌, ℕ, ◌+◌, ◌≤◌, true, List, length, All, Contains, Some}
+use Rattle.std.specs.Prelude.{◌≡◌, ◌⊎◌, ℕ, ◌+◌, ◌≤◌, true, false, List, length, All, Contains, Some}
 use Rattle.explore_core.specs.declared.found.Found.{Found}
 use Rattle.explore_core.specs.declared.state.State.{State}
 use Rattle.explore_core.specs.Access.{RaceAt}
 use Rattle.explore_core.specs.Covering.{AnswersThere, GoOnAlike, HasAlike}
-use Rattle.explore_core.specs.Found.{IsReachable, Lists, ListsRace, stuck_of}
+use Rattle.explore_core.specs.Found.{IsAll, IsReachable, Lists, ListsRace, Suffice, stuck_of}
 use Rattle.explore_core.specs.Independence.{Bounds}
 use Rattle.explore_core.specs.Moving.{LineAnswer, answers_of}
 use Rattle.explore_core.specs.Persistent.{Choice, IsCalm, IsPersistent}
@@ -73,3 +73,14 @@ pub record IsCovered (plan : Lines) (found : Found) (depth : ℕ) (states : List
   pub covers : (schedule : Schedule) (now : Standing) → ComesTo plan schedule now →
       IsFinished plan found visited schedule now ⊎ LeadsOn plan found visited depth states schedule now
   pub soon : (shown : List ℕ) → stuck_of found ≡ Some shown → length shown ≤ depth
+
+-- the search may visit these states next
+pub record MayVisit (plan : Lines) (bound depth : ℕ) (states : List State) (found : Found) : Type 0 where
+  pub covered : IsCovered plan found depth states
+  pub within : found.states + length states ≤ bound
+  pub unfinished : found.covered ≡ false
+
+-- every schedule is covered
+pub record IsComplete (plan : Lines) (found : Found) : Type 0 where
+  pub all : IsAll plan found
+  pub enough : Suffice plan found.states

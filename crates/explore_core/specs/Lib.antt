@@ -13,3 +13,5 @@ pub mod Moving
 pub mod Persistent
 pub mod Schedule
 pub mod Search
+pub mod Searching
+pub mod Tour

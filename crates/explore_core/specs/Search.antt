@@ -25,8 +25,8 @@ use Rattle.explore_core.specs.declared.parts.Parts.{Parts}
 use Rattle.explore_core.specs.declared.parts.Places.{Places}
 use Rattle.explore_core.specs.declared.state.State.{State}
 use Rattle.explore_core.specs.declared.visit.Visit.{Visit}
-use Rattle.explore_core.specs.declared.search.Move.{Move}
-use Rattle.explore_core.specs.declared.search.Move.TheVariants as move
+use Rattle.explore_core.specs.declared.tour.Move.{Move}
+use Rattle.explore_core.specs.declared.tour.Move.TheVariants as move
 use Rattle.explore_core.specs.declared.found.Given.{Given}
 use Rattle.explore_core.specs.declared.found.Race.{Race}
 use Rattle.explore_core.specs.Access.{RaceAt}
@@ -279,6 +279,7 @@ pub record Grows (plan : Lines) (depth : ℕ) (old new : Found) : Type 0 where
   pub shown : IsTrue plan old → IsTrue plan new
   pub once : ListsOnce old → ListsOnce new
   pub states : new.states ≡ old.states
+  pub covered : new.covered ≡ old.covered
   pub given : (client place : ℕ) (answer : Answer) →
       Lists old.given.items client place answer → Lists new.given.items client place answer
   pub ended : (client place : ℕ) (answer : Answer) →

@@ -1,5 +1,9 @@
 //! `Found`: what an exploration of a plan finds. `explore_report` reads it.
+ghost use Rattle.std.specs.Prelude.{◌≡◌, false};
+ghost use Rattle.explore_core.specs.Search.{IsEmptyFound};
+
 use command_core::Answer;
+use std::alloc::Global;
 
 /// An answer that a line gives in some schedule.
 #[derive(Drop)]
@@ -39,4 +43,23 @@ pub struct Found {
     pub states: usize,
     /// Whether every schedule was covered.
     pub covered: bool,
+    /// Whether the search has stopped since memory was refused, or a plan has more than `SCHEDULED_CLIENTS` clients.
+    pub out_of_memory: bool,
+}
+
+impl Found {
+    pub(crate) fn none(alloc: Global) -> Found
+        ensures empty { IsEmptyFound result }
+        ensures unfinished { result.covered ≡ false }
+    {
+        Found {
+            given: Vec::new(alloc),
+            ended: Vec::new(alloc),
+            races: Vec::new(alloc),
+            stuck: None,
+            states: 0,
+            covered: false,
+            out_of_memory: false,
+        }
+    }
 }

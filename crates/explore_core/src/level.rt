@@ -6,13 +6,40 @@ ghost use Rattle.explore_core.specs.Search.{KeepsAt, HasSame, has_name, states_o
 
 use crate::look::mix;
 use crate::parts::{Parts, Places};
-use crate::search::Stop;
 use crate::state::State;
 use desk_core::Desk;
 use indexmap::IndexMap;
 use point_core::Name;
 use std::alloc::{AllocError, Global};
 use std::marker::Model;
+
+/// Why a level is not visited to its end.
+#[derive(Clone, Copy)]
+pub(crate) enum Stop {
+    Memory,
+    /// There are more states than the bound.
+    Bound,
+}
+
+impl From<AllocError> for Stop {
+    ghost use Rattle.std.specs.Prelude.{◌≡◌};
+    ghost use Rattle.explore_core.specs.declared.level.Stop.TheVariants.{Memory};
+
+    ghost from_gives = { λ _ r. r ≡ Memory };
+
+    fn from(_error: AllocError) -> Self {
+        Stop::Memory
+    }
+}
+
+impl Stop {
+    pub(crate) fn is_memory(self) -> bool {
+        match self {
+            Stop::Memory => true,
+            Stop::Bound => false,
+        }
+    }
+}
 
 /// The states, the places of their looks among the parts, and a table by hashes. The table is a hint: a state that it suggests is
 /// compared as a whole, and a state that it misses is kept twice.

@@ -24,8 +24,10 @@ mod position;
 mod progress;
 mod races;
 mod search;
+mod setup;
 mod state;
 mod table;
+mod tour;
 mod trial;
 mod visit;
 
@@ -37,3 +39,4 @@ pub use list::SCHEDULED_CLIENTS;
 pub use plan::{Branch, Plan, Step};
 pub use position::{line_at, make};
 pub use progress::{clear_made, count_to, place_of};
+pub use search::Search;

@@ -22,7 +22,7 @@ returns-in_err-record-clause-grows c =
     let both = subst (λ (ms : List ℕ). RaceAt plan ms c.args.one c.args.other) made (c.is_race.ensures.is c.if-not-is_race.false) in
     let happens : IsRace plan state.schedule.items c.args.one c.args.other = record { now = standing_at plan state; comes = c.requires.state.comes; both = both } in
     Grows-race plan c.args.depth c.args.found.now _ c.args.one c.args.other c.as_slice-2.result.now c.record.ensures.records
-    (subst (λ (s : List ℕ). IsRace plan s c.args.one c.args.other) (sym c.as_slice-2.ensures.value) happens) refl refl refl refl
+    (subst (λ (s : List ℕ). IsRace plan s c.args.one c.args.other) (sym c.as_slice-2.ensures.value) happens) refl refl refl refl refl
 
 pub returns-clause-grows : goal.returns-clause-grows
 returns-clause-grows c =
@@ -32,7 +32,7 @@ returns-clause-grows c =
     let both = subst (λ (ms : List ℕ). RaceAt plan ms c.args.one c.args.other) made (c.is_race.ensures.is c.if-not-is_race.false) in
     let happens : IsRace plan state.schedule.items c.args.one c.args.other = record { now = standing_at plan state; comes = c.requires.state.comes; both = both } in
     Grows-race plan c.args.depth c.args.found.now _ c.args.one c.args.other c.as_slice-2.result.now c.record.ensures.records
-    (subst (λ (s : List ℕ). IsRace plan s c.args.one c.args.other) (sym c.as_slice-2.ensures.value) happens) refl refl refl refl
+    (subst (λ (s : List ℕ). IsRace plan s c.args.one c.args.other) (sym c.as_slice-2.ensures.value) happens) refl refl refl refl refl
 
 pub returns-clause-lists : goal.returns-clause-lists
 returns-clause-lists c = λ race. c.in_ok-record.ensures.lists
