@@ -13,8 +13,8 @@ use Rattle.std.proofs.lemmas.Option.{IfSome_then, none-some, same_Some, slice_ge
 use Rattle.point_core.specs.Named.{same_name}
 use Rattle.explore_core.specs.declared.flow.Put.{Put}
 use Rattle.explore_core.specs.declared.plan.Step.{Step}
-use Rattle.explore_core.specs.Flow.{AllowsAll, AreBounded, RespectsBounds, StaysWithin, HasRoom, files_by, files_by_lines, files_by_plan, has_put, is_put}
-use Rattle.explore_core.specs.Independence.{Bounds}
+use Rattle.explore_core.specs.Flow.{AllowsAll, has_put, is_put}
+use Rattle.explore_core.specs.Room.{LeadForward, files_by, files_by_lines, files_by_plan}
 use Rattle.explore_core.specs.Schedule.{Lines}
 use Rattle.command_core.specs.declared.command.Command.{Command}
 use Rattle.syncfile_core.specs.declared.files.TheConstants.{FILES}
@@ -86,12 +86,9 @@ module _ (plan : Lines) (first : List Command) (clients : List (Vec Step Global)
       sym (sum-map files_by_lines (λ (lines : Vec Step Global). lines.items) clients) ∙ ap (sum_by files_by_lines) clients-are in
       omega (arith, firsts, lines, before, is))
 
-  pub stays-within : (bounds : Bounds) → HasRoom plan → All (RespectsBounds bounds) first → All (λ (lines : Vec Step Global). AreBounded bounds lines.items) clients → StaysWithin bounds plan
-  stays-within bounds room respect bounded = record {
-    first = subst (All (RespectsBounds bounds)) first-is respect;
-    clients = subst (All (AreBounded bounds)) clients-are (All-map (AreBounded bounds) (λ (lines : Vec Step Global). lines.items) clients bounded);
-    room = room;
-  }
+pub lead-forward : (plan : Lines) (clients : List (Vec Step Global)) → map (λ (lines : Vec Step Global). lines.items) clients ≡ plan.clients
+    → All (λ (lines : Vec Step Global). LeadForward lines.items) clients → All LeadForward plan.clients
+lead-forward plan clients are forward = subst (All LeadForward) are (All-map LeadForward (λ (lines : Vec Step Global). lines.items) clients forward)
 
 -- what a file or a buffer allows
 

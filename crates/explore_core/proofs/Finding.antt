@@ -322,8 +322,8 @@ chosen-all plan {found} {next} now n chosen all before client is = elim (cases_l
 pub IsLeft-chosen : {plan : Lines} {depth : ℕ} {found : Found} {next : List State} {chooser : Chooser} {kept : Choice} (state : State) → IsState plan depth state → IsReady plan chooser
     → IsChoiceAt plan chooser (standing_at plan state) kept → ((client : ℕ) → (choice_of kept).chosen client ≡ true → IsFollowed plan found next (standing_at plan state) client) → IsLeft plan found next state
 IsLeft-chosen {plan} {chooser = chooser} {kept = kept} state is ready chosen followed = inr (record {
-  bounds = bounds_of chooser.flow;
-  calm = calm-later (bounds_of chooser.flow) plan state.schedule.items (standing_at plan state) (ready chosen.chooses) is.comes;
+  bounds = bounds_of kept.flow;
+  calm = calm-later plan state.schedule.items (standing_at plan state) (ready chosen.chooses) is.comes;
   choice = choice_of kept;
   persistent = chosen.persistent;
   followed = followed;

@@ -1,14 +1,12 @@
--- A plan that stays within bounds is calm.
-use Rattle.std.proofs.Common.{◌≡◌, ℕ, zero, suc, ◌+◌, ◌<◌, ◌≤◌, Bool, true, false, not, ◌&&◌, cond, refl, sym, ap, ◌∙◌, subst, List, [], ◌∷◌, ◌++◌, length, length-append, filter, get_or, set, slice_get, replicate, Option, None, Some, option_map, unwrap_or, arith, if◌then◌else◌, inl, inr}
-use Rattle.std.specs.Prelude.{All, Contains, IfSome}
-use Rattle.std.specs.List.{position_from, sum_by}
+-- What commands put into files and buffers stays within bounds.
+use Rattle.std.proofs.Common.{◌≡◌, ℕ, ◌+◌, ◌<◌, ◌≤◌, Bool, true, false, not, ◌&&◌, cond, refl, sym, ap, ◌∙◌, subst, List, [], ◌∷◌, ◌++◌, length, filter, slice_get, Option, None, Some, option_map, unwrap_or, arith, if◌then◌else◌, inl, inr}
+use Rattle.std.specs.Prelude.{All, Contains}
+use Rattle.std.specs.List.{position_from}
 use Rattle.std.specs.Option.{option_or}
 use Rattle.std.specs.Cmp.Lexicographic.{same_text}
 use Rattle.std.proofs.lemmas.Bool.{cases_Bool, false≢true, and_parts}
-use Rattle.std.proofs.lemmas.List.{length-replicate, length-set}
-use Rattle.std.proofs.lemmas.List.Elements.{All-nil, All-cons, All-head, All-tail, All-append, All-map, All-filter, All-weaker, All-contains, All-contains_itself}
-use Rattle.std.proofs.lemmas.List.Sums.{sum_by-cons}
-use Rattle.std.proofs.lemmas.Option.{none-some, same_Some}
+use Rattle.std.proofs.lemmas.List.Elements.{All-nil, All-cons, All-append, All-map, All-filter, All-weaker, All-contains, All-contains_itself}
+use Rattle.std.proofs.lemmas.Option.{same_Some}
 use Rattle.point_core.specs.declared.context.TheConstants.{CONTEXTS}
 use Rattle.point_core.specs.declared.entry.Entry.{Entry}
 use Rattle.point_core.specs.declared.refusal.Refusal.TheVariants.{NoEntry, Exists, Limit, Flags, Cancelled as AlreadyClosed}
@@ -25,33 +23,26 @@ use Rattle.timeline_core.proofs.Lookups.{position_from-more}
 use Rattle.timeline_core.proofs.Places.{IsPlace, place_from-has_timeline, context_of-place, name-place}
 use Rattle.timeline_core.proofs.Raising.{names_of-raised, names_of-shut}
 use Rattle.timeline_core.proofs.Storing.{reach_of-new}
-use Rattle.command_core.specs.declared.answer.Answer.{Answer}
 use Rattle.command_core.specs.declared.command.Command.{Command}
 use Rattle.command_core.specs.declared.command.Command.TheVariants as command
-use Rattle.desk_core.specs.theorem.World.{World, MadeFile, MadeBuffer, after, empty_world, file_named, files_without, has_file, put_set, has_made_buffer, buffer_put_set, put_into, with_put}
+use Rattle.desk_core.specs.theorem.World.{World, MadeFile, MadeBuffer, after, file_named, files_without, has_file, put_set, has_made_buffer, buffer_put_set, put_into, with_put}
 use Rattle.desk_core.specs.theorem.Answer.{answer_to, causes, cause, first_of, is_refused, making_file}
 use Rattle.desk_core.specs.theorem.History.{world_of}
 use Rattle.desk_core.specs.Sound.{IsSound, IsFilePoint, IsOfMade}
 use Rattle.desk_core.proofs.Buffers.{buffer_put_set-All, buffer_put_set-new, buffer_put_set-other, buffer_put_set-put, same_or_other}
 use Rattle.desk_core.proofs.Keeping.{put_set-made}
 use Rattle.desk_core.proofs.Sound.{IsAtLeast-raised, IsAtLeast-shut, causes-accepted, context_of-made, first_of-none, not-false}
-use Rattle.explore_core.specs.declared.plan.Step.{Step}
 use Rattle.explore_core.specs.Alike.{after_answer}
-use Rattle.explore_core.specs.Branch.{Branching}
-use Rattle.explore_core.specs.Flow.{AllowsAll, AreBounded, LeadsForward, RespectsBounds, StaysWithin, files_by_plan, files_by_lines, files_by}
-use Rattle.explore_core.specs.Found.{CanBeExplored}
+use Rattle.explore_core.specs.Flow.{AllowsAll, RespectsBounds}
 use Rattle.explore_core.specs.Independence.{AreReached, Bounds, IsWithin}
-use Rattle.explore_core.specs.Persistent.{IsCalm}
-use Rattle.explore_core.specs.Schedule.{Lines, Standing, Schedule, answer_now, history_with, history_along, beginning, is_taken, made_by, next_line, place_by, place_after, after_line, Leads}
-use Rattle.explore_core.proofs.Covering.{world-with, sound-along, sound-empty, sound-with}
+use Rattle.explore_core.specs.Schedule.{history_with}
+use Rattle.explore_core.proofs.Covering.{world-with}
 use Rattle.explore_core.proofs.Leaving.{context-same}
-use Rattle.explore_core.proofs.Moving.{line-made}
-use Rattle.explore_core.proofs.Naming.{named-push, named-without_named, length-without_named}
-use Rattle.explore_core.proofs.Scheduling.{none-comes, no_watches-of}
+use Rattle.explore_core.proofs.Naming.{named-push, named-without_named}
 
 -- contexts and names
 
-no-place : (ts : List Timeline) (name : List ℕ) → position_from (is_named name) 0 ts ≡ None → context_of ts name ≡ 0
+pub no-place : (ts : List Timeline) (name : List ℕ) → position_from (is_named name) 0 ts ≡ None → context_of ts name ≡ 0
 no-place ts name is = ap (λ o. unwrap_or o 0) (position_from-more (is_named name) 0 ts ∙ ap (option_map (λ k. k + 1)) is)
 
 -- two names of one context are the same
@@ -252,159 +243,5 @@ module _ (bounds : Bounds) (w : World) (sound : IsSound w) (within : IsWithin bo
       by true is = within
       by false is = within-after c respects (causes-accepted w c is)
 
-within-with : (bounds : Bounds) (history : List Command) (c : Command) → IsSound (world_of history) → IsWithin bounds (world_of history) → RespectsBounds bounds c → IsWithin bounds (world_of (history_with history c))
+pub within-with : (bounds : Bounds) (history : List Command) (c : Command) → IsSound (world_of history) → IsWithin bounds (world_of history) → RespectsBounds bounds c → IsWithin bounds (world_of (history_with history c))
 within-with bounds history c sound within respects = subst (IsWithin bounds) (sym (world-with history c)) (within-answered bounds (world_of history) sound within c respects)
-
-within-along : (bounds : Bounds) (history cs : List Command) → IsSound (world_of history) → IsWithin bounds (world_of history) → All (RespectsBounds bounds) cs → IsWithin bounds (world_of (history_along history cs))
-within-along bounds history [] sound within respect = within
-within-along bounds history (c ∷ cs) sound within respect =
-    within-along bounds (history_with history c) cs (sound-with history c sound)
-    (within-with bounds history c sound within (All-head (RespectsBounds bounds) c cs respect)) (All-tail (RespectsBounds bounds) c cs respect)
-
-within-empty : (bounds : Bounds) → IsWithin bounds empty_world
-within-empty bounds = record {
-  files = λ file name isnt. are-reached (reach_of []) [] (context_of [] name) (All-nil (Reached (reach_of []) (context_of [] name)));
-  buffers = λ buffer name isnt. are-reached (reach_of []) [] (context_of [] name) (All-nil (Reached (reach_of []) (context_of [] name)));
-}
-
--- how many files there are
-
-abbrev files_in : World → ℕ
-files_in w = length w.files
-
-one-more : (fs : List MadeFile) (f : MadeFile) → length (fs ++ f ∷ []) ≤ length fs + 1
-one-more fs f = omega (arith, length-append {A = MadeFile})
-
-files-after : (w : World) (c : Command) → files_in (after w c) ≤ files_in w + files_by c
-files-after w (command.Fence f t p) = one-more w.files _
-files-after w (command.Merge f a b) = one-more w.files _
-files-after w (command.Export f b flags) = one-more w.files _
-files-after w (command.Close f) = omega (arith, length-without_named (λ (f : MadeFile). f.name) w.files f)
-files-after w _ = omega arith
-
-files-with : (history : List Command) (c : Command) → files_in (world_of (history_with history c)) ≤ files_in (world_of history) + files_by c
-files-with history c =
-    subst (λ v. files_in v ≤ files_in (world_of history) + files_by c) (sym (world-with history c)) (by (world_of history) (is_refused (answer_to (world_of history) c)))
-  where
-    by : (w : World) (r : Bool) → files_in (if r then w else after w c) ≤ files_in w + files_by c
-    by w true = omega arith
-    by w false = files-after w c
-
-files-along : (history cs : List Command) → files_in (world_of (history_along history cs)) ≤ files_in (world_of history) + sum_by files_by cs
-files-along history [] = omega arith
-files-along history (c ∷ cs) =
-    let one = files-with history c in
-    let rest = files-along (history_with history c) cs in
-    let more = sum_by-cons files_by c cs in
-    omega (arith, one, rest, more)
-
--- how many files the lines make that are not made yet
-
-abbrev files_from : List Step → ℕ → ℕ
-files_from [] place = 0
-files_from (line ∷ lines) zero = files_by line.command + files_from lines zero
-files_from (line ∷ lines) (suc place) = files_from lines place
-
-abbrev files_ahead : List (List Step) → List ℕ → ℕ
-files_ahead [] made = 0
-files_ahead (lines ∷ clients) [] = 0
-files_ahead (lines ∷ clients) (place ∷ made) = files_from lines place + files_ahead clients made
-
-all-files : (lines : List Step) → files_from lines 0 ≡ files_by_lines lines
-all-files [] = refl
-all-files (line ∷ lines) = ap (λ n. files_by line.command + n) (all-files lines) ∙ sym (sum_by-cons (λ (step : Step). files_by step.command) line lines)
-
-ahead-first : (clients : List (List Step)) → files_ahead clients (replicate (length clients) 0) ≡ sum_by files_by_lines clients
-ahead-first [] = refl
-ahead-first (lines ∷ clients) =
-    ap (λ n. n + files_ahead clients (replicate (length clients) 0)) (all-files lines)
-    ∙ ap (λ n. files_by_lines lines + n) (ahead-first clients) ∙ sym (sum_by-cons files_by_lines lines clients)
-
-fewer : (lines : List Step) (place : ℕ) → files_from lines place ≤ files_from lines 0
-fewer [] place = omega arith
-fewer (line ∷ lines) zero = omega arith
-fewer (line ∷ lines) (suc place) = let rest = fewer lines place in omega (arith, rest)
-
-line-passed : (lines : List Step) (place next : ℕ) (line : Step) → slice_get lines place ≡ Some line → place < next → files_by line.command + files_from lines next ≤ files_from lines place
-line-passed [] place next line at ahead = absurd (none-some line at)
-line-passed (other ∷ lines) place zero line at ahead = absurd (omega (arith, ahead))
-line-passed (other ∷ lines) zero (suc next) line at ahead =
-    let same : files_by other.command ≡ files_by line.command = ap (λ (s : Step). files_by s.command) (same_Some other line at) in
-    let rest = fewer lines next in
-    omega (arith, same, rest)
-line-passed (other ∷ lines) (suc place) (suc next) line at ahead = line-passed lines place next line at (omega (arith, ahead))
-
-client-passed : (clients : List (List Step)) (made : List ℕ) (client next : ℕ) (line : Step) → length made ≡ length clients → slice_get (unwrap_or (slice_get clients client) []) (get_or made client 0) ≡ Some line → get_or made client 0 < next
-    → files_by line.command + files_ahead clients (set made client next) ≤ files_ahead clients made
-client-passed [] made client next line same at ahead = absurd (none-some line at)
-client-passed (lines ∷ clients) [] client next line same at ahead = absurd (omega (arith, same))
-client-passed (lines ∷ clients) (place ∷ made) zero next line same at ahead = let one = line-passed lines place next line at ahead in omega (arith, one)
-client-passed (lines ∷ clients) (place ∷ made) (suc client) next line same at ahead =
-    let rest = client-passed clients made client next line (omega (arith, same)) at ahead in
-    omega (arith, rest)
-
-goes-forward : (line : Step) (place : ℕ) (given : Answer) → LeadsForward place line → place < place_after line place given
-goes-forward line place given forward = by line.branch forward
-  where
-    taken : (b : Branching) (r : Bool) → place < b.otherwise → place < (if r then place + 1 else b.otherwise)
-    taken b true ahead = omega arith
-    taken b false ahead = ahead
-
-    by : (o : Option Branching) → IfSome o (λ (b : Branching). place < b.otherwise) → place < place_by o place given
-    by None forward = omega arith
-    by (Some b) forward = taken b (is_taken b given) forward
-
--- along a schedule
-
-record IsKept (bounds : Bounds) (plan : Lines) (now : Standing) : Type 0 where
-  sound : IsSound (world_of now.history)
-  within : IsWithin bounds (world_of now.history)
-  clients : length now.made ≡ length plan.clients
-  files : files_in (world_of now.history) + files_ahead plan.clients now.made ≤ files_by_plan plan
-
-client-bounded : (bounds : Bounds) (clients : List (List Step)) (client : ℕ) → All (AreBounded bounds) clients → AreBounded bounds (unwrap_or (slice_get clients client) [])
-client-bounded bounds [] client all = λ place step at. absurd (none-some step at)
-client-bounded bounds (lines ∷ clients) zero all = All-head (AreBounded bounds) lines clients all
-client-bounded bounds (lines ∷ clients) (suc client) all = client-bounded bounds clients client (All-tail (AreBounded bounds) lines clients all)
-
-module _ (bounds : Bounds) (plan : Lines) (stays : StaysWithin bounds plan) where
-  kept-first : IsKept bounds plan (beginning plan)
-  kept-first =
-      let ahead = ahead-first plan.clients in
-      let files : files_in (world_of (history_along [] plan.first)) ≤ 0 + sum_by files_by plan.first = files-along [] plan.first in
-      record {
-        sound = sound-along [] plan.first sound-empty;
-        within = within-along bounds [] plan.first sound-empty (within-empty bounds) stays.first;
-        clients = length-replicate (length plan.clients) 0;
-        files = omega (arith, ahead, files);
-      }
-
-  kept-line : (now : Standing) (client : ℕ) (line : Step) → IsKept bounds plan now → next_line plan now client ≡ Some line → IsKept bounds plan (after_line now client line)
-  kept-line now client line kept is =
-      let one = client-bounded bounds plan.clients client stays.clients (made_by now client) line is in
-      let next : ℕ = place_after line (made_by now client) (answer_now now.history line.command) in
-      let passed = client-passed plan.clients now.made client next line kept.clients is (goes-forward line (made_by now client) (answer_now now.history line.command) one.1) in
-      let more = files-with now.history line.command in
-      let before = kept.files in
-      record {
-        sound = sound-with now.history line.command kept.sound;
-        within = within-with bounds now.history line.command kept.sound kept.within one.0;
-        clients = length-set now.made client next ∙ kept.clients;
-        files = omega (arith, passed, more, before);
-      }
-
-  kept-along : (now : Standing) (schedule : Schedule) (later : Standing) → IsKept bounds plan now → Leads plan now schedule later → IsKept bounds plan later
-  kept-along now [] later kept leads = subst (IsKept bounds plan) leads kept
-  kept-along now (client ∷ schedule) later kept leads =
-      let l = line-made now client (next_line plan now client) leads.0 leads.1 in
-      kept-along leads.0 schedule later (subst (IsKept bounds plan) l.after (kept-line now client l.line kept l.is)) leads.2
-
-  pub stays-calm : CanBeExplored plan → IsCalm bounds plan (beginning plan)
-  stays-calm can = λ schedule later leads.
-      let kept = kept-along (beginning plan) schedule later kept-first leads in
-      let room = stays.room in
-      let files = kept.files in
-      let none = no_watches-of later.history (none-comes plan can schedule later leads) in (
-        record { sound = kept.sound; files = omega (arith, room, files); watches = none.watches },
-        kept.within,
-      )

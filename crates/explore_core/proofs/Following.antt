@@ -64,8 +64,8 @@ answers-append plan (k ∷ a) b from mid leads =
     ∙ ap (λ s. (one ++ answers_of plan s a) ++ answers_of plan mid b) (sym is)
 
 -- from a later standing each world is as calm
-pub calm-later : (bounds : Bounds) (plan : Lines) (schedule : Schedule) (now : Standing) → IsCalm bounds plan (beginning plan) → ComesTo plan schedule now → IsCalm bounds plan now
-calm-later bounds plan schedule now calm comes more later leads = calm (schedule ++ more) later (Leads-append plan schedule more (beginning plan) now later comes leads)
+pub calm-later : (plan : Lines) (schedule : Schedule) (now : Standing) → IsCalm plan (beginning plan) → ComesTo plan schedule now → IsCalm plan now
+calm-later plan schedule now calm comes more later leads = calm (schedule ++ more) later (Leads-append plan schedule more (beginning plan) now later comes leads)
 
 -- a client's line, and then the rest of a schedule that gives the other answers
 
@@ -100,7 +100,7 @@ all-between one before behind =
 length-shorter : (others rest : Schedule) (client : ℕ) → length (others ++ client ∷ rest) ≡ length (others ++ rest) + 1
 length-shorter others rest client = omega (arith, length-append {A = ℕ})
 
-module _ {asked : List ℕ → Bool} {bounds : Bounds} {plan : Lines} (may : MayAsk asked plan) (now : Standing) (choice : Choice) (p : IsPersistent asked bounds plan now choice) (calm : IsCalm bounds plan now) (sound : IsSound (world_of now.history)) where
+module _ {asked : List ℕ → Bool} {bounds : Bounds} {plan : Lines} (may : MayAsk asked plan) (now : Standing) (choice : Choice) (p : IsPersistent asked bounds plan now choice) (calm : IsCalm plan now) (sound : IsSound (world_of now.history)) where
   line-goes : (client : ℕ) (line : Step) → next_line plan now client ≡ Some line → can_be_made now line ≡ true → after_one plan now client ≡ Some (after_line now client line)
   line-goes client line is can = ap (made_line now client) is ∙ ap (λ b. if b then Some (after_line now client line) else None) can
 
@@ -118,7 +118,7 @@ module _ {asked : List ℕ → Bool} {bounds : Bounds} {plan : Lines} (may : May
       → Went others client mid next
   went others client mid next unchosen chosen leads goes =
       let l = line-made mid client (next_line plan mid client) next goes in
-      let st = stand-still may calm p.stops others mid unchosen leads in
+      let st = stand-still may calm p.bounded p.stops others mid unchosen leads in
       let is : next_line plan now client ≡ Some l.line = ap (slice_get (lines_of plan client)) (sym (st.still client chosen)) ∙ l.is in
       elim (p.chosen client l.line chosen is) [
         | inl free ↦ record { line = l.line; is = is; is_later = l.is; free = free; first = st.free client l.line chosen is free; place = st.still client chosen; after = l.after }
@@ -168,7 +168,7 @@ module _ {asked : List ℕ → Bool} {bounds : Bounds} {plan : Lines} (may : May
   added schedule last leads unchosen =
       let client = p.goes.0 in
       let line = p.goes.2 in
-      let still = stand-still may calm p.stops schedule last unchosen leads in
+      let still = stand-still may calm p.bounded p.stops schedule last unchosen leads in
       let m = still.free client line p.goes.1 p.goes.3 p.goes.4 in
       let can : can_be_made last line ≡ true = ap (λ given. not (line.waits && is_refused given)) m.answer ∙ p.goes.4.can in
       let goes : after_one plan last client ≡ Some (after_line last client line) = ap (made_line last client) m.next ∙ ap (λ b. if b then Some (after_line last client line) else None) can in

@@ -27,4 +27,6 @@ pub mod Racing
 pub mod Following
 pub mod Bounding
 pub mod Flowing
+pub mod Calming
+pub mod Holding
 pub mod Settling

@@ -27,11 +27,12 @@ use Rattle.desk_core.proofs.Keeping.{put_set-made}
 use Rattle.explore_core.specs.Branch.{Branching}
 use Rattle.explore_core.specs.Covering.{MayAsk}
 use Rattle.explore_core.specs.declared.plan.Step.{Step}
-use Rattle.explore_core.specs.Independence.{AreIndependent, Bounds, IsNarrow}
+use Rattle.explore_core.specs.Independence.{AreIndependent, Bounds, IsNarrow, IsWithin}
 use Rattle.explore_core.specs.Moving.{AllGoBeside, IsPatient}
-use Rattle.explore_core.specs.Persistent.{Choice, ChosenStandStill, IsAhead, changes_file, changes_timeline, IsCalm, IsPendingFor, IsHeld, StopsOthers, IsFree}
+use Rattle.explore_core.specs.Persistent.{Choice, ChosenStandStill, IsAhead, changes_file, changes_timeline, IsCalm, IsPendingFor, IsHeld, KeepsWithin, StopsOthers, IsFree}
 use Rattle.explore_core.specs.Schedule.{Lines, Standing, Schedule, answer_now, is_taken, lines_of, made_by, next_line, can_be_made, place_by, place_after, after_line, made_line, after_one, Leads}
 use Rattle.explore_core.proofs.Covering.{world-with}
+use Rattle.explore_core.proofs.Flowing.{within-with}
 use Rattle.explore_core.proofs.Leaving.{own, apart, turned, clock-raised, clock-shut, file-made, file-closed, has-same, context-same, names-after}
 use Rattle.explore_core.proofs.Moving.{line-made, after-is, go-first}
 use Rattle.explore_core.proofs.Scheduling.{Leads-push}
@@ -216,21 +217,23 @@ module _ (plan : Lines) (now : Standing) (choice : Choice) (sound : IsSound (wor
         stay-along others leads.0 later (subst (Stays plan now choice) l.after (stays-after at s other l.line isnt ahead)) (All-tail (λ k. choice.chosen k ≡ false) other others unchosen) leads.2
 
     -- along it a free line is independent of each line
-    go-beside : (asked : List ℕ → Bool) (bounds : Bounds) → IsCalm bounds plan now → (others done : Schedule) (at later : Standing) → Leads plan now done at → Stays plan now choice at
-        → All (λ k. choice.chosen k ≡ false) others → Leads plan at others later → (client : ℕ) (line : Step) → choice.chosen client ≡ true → IsFree asked bounds plan now choice line
+    go-beside : (asked : List ℕ → Bool) (bounds : Bounds) → IsCalm plan now → KeepsWithin bounds plan now choice → (others done : Schedule) (at later : Standing) → Leads plan now done at → Stays plan now choice at
+        → IsWithin bounds (world_of at.history) → All (λ k. choice.chosen k ≡ false) others → Leads plan at others later → (client : ℕ) (line : Step) → choice.chosen client ≡ true → IsFree asked bounds plan now choice line
         → AllGoBeside asked bounds plan client line.command at others
-    go-beside asked bounds calm [] done at later came s unchosen leads client line chosen free = tt
-    go-beside asked bounds calm (other ∷ others) done at later came s unchosen leads client line chosen free =
+    go-beside asked bounds calm kept [] done at later came s within unchosen leads client line chosen free = tt
+    go-beside asked bounds calm kept (other ∷ others) done at later came s within unchosen leads client line chosen free =
         let isnt = All-head (λ k. choice.chosen k ≡ false) other others unchosen in
         let l = line-made at other (next_line plan at other) leads.0 leads.1 in
         let ahead = is-ahead at s other l.line isnt l.is l.can in
-        let rest = go-beside asked bounds calm others (done ++ other ∷ []) leads.0 later (Leads-push plan now done at other leads.0 came leads.1)
-        (subst (Stays plan now choice) l.after (stays-after at s other l.line isnt ahead)) (All-tail (λ k. choice.chosen k ≡ false) other others unchosen) leads.2 client line chosen free in
+        let roomy = calm done at came in
+        let within' = within-with bounds at.history l.line.command roomy.sound within (kept.ahead other (made_by at other) l.line ahead) in
+        let rest = go-beside asked bounds calm kept others (done ++ other ∷ []) leads.0 later (Leads-push plan now done at other leads.0 came leads.1)
+        (subst (Stays plan now choice) l.after (stays-after at s other l.line isnt ahead)) (subst (λ (n : Standing). IsWithin bounds (world_of n.history)) l.after within') (All-tail (λ k. choice.chosen k ≡ false) other others unchosen) leads.2 client line chosen free in
         let same : (given : Step) → next_line plan at other ≡ Some given → l.line ≡ given = λ given is. same_Some l.line given (sym l.is ∙ is) in (
           record {
             apart = λ is. false≢true (sym isnt ∙ ap choice.chosen is ∙ chosen);
-            roomy = (calm done at came).0;
-            within = (calm done at came).1;
+            roomy = roomy;
+            within = within;
             independent = λ given is. subst (λ (t : Step). AreIndependent asked bounds line.command t.command) (same given is) (free.independent other (made_by at other) l.line ahead);
             patient = λ given is. subst (λ (t : Step). IsPatient t.command t.waits) (same given is) (stops.patient other (made_by at other) l.line ahead);
           },
@@ -254,14 +257,14 @@ still-next plan now choice at client s chosen = ap (slice_get (lines_of plan cli
 not-made : (plan : Lines) (at : Standing) (client : ℕ) (line : Step) → next_line plan at client ≡ Some line → can_be_made at line ≡ false → after_one plan at client ≡ None
 not-made plan at client line is cannot = ap (made_line at client) is ∙ ap (λ b. if b then Some (after_line at client line) else None) cannot
 
-pub stand-still : {asked : List ℕ → Bool} {bounds : Bounds} {plan : Lines} {now : Standing} {choice : Choice} → MayAsk asked plan → IsCalm bounds plan now → StopsOthers plan now choice
+pub stand-still : {asked : List ℕ → Bool} {bounds : Bounds} {plan : Lines} {now : Standing} {choice : Choice} → MayAsk asked plan → IsCalm plan now → KeepsWithin bounds plan now choice → StopsOthers plan now choice
     → (others : Schedule) (later : Standing) → All (λ k. choice.chosen k ≡ false) others → Leads plan now others later → ChosenStandStill asked bounds plan now choice others later
-stand-still {asked} {bounds} {plan} {now} {choice} may calm stops others later unchosen leads =
-    let sound = (calm [] now refl).0.sound in
+stand-still {asked} {bounds} {plan} {now} {choice} may calm kept stops others later unchosen leads =
+    let sound = (calm [] now refl).sound in
     record {
       free = λ client line chosen is free.
           go-first may client line free.patient bounds others now later is free.can sound
-          (go-beside plan now choice sound stops asked bounds calm others [] now later refl (stays-first plan now choice sound stops) unchosen leads client line chosen free) leads;
+          (go-beside plan now choice sound stops asked bounds calm kept others [] now later refl (stays-first plan now choice sound stops) kept.pending unchosen leads client line chosen free) leads;
       still = λ client chosen. (stay-along plan now choice sound stops others now later (stays-first plan now choice sound stops) unchosen leads).still client chosen;
       further = λ client isnt.
           let s = stay-along plan now choice sound stops others now later (stays-first plan now choice sound stops) unchosen leads in

@@ -32,8 +32,8 @@ use Rattle.desk_core.proofs.Keeping.{AgreesAbove-keeps, has_sync_file-names, put
 use Rattle.desk_core.proofs.Stepping.{causes-keeps}
 use Rattle.explore_core.specs.declared.plan.Step.{Step}
 use Rattle.explore_core.specs.Choice.{IsOrderly, IsSettled, OneGoes, StaysPending}
-use Rattle.explore_core.specs.Independence.{Bounds}
-use Rattle.explore_core.specs.Persistent.{Choice, IsAhead, IsPendingFor, IsPersistent, StopsOthers}
+use Rattle.explore_core.specs.Independence.{Bounds, IsWithin}
+use Rattle.explore_core.specs.Persistent.{Choice, IsAhead, IsPendingFor, IsPersistent, KeepsWithin, StopsOthers}
 use Rattle.explore_core.specs.Schedule.{Lines, Standing, answer_now, made_by}
 use Rattle.explore_core.specs.Search.{has_name, is_asked}
 use Rattle.explore_core.proofs.Showing.{Contains-map}
@@ -52,7 +52,7 @@ signalled-reached ts p =
 
 -- a pending point of a timeline has an entry among what was put into the file
 
-later-one : (es : List Entry) (ctx floor value : ℕ) (o : Option ℕ) → top es 0 ctx ≡ o → floor < value → value ≤ raised_to floor o
+pub later-one : (es : List Entry) (ctx floor value : ℕ) (o : Option ℕ) → top es 0 ctx ≡ o → floor < value → value ≤ raised_to floor o
     → (e : Entry) × Contains es e × (e.point.ctx ≡ ctx) × (floor < e.point.value)
 later-one es ctx floor value None is high low = absurd (omega (arith, high, low))
 later-one es ctx floor value (Some q) is high low =
@@ -135,6 +135,13 @@ IsPendingFor-stays {plan} {now} {choice} {desk} file p stands there s =
 
 -- a persistent choice, client by client
 
+pub KeepsWithin-settled : {asked : List ℕ → Bool} {bounds : Bounds} {plan : Lines} {now : Standing} {choice : Choice}
+    → IsWithin bounds (world_of now.history) → ((client : ℕ) → IsSettled asked bounds plan now choice client) → KeepsWithin bounds plan now choice
+KeepsWithin-settled within settled = record {
+  pending = within;
+  ahead = λ client place line ahead. (((settled client).other ahead.other).orderly place ahead.from ahead.below line ahead.is).respects;
+}
+
 pub StopsOthers-settled : {asked : List ℕ → Bool} {bounds : Bounds} {plan : Lines} {now : Standing} {choice : Choice}
     → ((client : ℕ) → IsSettled asked bounds plan now choice client) → StopsOthers plan now choice
 StopsOthers-settled {asked} {bounds} {plan} {now} {choice} settled = record {
@@ -145,12 +152,13 @@ StopsOthers-settled {asked} {bounds} {plan} {now} {choice} settled = record {
   patient = λ client place line ahead. (ordered client place line ahead).patient;
 }
   where
-    ordered : (client place : ℕ) (line : Step) → IsAhead plan now choice client place line → IsOrderly (choice.limit client) place line
+    ordered : (client place : ℕ) (line : Step) → IsAhead plan now choice client place line → IsOrderly bounds (choice.limit client) place line
     ordered client place line ahead = ((settled client).other ahead.other).orderly place ahead.from ahead.below line ahead.is
 
 pub IsPersistent-settled : {asked : List ℕ → Bool} {bounds : Bounds} {plan : Lines} {now : Standing} {choice : Choice}
-    → ((client : ℕ) → IsSettled asked bounds plan now choice client) → OneGoes asked bounds plan now choice → IsPersistent asked bounds plan now choice
-IsPersistent-settled settled goes = record {
+    → IsWithin bounds (world_of now.history) → ((client : ℕ) → IsSettled asked bounds plan now choice client) → OneGoes asked bounds plan now choice → IsPersistent asked bounds plan now choice
+IsPersistent-settled within settled goes = record {
+  bounded = KeepsWithin-settled within settled;
   stops = StopsOthers-settled settled;
   chosen = λ client line chosen next. (settled client).chosen chosen line next;
   goes = goes;

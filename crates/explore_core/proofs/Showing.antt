@@ -77,7 +77,7 @@ Contains-map f (z ∷ xs) x h = elim (Contains-cases z xs x h) [
   | inr rest ↦ Contains-tail (f z) (map f xs) (f x) (Contains-map f xs x rest)
 ]
 
-Contains-unmap : {X Y : Type 0} (f : X → Y) (xs : List X) (y : Y) → Contains (map f xs) y → (x : X) × Contains xs x × (f x ≡ y)
+pub Contains-unmap : {X Y : Type 0} (f : X → Y) (xs : List X) (y : Y) → Contains (map f xs) y → (x : X) × Contains xs x × (f x ≡ y)
 Contains-unmap f [] y h = absurd (Contains-nil y h)
 Contains-unmap f (z ∷ xs) y h = elim (Contains-cases (f z) (map f xs) y h) [
   | inl same ↦ (z, Contains-head z xs, same)
@@ -104,7 +104,7 @@ or-right : (a b : Bool) → b ≡ true → (a || b) ≡ true
 or-right true b is = refl
 or-right false b is = is
 
-listed-Contains : (name : List ℕ) (names : List (List ℕ)) → list_any (same_name name) names ≡ true → Contains names name
+pub listed-Contains : (name : List ℕ) (names : List (List ℕ)) → list_any (same_name name) names ≡ true → Contains names name
 listed-Contains name [] is = absurd (false≢true is)
 listed-Contains name (n ∷ names) is = elim (or-cases (same_name name n) (list_any (same_name name) names) is) [
   | inl same ↦ subst (Contains (n ∷ names)) (sym (same_text name n (sym same))) (Contains-head n names)

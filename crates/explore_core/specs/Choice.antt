@@ -10,6 +10,7 @@ use Rattle.explore_core.specs.declared.choice.Choice.{Choice as KeptChoice}
 use Rattle.explore_core.specs.declared.persistence.Matter.{Matter}
 use Rattle.explore_core.specs.declared.persistence.Matter.TheVariants as matter
 use Rattle.explore_core.specs.declared.plan.Step.{Step}
+use Rattle.explore_core.specs.Flow.{RespectsBounds}
 use Rattle.explore_core.specs.Independence.{AreIndependent, Bounds, IsNarrow}
 use Rattle.explore_core.specs.Moving.{IsPatient}
 use Rattle.explore_core.specs.Persistent.{Choice, IsAhead, IsFree, IsHeld, changes_file, changes_timeline, leaves_no_race}
@@ -42,23 +43,24 @@ ClientLeaves asked bounds plan now choice what client = (place : ℕ) (line : St
 abbrev pub AllLeave : (List ℕ → Bool) → Bounds → Lines → Standing → Choice → Matter → Type 0
 AllLeave asked bounds plan now choice what = (client : ℕ) → ClientLeaves asked bounds plan now choice what client
 
--- after the line at this place the client is further, and not past its limit
-pub record IsOrderly (limit place : ℕ) (line : Step) : Type 0 where
+-- after the line at this place the client is further, and not past its limit, and what is pending is within the bounds
+pub record IsOrderly (bounds : Bounds) (limit place : ℕ) (line : Step) : Type 0 where
   pub forward : IfSome line.branch (λ (b : Branching). (place < b.otherwise) × (b.otherwise ≤ limit))
   pub narrow : IsNarrow line.command
   pub patient : IsPatient line.command line.waits
+  pub respects : RespectsBounds bounds line.command
 
 -- the client's line at this place does so
-abbrev pub IsOrderlyAt : Lines → ℕ → ℕ → ℕ → Type 0
-IsOrderlyAt plan client limit place = (line : Step) →
-    slice_get (lines_of plan client) place ≡ Some line → IsOrderly limit place line
+abbrev pub IsOrderlyAt : Bounds → Lines → ℕ → ℕ → ℕ → Type 0
+IsOrderlyAt bounds plan client limit place = (line : Step) →
+    slice_get (lines_of plan client) place ≡ Some line → IsOrderly bounds limit place line
 
 -- the client is stopped by its limit while the chosen clients stand still
-pub record IsStopped (plan : Lines) (now : Standing) (choice : Choice) (client : ℕ) : Type 0 where
+pub record IsStopped (bounds : Bounds) (plan : Lines) (now : Standing) (choice : Choice) (client : ℕ) : Type 0 where
   pub within : made_by now client ≤ choice.limit client
   pub held : (line : Step) → slice_get (lines_of plan client) (choice.limit client) ≡ Some line → IsHeld plan now choice line
   pub orderly : (place : ℕ) → made_by now client ≤ place → place < choice.limit client →
-      IsOrderlyAt plan client (choice.limit client) place
+      IsOrderlyAt bounds plan client (choice.limit client) place
 
 -- the client is done, or its line is free to go or held
 abbrev pub IsFreeOrHeld : (List ℕ → Bool) → Bounds → Lines → Standing → Choice → ℕ → Type 0
@@ -69,7 +71,7 @@ IsFreeOrHeld asked bounds plan now choice client = (line : Step) → next_line p
 pub record IsSettled (asked : List ℕ → Bool) (bounds : Bounds) (plan : Lines) (now : Standing) (choice : Choice)
     (client : ℕ) : Type 0 where
   pub chosen : choice.chosen client ≡ true → IsFreeOrHeld asked bounds plan now choice client
-  pub other : choice.chosen client ≡ false → IsStopped plan now choice client
+  pub other : choice.chosen client ≡ false → IsStopped bounds plan now choice client
 
 -- one of the chosen clients is free to go, and leaves no race
 abbrev pub OneGoes : (List ℕ → Bool) → Bounds → Lines → Standing → Choice → Type 0

@@ -8,11 +8,11 @@ use Rattle.explore_core.specs.Persistent.{IsCalm, IsPersistent}
 use Rattle.explore_core.specs.Schedule.{Lines, Standing, beginning}
 use Rattle.explore_core.specs.Search.{is_asked}
 
--- if the chooser chooses, what it knows of the flow bounds what is pending along each schedule
+-- if the chooser chooses, there is room along each schedule
 abbrev pub IsReady : Lines → Chooser → Type 0
-IsReady plan chooser = chooser.chooses ≡ true → IsCalm (bounds_of chooser.flow) plan (beginning plan)
+IsReady plan chooser = chooser.chooses ≡ true → IsCalm plan (beginning plan)
 
 -- the chooser chooses, and these clients are a persistent choice at the standing
 pub record IsChoiceAt (plan : Lines) (chooser : Chooser) (now : Standing) (kept : Choice) : Type 0 where
   pub chooses : chooser.chooses ≡ true
-  pub persistent : IsPersistent (is_asked plan) (bounds_of chooser.flow) plan now (choice_of kept)
+  pub persistent : IsPersistent (is_asked plan) (bounds_of kept.flow) plan now (choice_of kept)

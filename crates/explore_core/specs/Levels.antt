@@ -20,7 +20,7 @@ pub record FollowsAll (plan : Lines) (found : Found) (next : List State) (now : 
 -- the clients of a persistent choice are followed from the standing
 pub record FollowsChoice (plan : Lines) (found : Found) (next : List State) (now : Standing) : Type 0 where
   pub bounds : Bounds
-  pub calm : IsCalm bounds plan now
+  pub calm : IsCalm plan now
   pub choice : Choice
   pub persistent : IsPersistent (is_asked plan) bounds plan now choice
   pub followed : (client : ℕ) → choice.chosen client ≡ true → IsFollowed plan found next now client

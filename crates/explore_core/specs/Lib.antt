@@ -11,6 +11,7 @@ pub mod Levels
 pub mod Looks
 pub mod Moving
 pub mod Persistent
+pub mod Room
 pub mod Schedule
 pub mod Search
 pub mod Searching

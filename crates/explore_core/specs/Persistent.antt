@@ -13,6 +13,7 @@ use Rattle.explore_core.specs.Access.{conflict, holds, is_inside}
 use Rattle.explore_core.specs.Branch.{Branching}
 use Rattle.explore_core.specs.declared.access.Access.{Access}
 use Rattle.explore_core.specs.declared.plan.Step.{Step}
+use Rattle.explore_core.specs.Flow.{RespectsBounds}
 use Rattle.explore_core.specs.Independence.{AreIndependent, Bounds, IsNarrow, IsRoomy, IsWithin}
 use Rattle.explore_core.specs.Moving.{IsPatient, MayGoFirst}
 use Rattle.explore_core.specs.Schedule.{Lines, Standing, Schedule, lines_of, made_by, next_line, can_be_made, after_one, Leads}
@@ -63,6 +64,11 @@ pub record IsHeld (plan : Lines) (now : Standing) (choice : Choice) (line : Step
       changes_file ahead.command file ≡ false
   pub unsignalled : (has_file (world_of now.history).files file ≡ false) ⊎ IsPendingFor plan now choice file
 
+-- what is pending is within the bounds, and each line ahead respects them
+pub record KeepsWithin (bounds : Bounds) (plan : Lines) (now : Standing) (choice : Choice) : Type 0 where
+  pub pending : IsWithin bounds (world_of now.history)
+  pub ahead : (client place : ℕ) (line : Step) → IsAhead plan now choice client place line → RespectsBounds bounds line.command
+
 -- while the chosen clients stand still, each other is stopped by its limit
 pub record StopsOthers (plan : Lines) (now : Standing) (choice : Choice) : Type 0 where
   pub within : (client : ℕ) → choice.chosen client ≡ false → made_by now client ≤ choice.limit client
@@ -105,18 +111,18 @@ ends_in_time accesses choice client made line a = not (may_end client made line 
 abbrev pub leaves_no_race : List Access → Choice → ℕ → List ℕ → Step → Bool
 leaves_no_race accesses choice client made line = list_all (ends_in_time accesses choice client made line) accesses
 
--- Each chosen client that is not done is free to go or held, and one is free, and leaves no race.
+-- Each chosen client that is not done is free to go or held, and one is free, and leaves no race. What others do is within the bounds.
 pub record IsPersistent (asked : List ℕ → Bool) (bounds : Bounds) (plan : Lines) (now : Standing) (choice : Choice) : Type 0 where
+  pub bounded : KeepsWithin bounds plan now choice
   pub stops : StopsOthers plan now choice
   pub chosen : (client : ℕ) (line : Step) → choice.chosen client ≡ true → next_line plan now client ≡ Some line →
       IsFree asked bounds plan now choice line ⊎ IsHeld plan now choice line
   pub goes : (client : ℕ) × (choice.chosen client ≡ true) × (line : Step) × (next_line plan now client ≡ Some line)
       × IsFree asked bounds plan now choice line × (leaves_no_race plan.accesses choice client now.made line ≡ true)
 
--- along every schedule from here, each world has room and is within the bounds
-abbrev pub IsCalm : Bounds → Lines → Standing → Type 0
-IsCalm bounds plan now = (schedule : Schedule) (later : Standing) → Leads plan now schedule later →
-    IsRoomy (world_of later.history) × IsWithin bounds (world_of later.history)
+-- along every schedule from here, each world has room
+abbrev pub IsCalm : Lines → Standing → Type 0
+IsCalm plan now = (schedule : Schedule) (later : Standing) → Leads plan now schedule later → IsRoomy (world_of later.history)
 
 -- After a schedule of other clients, each chosen client that was free may still go, and might have gone first. No held client can. The
 -- others come further, up to their limits.

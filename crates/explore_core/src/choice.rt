@@ -1,8 +1,10 @@
-//! `Choice`: which clients the reduced search lets go at a state, and how far each other client may come before one of them goes. What
-//! makes it proposes it without a proof (`trial.rt`), and the search follows it only if it passes `is_persistent` (`persistence.rt`).
+//! `Choice`: which clients the reduced search lets go at a state, how far each other client may come before one of them goes, and what
+//! may be pending until then. What makes it proposes it without a proof (`trial.rt`), and the search follows it only if it passes
+//! `is_persistent` (`persistence.rt`).
 ghost use Rattle.std.specs.Prelude.{◌≡◌};
 ghost use Rattle.explore_core.specs.Choice.{choice_of};
 
+use crate::flow::Flow;
 use crate::progress::count_to;
 use std::alloc::{AllocError, Global};
 
@@ -13,6 +15,8 @@ pub(crate) struct Choice {
     pub(crate) chosen: Vec<bool>,
     /// For each client, the place of the line that stops it while the chosen clients stand still: a `wait`, or the end.
     pub(crate) limits: Vec<usize>,
+    /// What may be pending while the chosen clients stand still.
+    pub(crate) flow: Flow,
 }
 
 impl Choice {
@@ -21,6 +25,7 @@ impl Choice {
         Choice {
             chosen: Vec::new(alloc),
             limits: Vec::new(alloc),
+            flow: Flow::new(alloc),
         }
     }
 

@@ -1,7 +1,7 @@
 //! `Chooser`: which clients go at a state. Where a few clients are enough to know where every schedule leads, only these go. It asks
 //! `choose` for a choice, which is followed only if `is_persistent` finds it so. The search has one for a plan.
 //!
-//! Invariant, of a chooser that is ready for the plan: if it chooses, the plan is calm within the bounds of its flow.
+//! Invariant, of a chooser that is ready for the plan: if it chooses, the plan is calm.
 ghost use Rattle.std.specs.Prelude.{◌≡◌, true, IfOk};
 ghost use Rattle.explore_core.specs.Choosing.{IsReady, IsChoiceAt};
 ghost use Rattle.explore_core.specs.Found.{CanBeExplored};
@@ -9,10 +9,10 @@ ghost use Rattle.explore_core.specs.Schedule.{Standing};
 ghost use Rattle.explore_core.specs.Search.{AreAsked, IsAt};
 
 use crate::choice::Choice;
-use crate::flow::Flow;
 use crate::persistence::is_persistent;
 use crate::plan::Plan;
 use crate::position::Position;
+use crate::room::is_calm;
 use crate::trial::choose;
 use point_core::Name;
 use std::alloc::{AllocError, Global};
@@ -28,19 +28,17 @@ pub enum Orders {
 
 #[derive(Drop)]
 pub(crate) struct Chooser {
-    flow: Flow,
     // whether a state's clients are chosen at all
     chooses: bool,
 }
 
 impl Chooser {
-    pub(crate) fn new(alloc: Global, plan: &Plan, orders: Orders) -> Result<Chooser, AllocError>
+    pub(crate) fn new(plan: &Plan, orders: Orders) -> Chooser
         requires explorable { CanBeExplored plan.now }
-        ensures ready { IfOk result (IsReady plan.now) }
+        ensures ready { IsReady plan.now result }
     {
-        let flow = Flow::of(alloc, plan)?;
-        let chooses = orders.are_enough() && flow.is_calm(plan);
-        Ok(Chooser { flow, chooses })
+        let chooses = orders.are_enough() && is_calm(plan);
+        Chooser { chooses }
     }
 
     /// Chooses clients at the state where the position is. Whether no other needs to go there.
@@ -59,8 +57,8 @@ impl Chooser {
         if !self.chooses {
             return Ok(false);
         }
-        choose(alloc, plan, asked, &self.flow, position, choice)?;
-        Ok(is_persistent(plan, asked, &self.flow, position, choice))
+        choose(alloc, plan, asked, position, choice)?;
+        Ok(is_persistent(plan, asked, position, choice))
     }
 }
 

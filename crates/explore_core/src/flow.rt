@@ -1,34 +1,31 @@
-//! `Flow`: for each file and each buffer of a plan, the timelines whose points may get into it, whatever the schedule. A `test` of a
-//! buffer is independent of an increment of any other timeline, so a search follows fewer orders. `is_calm` promises that the flow
-//! bounds what is pending along every schedule. It tests each line of the plan, so no proof depends on how `of` found the flow.
-ghost use Rattle.std.specs.Prelude.{◌≡◌, ◌+◌, true, Vec, All, IfSome};
-ghost use Rattle.std.specs.Global.{Global};
-ghost use Rattle.std.specs.List.{sum_by};
-ghost use Rattle.explore_core.specs.declared.plan.Step.{Step as Line};
-ghost use Rattle.explore_core.specs.Flow.{bounds_of, has_put, is_put, files_by, files_by_lines, files_by_plan, AllowsAll, AreBounded, HasRoom, LeadsForward, RespectsBounds};
-ghost use Rattle.explore_core.specs.Found.{CanBeExplored};
-ghost use Rattle.explore_core.specs.Persistent.{IsCalm};
-ghost use Rattle.explore_core.specs.Schedule.{beginning};
+//! `Flow`: for each file and each buffer, the timelines whose points may be pending there while the chosen clients of a choice stand
+//! still. A `test` of a buffer is independent of an increment of any other timeline, so a search follows fewer orders. The flow has what
+//! is pending at the state, and what the lines ahead put. `has_pending` and `bounds` test this, so no proof depends on how a trial
+//! (`trial.rt`) fills the flow.
+ghost use Rattle.std.specs.Prelude.{◌≡◌, true, All, List};
+ghost use Rattle.std.specs.List.{list_all};
+ghost use Rattle.syncfile_core.specs.Files.{names_of as file_names};
+ghost use Rattle.dmabuf_core.specs.Buffers.{names_of as buffer_names};
+ghost use Rattle.command_core.specs.declared.command.Command.{Command as Made};
+ghost use Rattle.desk_core.specs.theorem.Desk.{HasHistory};
+ghost use Rattle.desk_core.specs.theorem.History.{world_of};
+ghost use Rattle.explore_core.specs.Flow.{bounds_of, has_put, is_put, allows_buffer, allows_context, allows_file, allows_point, allows_row, AllowsAll, RespectsBounds};
+ghost use Rattle.explore_core.specs.Independence.{IsWithin};
 
-use crate::plan::{Plan, Step};
+use crate::persistence::is_reached;
 use command_core::Command;
-use point_core::Name;
+use desk_core::Desk;
+use point_core::{Context, Name, Point, TopRow};
 use std::alloc::{AllocError, Global};
-use syncfile_core::FILES;
 
-/// How many files there must be room for at each standing: two independent lines make two files at most.
-const SPARE_FILES: usize = 2;
-
-const _: () = prove!(SPARE_FILES == 2);
-
-/// For each file and each buffer, the timelines whose points may get into it.
+/// For each file and each buffer, the timelines whose points may be pending in it.
 #[derive(Drop)]
 pub(crate) struct Flow {
     files: Vec<Put>,
     buffers: Vec<Put>,
 }
 
-/// Points of the timeline may get into the file or buffer.
+/// Points of the timeline may be pending in the file or buffer.
 #[derive(Clone, Copy)]
 struct Put {
     into: Name,
@@ -36,77 +33,157 @@ struct Put {
 }
 
 impl Flow {
-    /// What may get into files and buffers by the commands that come first and by the lines of clients.
-    pub(crate) fn of(alloc: Global, plan: &Plan) -> Result<Flow, AllocError> {
-        let mut flow = Flow {
+    pub(crate) fn new(alloc: Global) -> Flow {
+        Flow {
             files: Vec::new(alloc),
             buffers: Vec::new(alloc),
-        };
-        flow.fill(alloc, plan)?;
-        Ok(flow)
+        }
     }
 
-    /// Whether points of the timeline may get into the file.
+    /// Takes over what another flow has.
+    pub(crate) fn begin_as(&mut self, other: &Flow) -> Result<(), AllocError> {
+        self.files.clear();
+        self.buffers.clear();
+        self.files.extend_from_slice(other.files.as_slice())?;
+        self.buffers.extend_from_slice(other.buffers.as_slice())?;
+        Ok(())
+    }
+
+    /// Adds what is pending at the desk.
+    pub(crate) fn add_pending(&mut self, desk: &Desk) -> Result<(), AllocError> {
+        self.add_pending_in_files(desk)?;
+        self.add_pending_in_buffers(desk)
+    }
+
+    fn add_pending_in_files(&mut self, desk: &Desk) -> Result<(), AllocError> {
+        let Ok(files) = desk.file_names() else {
+            return Err(AllocError);
+        };
+        for file in files.as_slice() {
+            self.add_pending_in_file(desk, file)?;
+        }
+        Ok(())
+    }
+
+    fn add_pending_in_buffers(&mut self, desk: &Desk) -> Result<(), AllocError> {
+        let Ok(buffers) = desk.buffer_names() else {
+            return Err(AllocError);
+        };
+        for buffer in buffers.as_slice() {
+            self.add_pending_in_buffer(desk, buffer)?;
+        }
+        Ok(())
+    }
+
+    fn add_pending_in_file(&mut self, desk: &Desk, file: &Name) -> Result<(), AllocError> {
+        let Some(points) = desk.file_points(file) else {
+            return Ok(());
+        };
+        for point in points {
+            if !is_reached(desk, point) {
+                add_context(&mut self.files, desk, file, point.ctx)?;
+            }
+        }
+        Ok(())
+    }
+
+    fn add_pending_in_buffer(&mut self, desk: &Desk, buffer: &Name) -> Result<(), AllocError> {
+        let Ok(rows) = desk.buffer_rows(buffer) else {
+            return Err(AllocError);
+        };
+        for row in rows.as_slice() {
+            add_context(&mut self.buffers, desk, buffer, row.ctx)?;
+        }
+        Ok(())
+    }
+
+    /// Follows the commands until nothing more gets anywhere.
+    pub(crate) fn fill(&mut self, commands: &[Command]) -> Result<(), AllocError> {
+        // Each round but the last gets a timeline one command further.
+        for _ in 0..commands.len() {
+            if !self.follow_all(commands)? {
+                return Ok(());
+            }
+        }
+        Ok(())
+    }
+
+    /// Whether points of the timeline may be pending in the file.
     pub(crate) fn may_reach_file(&self, file: &Name, timeline: &Name) -> bool
         ensures { result ≡ (bounds_of self.now).file file.now timeline.now }
     {
         has_put(self.files.as_slice(), file, timeline)
     }
 
-    /// Whether points of the timeline may get into the buffer.
+    /// Whether points of the timeline may be pending in the buffer.
     pub(crate) fn may_reach_buffer(&self, buffer: &Name, timeline: &Name) -> bool
         ensures { result ≡ (bounds_of self.now).buffer buffer.now timeline.now }
     {
         has_put(self.buffers.as_slice(), buffer, timeline)
     }
 
-    /// Whether the flow bounds what is pending along every schedule of the plan, and each desk has room for two more files. A plan in
-    /// which a client goes back to a line above isn't calm.
-    pub(crate) fn is_calm(&self, plan: &Plan) -> bool
-        requires explorable { CanBeExplored plan.now }
-        ensures calm { result ≡ true → IsCalm (bounds_of self.now) plan.now (beginning plan.now) }
+    /// Whether the flow has each timeline of which a point is pending at the desk. Says no if memory is short.
+    pub(crate) fn has_pending(&self, desk: &Desk) -> bool
+        ensures { result ≡ true → (history : List Made) → HasHistory desk.now history → IsWithin (bounds_of self.now) (world_of history) }
     {
-        if !has_room(plan) || !self.bounds_commands(plan.first.as_slice()) {
+        self.has_pending_in_files(desk) && self.has_pending_in_buffers(desk)
+    }
+
+    fn has_pending_in_files(&self, desk: &Desk) -> bool
+        ensures { result ≡ true → list_all (allows_file (bounds_of self.now) desk.now) (file_names desk.now.files) ≡ true }
+    {
+        let Ok(names) = desk.file_names() else {
             return false;
-        }
-        self.bounds_clients(plan.clients.as_slice())
+        };
+        self.allows_files(desk, names.as_slice())
     }
 
-    fn bounds_clients(&self, clients: &[Vec<Step>]) -> bool
-        ensures { result ≡ true → All (λ (lines : Vec Line Global). AreBounded (bounds_of self.now) lines.items) clients.now }
+    fn has_pending_in_buffers(&self, desk: &Desk) -> bool
+        ensures { result ≡ true → All (λ name. allows_buffer (bounds_of self.now) desk.now name ≡ true) (buffer_names desk.now.buffers) }
     {
-        for lines in clients {
-            if !self.bounds_lines(lines.as_slice()) {
+        let Ok(names) = desk.buffer_names() else {
+            return false;
+        };
+        self.allows_buffers(desk, names.as_slice())
+    }
+
+    fn allows_files(&self, desk: &Desk, names: &[Name]) -> bool
+        ensures { result ≡ list_all (allows_file (bounds_of self.now) desk.now) names.now }
+    {
+        names.iter().all(|name| self.allows_file(desk, name))
+    }
+
+    fn allows_file(&self, desk: &Desk, name: &Name) -> bool
+        ensures { result ≡ allows_file (bounds_of self.now) desk.now name.now }
+    {
+        let Some(points) = desk.file_points(name) else {
+            return true;
+        };
+        allow_points(self.files.as_slice(), name, desk, points)
+    }
+
+    fn allows_buffers(&self, desk: &Desk, names: &[Name]) -> bool
+        ensures { result ≡ true → All (λ name. allows_buffer (bounds_of self.now) desk.now name ≡ true) names.now }
+    {
+        for name in names {
+            if !self.allows_buffer(desk, name) {
                 return false;
             }
         }
         true
     }
 
-    fn bounds_lines(&self, lines: &[Step]) -> bool
-        ensures { result ≡ true → AreBounded (bounds_of self.now) lines.now }
+    fn allows_buffer(&self, desk: &Desk, name: &Name) -> bool
+        ensures { result ≡ true → allows_buffer (bounds_of self.now) desk.now name.now ≡ true }
     {
-        for (place, line) in lines.iter().enumerate() {
-            if !leads_forward(line, place) || !self.bounds(&line.command) {
-                return false;
-            }
-        }
-        true
+        let Ok(rows) = desk.buffer_rows(name) else {
+            return false;
+        };
+        allow_rows(self.buffers.as_slice(), name, desk, rows.as_slice())
     }
 
-    fn bounds_commands(&self, commands: &[Command]) -> bool
-        ensures { result ≡ true → All (RespectsBounds (bounds_of self.now)) commands.now }
-    {
-        for command in commands {
-            if !self.bounds(command) {
-                return false;
-            }
-        }
-        true
-    }
-
-    /// Whether what the command puts into a file or a buffer may get there.
-    fn bounds(&self, command: &Command) -> bool
+    /// Whether the flow has what the command puts into a file or a buffer.
+    pub(crate) fn bounds(&self, command: &Command) -> bool
         ensures { result ≡ true → RespectsBounds (bounds_of self.now) command.now }
     {
         let files = self.files.as_slice();
@@ -123,53 +200,71 @@ impl Flow {
         }
     }
 
-    /// Follows the commands until nothing more gets anywhere.
-    fn fill(&mut self, alloc: Global, plan: &Plan) -> Result<(), AllocError> {
-        let commands = commands_of(alloc, plan)?;
-        // Each round but the last gets a timeline one command further.
-        for _ in 0..commands.len() {
-            if !self.follow_all(alloc, commands.as_slice())? {
-                return Ok(());
-            }
-        }
-        Ok(())
-    }
-
     /// Follows each command once. Whether something more got somewhere.
-    fn follow_all(&mut self, alloc: Global, commands: &[Command]) -> Result<bool, AllocError> {
+    fn follow_all(&mut self, commands: &[Command]) -> Result<bool, AllocError> {
         let files = self.files.len();
         let buffers = self.buffers.len();
         for command in commands {
-            self.follow(alloc, command)?;
+            self.follow(command)?;
         }
         Ok(self.files.len() != files || self.buffers.len() != buffers)
     }
 
-    fn follow(&mut self, alloc: Global, command: &Command) -> Result<(), AllocError> {
+    fn follow(&mut self, command: &Command) -> Result<(), AllocError> {
         match command {
             Command::Fence(file, timeline, _) => add_put(&mut self.files, file, timeline),
             Command::Merge(file, first, second) => {
-                self.follow_part(alloc, first, file)?;
-                self.follow_part(alloc, second, file)
+                add_all_within(&mut self.files, first, file)?;
+                add_all_within(&mut self.files, second, file)
             }
             Command::Add(buffer, timeline, _, _) => add_put(&mut self.buffers, buffer, timeline),
             Command::Import(buffer, file, _) => {
-                let timelines = timelines_in(alloc, self.files.as_slice(), file)?;
-                add_puts(&mut self.buffers, buffer, timelines.as_slice())
+                add_all(self.files.as_slice(), file, &mut self.buffers, buffer)
             }
             Command::Export(file, buffer, _) => {
-                let timelines = timelines_in(alloc, self.buffers.as_slice(), buffer)?;
-                add_puts(&mut self.files, file, timelines.as_slice())
+                add_all(self.buffers.as_slice(), buffer, &mut self.files, file)
             }
             _ => Ok(()),
         }
     }
+}
 
-    /// What may get into the part may get into the file that is merged from it.
-    fn follow_part(&mut self, alloc: Global, part: &Name, file: &Name) -> Result<(), AllocError> {
-        let timelines = timelines_in(alloc, self.files.as_slice(), part)?;
-        add_puts(&mut self.files, file, timelines.as_slice())
-    }
+/// Whether each of the points is reached, or its timeline may be pending in the file.
+fn allow_points(puts: &[Put], file: &Name, desk: &Desk, points: &[Point]) -> bool
+    ensures { result ≡ list_all (allows_point desk.now.timelines (has_put puts.now file.now)) points.now }
+{
+    points
+        .iter()
+        .all(|point| allows_point(puts, file, desk, point))
+}
+
+fn allows_point(puts: &[Put], file: &Name, desk: &Desk, point: &Point) -> bool
+    ensures { result ≡ allows_point desk.now.timelines (has_put puts.now file.now) point.now }
+{
+    is_reached(desk, point) || allows_context(puts, file, desk, point.ctx)
+}
+
+/// Whether the timeline of each of the rows may be pending in the buffer.
+fn allow_rows(puts: &[Put], buffer: &Name, desk: &Desk, rows: &[TopRow]) -> bool
+    ensures { result ≡ list_all (allows_row desk.now.timelines (has_put puts.now buffer.now)) rows.now }
+{
+    rows.iter().all(|row| allows_row(puts, buffer, desk, row))
+}
+
+fn allows_row(puts: &[Put], buffer: &Name, desk: &Desk, row: &TopRow) -> bool
+    ensures { result ≡ allows_row desk.now.timelines (has_put puts.now buffer.now) row.now }
+{
+    allows_context(puts, buffer, desk, row.ctx)
+}
+
+/// Whether the timeline of that context may be pending in the file or buffer.
+fn allows_context(puts: &[Put], into: &Name, desk: &Desk, ctx: Context) -> bool
+    ensures { result ≡ allows_context desk.now.timelines (has_put puts.now into.now) ctx }
+{
+    let Some(timeline) = desk.timeline_name(ctx) else {
+        return false;
+    };
+    has_put(puts, into, &timeline)
 }
 
 fn has_put(puts: &[Put], into: &Name, timeline: &Name) -> bool
@@ -223,104 +318,42 @@ fn add_put(puts: &mut Vec<Put>, into: &Name, timeline: &Name) -> Result<(), Allo
     Ok(())
 }
 
-fn add_puts(puts: &mut Vec<Put>, into: &Name, timelines: &[Name]) -> Result<(), AllocError> {
-    for timeline in timelines {
-        add_put(puts, into, timeline)?;
-    }
-    Ok(())
+fn add_context(
+    puts: &mut Vec<Put>,
+    desk: &Desk,
+    into: &Name,
+    ctx: Context,
+) -> Result<(), AllocError> {
+    let Some(timeline) = desk.timeline_name(ctx) else {
+        return Ok(());
+    };
+    add_put(puts, into, &timeline)
 }
 
-/// The timelines whose points may get into the file or buffer of that name.
-fn timelines_in(alloc: Global, puts: &[Put], name: &Name) -> Result<Vec<Name>, AllocError> {
-    let mut timelines = Vec::new(alloc);
+/// What may be pending in the one may be pending in the other too.
+fn add_all(
+    puts: &[Put],
+    from: &Name,
+    others: &mut Vec<Put>,
+    into: &Name,
+) -> Result<(), AllocError> {
     for put in puts {
-        if put.into == *name {
-            timelines.push(put.timeline)?;
+        if put.into == *from {
+            add_put(others, into, &put.timeline)?;
         }
     }
-    Ok(timelines)
-}
-
-/// The commands that come first, and those of all lines of clients.
-fn commands_of(alloc: Global, plan: &Plan) -> Result<Vec<Command>, AllocError> {
-    let mut commands = Vec::new(alloc);
-    commands.extend_from_slice(plan.first.as_slice())?;
-    for lines in &plan.clients {
-        add_commands(&mut commands, lines.as_slice())?;
-    }
-    Ok(commands)
-}
-
-fn add_commands(commands: &mut Vec<Command>, lines: &[Step]) -> Result<(), AllocError> {
-    for line in lines {
-        commands.push(line.command)?;
-    }
     Ok(())
 }
 
-/// Whether a client goes from the line at that place to a line below.
-fn leads_forward(line: &Step, place: usize) -> bool
-    ensures { result ≡ true → LeadsForward place line.now }
-{
-    match &line.branch {
-        Some(branch) => place < branch.otherwise,
-        None => true,
+/// `add_all` of two files.
+fn add_all_within(puts: &mut Vec<Put>, from: &Name, into: &Name) -> Result<(), AllocError> {
+    for place in 0..puts.len() {
+        let Some(put) = puts.get(place).copied() else {
+            return Ok(());
+        };
+        if put.into == *from {
+            add_put(puts, into, &put.timeline)?;
+        }
     }
-}
-
-/// Whether there is room for `SPARE_FILES` more files once all lines of the plan were made.
-fn has_room(plan: &Plan) -> bool
-    ensures { result ≡ true → HasRoom plan.now }
-{
-    room_after(plan).is_some()
-}
-
-/// The room for files once all lines of the plan were made, besides the spare room.
-fn room_after(plan: &Plan) -> Option<usize>
-    ensures { IfSome result (λ room. room + files_by_plan plan.now + SPARE_FILES ≡ FILES) }
-{
-    let room = room_after_commands(FILES - SPARE_FILES, plan.first.as_slice())?;
-    room_after_clients(room, plan.clients.as_slice())
-}
-
-fn room_after_clients(room: usize, clients: &[Vec<Step>]) -> Option<usize>
-    ensures { IfSome result (λ left. left + sum_by (λ (lines : Vec Line Global). files_by_lines lines.items) clients.now ≡ room) }
-{
-    let mut left = room;
-    for lines in clients {
-        left = room_after_lines(left, lines.as_slice())?;
-    }
-    Some(left)
-}
-
-fn room_after_lines(room: usize, lines: &[Step]) -> Option<usize>
-    ensures { IfSome result (λ left. left + files_by_lines lines.now ≡ room) }
-{
-    let mut left = room;
-    for line in lines {
-        left = left.checked_sub(files_by(&line.command))?;
-    }
-    Some(left)
-}
-
-fn room_after_commands(room: usize, commands: &[Command]) -> Option<usize>
-    ensures { IfSome result (λ left. left + sum_by files_by commands.now ≡ room) }
-{
-    let mut left = room;
-    for command in commands {
-        left = left.checked_sub(files_by(command))?;
-    }
-    Some(left)
-}
-
-/// How many files the command makes if it is accepted.
-fn files_by(command: &Command) -> usize
-    ensures { result ≡ files_by command.now }
-{
-    match command {
-        Command::Fence(_, _, _) => 1,
-        Command::Merge(_, _, _) => 1,
-        Command::Export(_, _, _) => 1,
-        _ => 0,
-    }
+    Ok(())
 }

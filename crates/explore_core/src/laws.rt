@@ -10,9 +10,9 @@ ghost use Rattle.desk_core.specs.theorem.History.{world_of};
 ghost use Rattle.explore_core.specs.Looks.{LooksAlike};
 ghost use Rattle.explore_core.specs.declared.plan.Step.{Step};
 ghost use Rattle.explore_core.specs.Moving.{IsPatient, AllGoBeside, MayGoFirst};
-ghost use Rattle.explore_core.specs.Flow.{StaysWithin};
 ghost use Rattle.explore_core.specs.Found.{CanBeExplored};
-ghost use Rattle.explore_core.specs.Persistent.{Choice, ChosenStandStill, IsCalm, StopsOthers};
+ghost use Rattle.explore_core.specs.Persistent.{Choice, ChosenStandStill, IsCalm, KeepsWithin, StopsOthers};
+ghost use Rattle.explore_core.specs.Room.{HasRoom};
 ghost use Rattle.explore_core.specs.Schedule.{Lines, Standing, Schedule, Leads, beginning, can_be_made, next_line};
 ghost use Rattle.explore_core.specs.Covering.{MayAsk};
 ghost use Rattle.explore_core.specs.Alike.{AsksOnly, AreAlike, after_answer, answers_along};
@@ -58,16 +58,16 @@ pub fn an_independent_line_may_go_first()
 {}
 
 /// Some clients are chosen, and no other passes its limit before one of them goes. Along a schedule of the others, each chosen
-/// client that is free may go first, and no held one can go.
+/// client that is free may go first, and no held one can go. Lines may be tested for independence by bounds that hold only while the
+/// chosen clients stand still.
 pub fn chosen_clients_may_go_first()
     ensures { (asked : List ℕ → Bool) (bounds : Bounds) (plan : Lines) (now later : Standing) (choice : Choice) (others : Schedule) →
-        MayAsk asked plan → IsCalm bounds plan now → StopsOthers plan now choice →
+        MayAsk asked plan → IsCalm plan now → KeepsWithin bounds plan now choice → StopsOthers plan now choice →
         All (λ client. choice.chosen client ≡ false) others → Leads plan now others later →
         ChosenStandStill asked bounds plan now choice others later }
 {}
 
-/// Bounds hold along every schedule of a plan if each of its commands respects them. So lines of clients may be tested for independence
-/// by bounds that are tested once for a plan.
-pub fn plans_within_bounds_are_calm()
-    ensures { (bounds : Bounds) (plan : Lines) → CanBeExplored plan → StaysWithin bounds plan → IsCalm bounds plan (beginning plan) }
+/// There is room for two more files along every schedule of a plan, if there is once each of its lines was made.
+pub fn plans_with_room_are_calm()
+    ensures { (plan : Lines) → CanBeExplored plan → HasRoom plan → IsCalm plan (beginning plan) }
 {}

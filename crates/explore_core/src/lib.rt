@@ -23,6 +23,7 @@ mod plan;
 mod position;
 mod progress;
 mod races;
+mod room;
 mod search;
 mod setup;
 mod state;

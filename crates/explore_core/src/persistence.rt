@@ -43,33 +43,28 @@ pub(crate) enum Matter {
 pub(crate) fn is_persistent(
     plan: &Plan,
     asked: &[Name],
-    flow: &Flow,
     position: &Position,
     choice: &Choice,
 ) -> bool
     requires asked { AreAsked plan.now asked.now }
     ensures { result ≡ true → (now : Standing) → IsAt position.now now →
-        IsPersistent (is_asked plan.now) (bounds_of flow.now) plan.now now (choice_of choice.now) }
+        IsPersistent (is_asked plan.now) (bounds_of choice.now.flow) plan.now now (choice_of choice.now) }
 {
-    are_settled(plan, asked, flow, position, choice)
-        && one_goes(plan, asked, flow, position, choice)
+    if !choice.flow.has_pending(&position.desk) {
+        return false;
+    }
+    are_settled(plan, asked, position, choice) && one_goes(plan, asked, position, choice)
 }
 
-fn are_settled(
-    plan: &Plan,
-    asked: &[Name],
-    flow: &Flow,
-    position: &Position,
-    choice: &Choice,
-) -> bool
+fn are_settled(plan: &Plan, asked: &[Name], position: &Position, choice: &Choice) -> bool
     ensures { result ≡ true → (now : Standing) → IsAt position.now now → (client : ℕ) →
-        IsSettled (has_name asked.now) (bounds_of flow.now) plan.now now (choice_of choice.now) client }
+        IsSettled (has_name asked.now) (bounds_of choice.now.flow) plan.now now (choice_of choice.now) client }
 {
     if position.made.len() > plan.clients.len() {
         return false;
     }
     for client in 0..plan.clients.len() {
-        if !is_settled(plan, asked, flow, position, choice, client) {
+        if !is_settled(plan, asked, position, choice, client) {
             return false;
         }
     }
@@ -80,62 +75,52 @@ fn are_settled(
 fn is_settled(
     plan: &Plan,
     asked: &[Name],
-    flow: &Flow,
     position: &Position,
     choice: &Choice,
     client: usize,
 ) -> bool
     ensures { result ≡ true → (now : Standing) → IsAt position.now now →
-        IsSettled (has_name asked.now) (bounds_of flow.now) plan.now now (choice_of choice.now) client }
+        IsSettled (has_name asked.now) (bounds_of choice.now.flow) plan.now now (choice_of choice.now) client }
 {
     if choice.is_chosen(client) {
-        return is_free_or_held(plan, asked, flow, position, choice, client);
+        return is_free_or_held(plan, asked, position, choice, client);
     }
-    is_stopped(plan, asked, flow, position, choice, client)
+    is_stopped(plan, asked, position, choice, client)
 }
 
 fn is_free_or_held(
     plan: &Plan,
     asked: &[Name],
-    flow: &Flow,
     position: &Position,
     choice: &Choice,
     client: usize,
 ) -> bool
     ensures { result ≡ true → (now : Standing) → IsAt position.now now →
-        IsFreeOrHeld (has_name asked.now) (bounds_of flow.now) plan.now now (choice_of choice.now) client }
+        IsFreeOrHeld (has_name asked.now) (bounds_of choice.now.flow) plan.now now (choice_of choice.now) client }
 {
     let place = place_of(position.made.as_slice(), client);
     let Some(line) = line_at(plan, client, place) else {
         return true;
     };
-    is_held(plan, asked, flow, position, choice, line)
-        || is_free(plan, asked, flow, position, choice, line)
+    is_held(plan, asked, position, choice, line) || is_free(plan, asked, position, choice, line)
 }
 
 /// Whether one of the chosen clients is free to go, and leaves no race.
-fn one_goes(plan: &Plan, asked: &[Name], flow: &Flow, position: &Position, choice: &Choice) -> bool
+fn one_goes(plan: &Plan, asked: &[Name], position: &Position, choice: &Choice) -> bool
     ensures { result ≡ true → (now : Standing) → IsAt position.now now →
-        OneGoes (has_name asked.now) (bounds_of flow.now) plan.now now (choice_of choice.now) }
+        OneGoes (has_name asked.now) (bounds_of choice.now.flow) plan.now now (choice_of choice.now) }
 {
     for client in 0..plan.clients.len() {
-        if goes(plan, asked, flow, position, choice, client) {
+        if goes(plan, asked, position, choice, client) {
             return true;
         }
     }
     false
 }
 
-fn goes(
-    plan: &Plan,
-    asked: &[Name],
-    flow: &Flow,
-    position: &Position,
-    choice: &Choice,
-    client: usize,
-) -> bool
+fn goes(plan: &Plan, asked: &[Name], position: &Position, choice: &Choice, client: usize) -> bool
     ensures { result ≡ true → (now : Standing) → IsAt position.now now →
-        OneGoes (has_name asked.now) (bounds_of flow.now) plan.now now (choice_of choice.now) }
+        OneGoes (has_name asked.now) (bounds_of choice.now.flow) plan.now now (choice_of choice.now) }
 {
     if !choice.is_chosen(client) {
         return false;
@@ -144,7 +129,7 @@ fn goes(
     let Some(line) = line_at(plan, client, place) else {
         return false;
     };
-    is_free(plan, asked, flow, position, choice, line)
+    is_free(plan, asked, position, choice, line)
         && leaves_no_race(
             plan.accesses.as_slice(),
             choice,
@@ -155,22 +140,14 @@ fn goes(
 }
 
 /// Whether the line can be made, and is independent of all lines that may be made before it.
-fn is_free(
-    plan: &Plan,
-    asked: &[Name],
-    flow: &Flow,
-    position: &Position,
-    choice: &Choice,
-    line: &Step,
-) -> bool
+fn is_free(plan: &Plan, asked: &[Name], position: &Position, choice: &Choice, line: &Step) -> bool
     ensures { result ≡ true → (now : Standing) → IsAt position.now now →
-        IsFree (has_name asked.now) (bounds_of flow.now) plan.now now (choice_of choice.now) line.now }
+        IsFree (has_name asked.now) (bounds_of choice.now.flow) plan.now now (choice_of choice.now) line.now }
 {
     can_go(&position.desk, line)
         && all_leave(
             plan,
             asked,
-            flow,
             position.made.as_slice(),
             choice,
             &Matter::Line(line.command),
@@ -192,7 +169,6 @@ pub(crate) fn can_go(desk: &Desk, line: &Step) -> bool
 pub(crate) fn is_held(
     plan: &Plan,
     asked: &[Name],
-    flow: &Flow,
     position: &Position,
     choice: &Choice,
     line: &Step,
@@ -207,19 +183,17 @@ pub(crate) fn is_held(
         && all_leave(
             plan,
             asked,
-            flow,
             position.made.as_slice(),
             choice,
             &Matter::File(file),
         )
-        && is_unsignalled(plan, asked, flow, position, choice, &file)
+        && is_unsignalled(plan, asked, position, choice, &file)
 }
 
 /// Whether the file is missing, or a point of it is pending and stays so.
 fn is_unsignalled(
     plan: &Plan,
     asked: &[Name],
-    flow: &Flow,
     position: &Position,
     choice: &Choice,
     file: &Name,
@@ -230,13 +204,12 @@ fn is_unsignalled(
     let Some(points) = position.desk.file_points(file) else {
         return true;
     };
-    has_pending(plan, asked, flow, position, choice, points)
+    has_pending(plan, asked, position, choice, points)
 }
 
 fn has_pending(
     plan: &Plan,
     asked: &[Name],
-    flow: &Flow,
     position: &Position,
     choice: &Choice,
     points: &[Point],
@@ -245,7 +218,7 @@ fn has_pending(
         × Contains points.now point × StaysPending plan.now now (choice_of choice.now) point }
 {
     for point in points {
-        if stays_pending(plan, asked, flow, position, choice, point) {
+        if stays_pending(plan, asked, position, choice, point) {
             return true;
         }
     }
@@ -256,7 +229,6 @@ fn has_pending(
 fn stays_pending(
     plan: &Plan,
     asked: &[Name],
-    flow: &Flow,
     position: &Position,
     choice: &Choice,
     point: &Point,
@@ -273,7 +245,6 @@ fn stays_pending(
     all_leave(
         plan,
         asked,
-        flow,
         position.made.as_slice(),
         choice,
         &Matter::Timeline(timeline),
@@ -307,28 +278,26 @@ pub(crate) fn is_reached(desk: &Desk, point: &Point) -> bool
 fn is_stopped(
     plan: &Plan,
     asked: &[Name],
-    flow: &Flow,
     position: &Position,
     choice: &Choice,
     client: usize,
 ) -> bool
     ensures { result ≡ true → (now : Standing) → IsAt position.now now →
-        IsStopped plan.now now (choice_of choice.now) client }
+        IsStopped (bounds_of choice.now.flow) plan.now now (choice_of choice.now) client }
 {
     let place = place_of(position.made.as_slice(), client);
     let limit = choice.limit(client);
     if place > limit {
         return false;
     }
-    are_orderly(plan, client, place, limit)
-        && waits_at(plan, asked, flow, position, choice, client, limit)
+    are_orderly(plan, &choice.flow, client, place, limit)
+        && waits_at(plan, asked, position, choice, client, limit)
 }
 
 /// Whether the client is done at this place, or waits there and stays held.
 fn waits_at(
     plan: &Plan,
     asked: &[Name],
-    flow: &Flow,
     position: &Position,
     choice: &Choice,
     client: usize,
@@ -340,34 +309,37 @@ fn waits_at(
     let Some(line) = line_at(plan, client, place) else {
         return true;
     };
-    is_held(plan, asked, flow, position, choice, line)
+    is_held(plan, asked, position, choice, line)
 }
 
-/// Whether the client's lines from one place to another lead no further.
-fn are_orderly(plan: &Plan, client: usize, from: usize, limit: usize) -> bool
-    ensures { result ≡ true → (place : ℕ) → from ≤ place → place < limit → IsOrderlyAt plan.now client limit place }
+/// Whether the client's lines from one place to another lead no further, and put nothing that the flow has not.
+fn are_orderly(plan: &Plan, flow: &Flow, client: usize, from: usize, limit: usize) -> bool
+    ensures { result ≡ true → (place : ℕ) → from ≤ place → place < limit → IsOrderlyAt (bounds_of flow.now) plan.now client limit place }
 {
     for place in from..limit {
-        if !is_orderly_at(plan, client, place, limit) {
+        if !is_orderly_at(plan, flow, client, place, limit) {
             return false;
         }
     }
     true
 }
 
-fn is_orderly_at(plan: &Plan, client: usize, place: usize, limit: usize) -> bool
-    ensures { result ≡ true → IsOrderlyAt plan.now client limit place }
+fn is_orderly_at(plan: &Plan, flow: &Flow, client: usize, place: usize, limit: usize) -> bool
+    ensures { result ≡ true → IsOrderlyAt (bounds_of flow.now) plan.now client limit place }
 {
     let Some(line) = line_at(plan, client, place) else {
         return true;
     };
-    is_orderly(line, place, limit)
+    is_orderly(flow, line, place, limit)
 }
 
-fn is_orderly(line: &Step, place: usize, limit: usize) -> bool
-    ensures { result ≡ true → IsOrderly limit place line.now }
+fn is_orderly(flow: &Flow, line: &Step, place: usize, limit: usize) -> bool
+    ensures { result ≡ true → IsOrderly (bounds_of flow.now) limit place line.now }
 {
-    is_narrow(&line.command) && is_patient(line) && leads_on(line, place, limit)
+    is_narrow(&line.command)
+        && is_patient(line)
+        && leads_on(line, place, limit)
+        && flow.bounds(&line.command)
 }
 
 /// Whether a client waits with the line, if it is a `wait`.
@@ -391,19 +363,12 @@ fn leads_on(line: &Step, place: usize, limit: usize) -> bool
 }
 
 /// Whether all lines that may be made before a chosen client goes leave it as it is.
-fn all_leave(
-    plan: &Plan,
-    asked: &[Name],
-    flow: &Flow,
-    made: &[usize],
-    choice: &Choice,
-    what: &Matter,
-) -> bool
+fn all_leave(plan: &Plan, asked: &[Name], made: &[usize], choice: &Choice, what: &Matter) -> bool
     ensures { result ≡ true → (now : Standing) → made.now ≡ now.made →
-        AllLeave (has_name asked.now) (bounds_of flow.now) plan.now now (choice_of choice.now) what.now }
+        AllLeave (has_name asked.now) (bounds_of choice.now.flow) plan.now now (choice_of choice.now) what.now }
 {
     for client in 0..plan.clients.len() {
-        if !client_leaves(plan, asked, flow, made, choice, client, what) {
+        if !client_leaves(plan, asked, made, choice, client, what) {
             return false;
         }
     }
@@ -413,20 +378,20 @@ fn all_leave(
 pub(crate) fn client_leaves(
     plan: &Plan,
     asked: &[Name],
-    flow: &Flow,
     made: &[usize],
     choice: &Choice,
     client: usize,
     what: &Matter,
 ) -> bool
     ensures { result ≡ true → (now : Standing) → made.now ≡ now.made →
-        ClientLeaves (has_name asked.now) (bounds_of flow.now) plan.now now (choice_of choice.now) what.now client }
+        ClientLeaves (has_name asked.now) (bounds_of choice.now.flow) plan.now now (choice_of choice.now) what.now client }
 {
     if choice.is_chosen(client) {
         return true;
     }
     let from = place_of(made, client);
-    lines_leave(plan, asked, flow, client, from, choice.limit(client), what)
+    let limit = choice.limit(client);
+    lines_leave(plan, asked, &choice.flow, client, from, limit, what)
 }
 
 /// Whether the client's lines from one place to another leave it as it is.

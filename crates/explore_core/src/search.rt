@@ -71,7 +71,7 @@ impl<'a> Search<'a> {
         ensures memory { IfErr result (λ refusal. refusal ≡ Refusal.Memory) }
     {
         let asked = plan.asked_files(alloc)?;
-        let chooser = Chooser::new(alloc, plan, orders)?;
+        let chooser = Chooser::new(plan, orders);
         let level = first_level(alloc, plan)?;
         let setup = Setup {
             alloc,

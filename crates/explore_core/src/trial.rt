@@ -15,10 +15,13 @@ use point_core::{Name, Point};
 use std::alloc::{AllocError, Global};
 use std::mem::swap;
 
-/// A choice on trial, and what the lines ahead of it may change.
+/// A choice on trial, the commands ahead of it, and what they may change that a `wait` depends on.
 #[derive(Drop)]
 struct Trial {
     choice: Choice,
+    // what is pending at the state
+    pending: Flow,
+    ahead: Vec<Command>,
     files: Vec<Name>,
     timelines: Vec<Name>,
 }
@@ -28,18 +31,18 @@ pub(crate) fn choose(
     alloc: Global,
     plan: &Plan,
     asked: &[Name],
-    flow: &Flow,
     position: &Position,
     choice: &mut Choice,
 ) -> Result<(), AllocError> {
     choice.clear();
     let mut trial = Trial::new(alloc);
+    trial.pending.add_pending(&position.desk)?;
     let mut fewest = usize::MAX;
     for first in 0..plan.clients.len() {
         if !can_client_go(plan, position, first) {
             continue;
         }
-        let going = trial.begin_with(plan, asked, flow, position, first)?;
+        let going = trial.begin_with(plan, asked, position, first)?;
         if going < fewest {
             swap(choice, &mut trial.choice);
             fewest = going;
@@ -55,6 +58,8 @@ impl Trial {
     fn new(alloc: Global) -> Trial {
         Trial {
             choice: Choice::new(alloc),
+            pending: Flow::new(alloc),
+            ahead: Vec::new(alloc),
             files: Vec::new(alloc),
             timelines: Vec::new(alloc),
         }
@@ -66,7 +71,6 @@ impl Trial {
         &mut self,
         plan: &Plan,
         asked: &[Name],
-        flow: &Flow,
         position: &Position,
         first: usize,
     ) -> Result<usize, AllocError> {
@@ -74,7 +78,8 @@ impl Trial {
         self.choice.choose(first);
         for _ in 0..plan.clients.len() {
             self.move_limits(plan, position)?;
-            let has_disturbing = self.add_disturbing(plan, asked, flow, position);
+            self.fill_flow()?;
+            let has_disturbing = self.add_disturbing(plan, asked, position);
             let has_racing = self.add_racing(plan, position, first);
             if !has_disturbing && !has_racing {
                 break;
@@ -85,6 +90,7 @@ impl Trial {
 
     /// Moves the limit of each client that is not chosen to where it stops while the chosen ones stand still.
     fn move_limits(&mut self, plan: &Plan, position: &Position) -> Result<(), AllocError> {
+        self.ahead.clear();
         self.files.clear();
         self.timelines.clear();
         self.choice.stop_all(position.made.as_slice())?;
@@ -153,8 +159,15 @@ impl Trial {
         !has_name(self.timelines.as_slice(), &timeline)
     }
 
-    /// Notes what the command may change that a `wait` depends on.
+    /// Fills the flow with what is pending, and what the commands ahead put.
+    fn fill_flow(&mut self) -> Result<(), AllocError> {
+        self.choice.flow.begin_as(&self.pending)?;
+        self.choice.flow.fill(self.ahead.as_slice())
+    }
+
+    /// Notes the command, and what it may change that a `wait` depends on.
     fn pass(&mut self, command: &Command) -> Result<(), AllocError> {
+        self.ahead.push(*command)?;
         match command {
             Command::Inc(timeline, _) => self.timelines.push(*timeline)?,
             Command::Shut(timeline) => self.timelines.push(*timeline)?,
@@ -168,17 +181,11 @@ impl Trial {
     }
 
     /// Chooses the clients that may disturb a chosen one. Returns whether there are any.
-    fn add_disturbing(
-        &mut self,
-        plan: &Plan,
-        asked: &[Name],
-        flow: &Flow,
-        position: &Position,
-    ) -> bool {
+    fn add_disturbing(&mut self, plan: &Plan, asked: &[Name], position: &Position) -> bool {
         let mut has_added = false;
         for client in 0..plan.clients.len() {
             if self.choice.is_chosen(client)
-                && self.add_disturbing_of(plan, asked, flow, position, client)
+                && self.add_disturbing_of(plan, asked, position, client)
             {
                 has_added = true;
             }
@@ -191,27 +198,26 @@ impl Trial {
         &mut self,
         plan: &Plan,
         asked: &[Name],
-        flow: &Flow,
         position: &Position,
         client: usize,
     ) -> bool {
         let Some(line) = next_line(plan, position, client) else {
             return false;
         };
-        if is_held(plan, asked, flow, position, &self.choice, line) {
+        if is_held(plan, asked, position, &self.choice, line) {
             return false;
         }
         let Command::Wait(file) = &line.command else {
-            return self.add_all(plan, asked, flow, position, &Matter::Line(line.command));
+            return self.add_all(plan, asked, position, &Matter::Line(line.command));
         };
         if can_go(&position.desk, line) {
-            return self.add_all(plan, asked, flow, position, &Matter::Line(line.command));
+            return self.add_all(plan, asked, position, &Matter::Line(line.command));
         }
-        let has_added = self.add_all(plan, asked, flow, position, &Matter::File(*file));
-        let Some(timeline) = self.quietest(plan, asked, flow, position, file) else {
+        let has_added = self.add_all(plan, asked, position, &Matter::File(*file));
+        let Some(timeline) = self.quietest(plan, asked, position, file) else {
             return has_added;
         };
-        self.add_all(plan, asked, flow, position, &Matter::Timeline(timeline)) || has_added
+        self.add_all(plan, asked, position, &Matter::Timeline(timeline)) || has_added
     }
 
     /// Chooses the clients whose races are missed if this one ends an access before they go. Returns whether there are any.
@@ -245,7 +251,6 @@ impl Trial {
         &self,
         plan: &Plan,
         asked: &[Name],
-        flow: &Flow,
         position: &Position,
         file: &Name,
     ) -> Option<Name> {
@@ -256,7 +261,7 @@ impl Trial {
             let Some(timeline) = awaited(&position.desk, point) else {
                 continue;
             };
-            let changing = self.changing(plan, asked, flow, position, &Matter::Timeline(timeline));
+            let changing = self.changing(plan, asked, position, &Matter::Timeline(timeline));
             if changing < fewest {
                 quietest = Some(timeline);
                 fewest = changing;
@@ -266,18 +271,11 @@ impl Trial {
     }
 
     /// How many clients may change it.
-    fn changing(
-        &self,
-        plan: &Plan,
-        asked: &[Name],
-        flow: &Flow,
-        position: &Position,
-        what: &Matter,
-    ) -> usize {
+    fn changing(&self, plan: &Plan, asked: &[Name], position: &Position, what: &Matter) -> usize {
         let made = position.made.as_slice();
         let mut changing = 0;
         for client in 0..plan.clients.len() {
-            if !client_leaves(plan, asked, flow, made, &self.choice, client, what) {
+            if !client_leaves(plan, asked, made, &self.choice, client, what) {
                 changing += 1;
             }
         }
@@ -285,18 +283,11 @@ impl Trial {
     }
 
     /// Chooses each client that may change it. Returns whether there are any.
-    fn add_all(
-        &mut self,
-        plan: &Plan,
-        asked: &[Name],
-        flow: &Flow,
-        position: &Position,
-        what: &Matter,
-    ) -> bool {
+    fn add_all(&mut self, plan: &Plan, asked: &[Name], position: &Position, what: &Matter) -> bool {
         let made = position.made.as_slice();
         let mut has_added = false;
         for client in 0..plan.clients.len() {
-            if !client_leaves(plan, asked, flow, made, &self.choice, client, what) {
+            if !client_leaves(plan, asked, made, &self.choice, client, what) {
                 self.choice.choose(client);
                 has_added = true;
             }

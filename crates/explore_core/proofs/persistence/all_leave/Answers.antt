@@ -13,7 +13,7 @@ loop-client-init c = λ now made client low. absurd (omega (arith, low))
 
 pub loop-client-preserved : goal.loop-client-preserved
 loop-client-preserved c = λ now made client low.
-    each-more (ClientLeaves (has_name c.args.asked.now) (bounds_of c.args.flow.now) c.args.plan.now now (choice_of c.args.choice.now) c.args.what.now) 0 c.loop-client.client
+    each-more (ClientLeaves (has_name c.args.asked.now) (bounds_of c.args.choice.now.flow) c.args.plan.now now (choice_of c.args.choice.now) c.args.what.now) 0 c.loop-client.client
     (λ k from below. c.loop-client.invariant now made k below) (c.client_leaves.ensures c.if-not-client_leaves.false now made) client (omega arith) low
 
 pub returns : goal.returns

@@ -7,4 +7,4 @@ use Rattle.explore_core.proofs.persistence.all_leave.Given as goal
 
 abbrev pub invariant-loop-client : goal.invariant-loop-client
 invariant-loop-client l = (now : Standing) → l.made ≡ now.made → (client : ℕ) → client < l.client →
-    ClientLeaves (has_name l.asked) (bounds_of l.flow) l.plan now (choice_of l.choice) l.what client
+    ClientLeaves (has_name l.asked) (bounds_of l.choice.flow) l.plan now (choice_of l.choice) l.what client

@@ -13,7 +13,7 @@ loop-client-init c = λ now at client low. absurd (omega (arith, low))
 
 pub loop-client-preserved : goal.loop-client-preserved
 loop-client-preserved c = λ now at client low.
-    each-more (IsSettled (has_name c.args.asked.now) (bounds_of c.args.flow.now) c.args.plan.now now (choice_of c.args.choice.now)) 0 c.loop-client.client
+    each-more (IsSettled (has_name c.args.asked.now) (bounds_of c.args.choice.now.flow) c.args.plan.now now (choice_of c.args.choice.now)) 0 c.loop-client.client
     (λ k from below. c.loop-client.invariant now at k below) (c.is_settled.ensures c.if-not-is_settled.false now at) client (omega arith) low
 
 pub returns : goal.returns

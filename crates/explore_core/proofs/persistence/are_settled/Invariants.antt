@@ -7,4 +7,4 @@ use Rattle.explore_core.proofs.persistence.are_settled.Given as goal
 
 abbrev pub invariant-loop-client : goal.invariant-loop-client
 invariant-loop-client l = (now : Standing) → IsAt l.position now → (client : ℕ) → client < l.client →
-    IsSettled (has_name l.asked) (bounds_of l.flow) l.plan now (choice_of l.choice) client
+    IsSettled (has_name l.asked) (bounds_of l.choice.flow) l.plan now (choice_of l.choice) client

@@ -10,7 +10,7 @@ invariant_of-result c =
     let found = c.new-2.result.found in
     let none = c.new-2.ensures.empty in
     let first = c.in_ok-level.ensures.first in (
-      record { explorable = c.requires.explorable; asked = c.in_ok-asked.ensures.asked; ready = c.in_ok-chooser.ensures.ready },
+      record { explorable = c.requires.explorable; asked = c.in_ok-asked.ensures.asked; ready = c.new.ensures.ready },
       IsRight-empty plan c.args.bound found none,
       λ covered. absurd (false≢true (sym c.new-2.ensures.unfinished ∙ covered)),
       λ going. record {

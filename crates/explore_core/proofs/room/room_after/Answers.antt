@@ -4,7 +4,7 @@ use Rattle.std.specs.Global.{Global}
 use Rattle.explore_core.specs.declared.plan.Step.{Step}
 use Rattle.explore_core.specs.Schedule.{Lines}
 use Rattle.explore_core.proofs.Bounding.{room-left}
-use Rattle.explore_core.proofs.flow.room_after.Goals as goal
+use Rattle.explore_core.proofs.room.room_after.Goals as goal
 
 pub returns : goal.returns
 returns c =

@@ -1,9 +1,0 @@
-use Rattle.std.proofs.Common.{take}
-use Rattle.std.specs.Prelude.{All, Vec}
-use Rattle.std.specs.Global.{Global}
-use Rattle.explore_core.specs.declared.plan.Step.{Step}
-use Rattle.explore_core.specs.Flow.{AreBounded, bounds_of}
-use Rattle.explore_core.proofs.flow.Flow.bounds_clients.Given as goal
-
-abbrev pub invariant-loop-lines : goal.invariant-loop-lines
-invariant-loop-lines l = All (λ (lines : Vec Step Global). AreBounded (bounds_of l.self) lines.items) (take l.lines-index l.clients)
