@@ -30,3 +30,4 @@ pub mod Flowing
 pub mod Calming
 pub mod Holding
 pub mod Settling
+pub mod Omitting

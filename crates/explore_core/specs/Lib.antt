@@ -15,4 +15,5 @@ pub mod Room
 pub mod Schedule
 pub mod Search
 pub mod Searching
+pub mod Shortening
 pub mod Tour

@@ -26,6 +26,7 @@ mod races;
 mod room;
 mod search;
 mod setup;
+mod shortening;
 mod state;
 mod table;
 mod tour;

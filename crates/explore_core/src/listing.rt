@@ -69,7 +69,7 @@ fn is_of(given: &Given, client: usize, place: usize, answer: &Answer) -> bool
     given.client == client && given.place == place && is_same_answer(&given.answer, answer)
 }
 
-fn is_same_answer(answer: &Answer, other: &Answer) -> bool
+pub(crate) fn is_same_answer(answer: &Answer, other: &Answer) -> bool
     ensures is { result ≡ true → answer.now ≡ other.now }
     ensures all { answer.now ≡ other.now → result ≡ true }
 {

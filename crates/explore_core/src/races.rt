@@ -70,7 +70,7 @@ fn list_race(
 }
 
 /// Whether the two accesses are a race where each client has made that many lines.
-fn is_race(plan: &Plan, made: &[usize], one: usize, other: usize) -> bool
+pub(crate) fn is_race(plan: &Plan, made: &[usize], one: usize, other: usize) -> bool
     requires before { one < other }
     ensures is { result ≡ true → RaceAt plan.now made.now one other }
     ensures all { RaceAt plan.now made.now one other → result ≡ true }
