@@ -7,5 +7,6 @@ mod Readings
 mod Replaying
 mod Rows
 mod Scheduled
+mod Shortened
 mod Steps
 mod Ways

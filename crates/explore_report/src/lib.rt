@@ -20,6 +20,7 @@ mod report;
 mod row;
 mod schedule;
 mod sections;
+mod shortening;
 mod text;
 mod verb;
 mod way;

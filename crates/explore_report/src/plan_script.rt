@@ -14,6 +14,7 @@ use crate::mark::{Mark, expected_text};
 use crate::mistake::{Mistake, mistake_of};
 use crate::row::{Row, rows_of};
 use crate::sections::plan_of;
+use crate::shortening::shorten;
 use crate::words::without_last_spaces;
 use command_core::Command;
 use explore_core::{Found, Orders, Plan, explore};
@@ -60,7 +61,8 @@ impl<'a> PlanScript<'a> {
         Ok(Reading::Plan(PlanScript { lines, rows, plan }))
     }
 
-    /// Explores the plan by these orders of the clients, unless more than `bound` states would be visited.
+    /// Explores the plan by these orders of the clients, unless more than `bound` states would be visited, and shortens the schedules
+    /// of wrong answers and of races.
     ///
     /// Fails with `Memory` only.
     pub fn explore(&self, alloc: Global, orders: Orders, bound: usize) -> Result<Found, Refusal>
@@ -72,7 +74,9 @@ impl<'a> PlanScript<'a> {
         ensures visited { IfOk result (λ found. HasVisited self.now.plan bound found) }
         ensures memory { IfErr result (λ refusal. refusal ≡ Refusal.Memory) }
     {
-        explore(alloc, &self.plan, orders, bound)
+        let mut found = explore(alloc, &self.plan, orders, bound)?;
+        shorten(alloc, self, &mut found);
+        Ok(found)
     }
 
     /// The text of a row, without the spaces around it.
