@@ -5,7 +5,8 @@ agree.
 usage: tests/explore/schedules.py PROGRAM [--plans N] [--from SEED]
 
 Compared are the answers of each line, whether a schedule gets stuck, and after how many steps at least. Each schedule that is
-reported is run too, and has to give its answer. What a schedule answers is asked of `PROGRAM run`.
+reported is run too, and has to give its answer; with `--all-orders` no schedule gives it in fewer steps. What a schedule answers is
+asked of `PROGRAM run`.
 """
 import argparse
 import concurrent.futures
@@ -118,7 +119,7 @@ class Schedules:
 
     def __init__(self, program, plan):
         self.program, self.plan = program, plan
-        self.given, self.stuck = set(), None
+        self.given, self.stuck = {}, None
         self.answers = functools.lru_cache(maxsize=None)(self.answers)
 
     def answers(self, numbers):
@@ -149,7 +150,7 @@ class Schedules:
 
     def decide(self):
         first = tuple(self.plan.first)
-        self.given |= set(zip(first, self.answers(first)))
+        self.note_all(first, self.answers(first), 0)
         self.go(first, tuple(0 for _ in self.plan.clients))
         return self
 
@@ -164,7 +165,7 @@ class Schedules:
             if number in self.plan.waits and answer[0].startswith("err"):
                 continue
             moved = True
-            self.given.add((number, answer))
+            self.note(number, answer, self.steps(made) + 1)
             place = self.place_after(made + (number,), client, at[client])
             self.go(made + (number,), at[:client] + (place,) + at[client + 1:])
         if not moved:
@@ -172,11 +173,23 @@ class Schedules:
 
     def end(self, made, at):
         if any(place < len(lines) for place, lines in zip(at, self.plan.clients)):
-            steps = len(made) - len(self.plan.first)
+            steps = self.steps(made)
             self.stuck = steps if self.stuck is None else min(steps, self.stuck)
             return
         ended = self.answers(made + tuple(self.plan.last))[len(made):]
-        self.given |= set(zip(self.plan.last, ended))
+        self.note_all(self.plan.last, ended, self.steps(made))
+
+    def steps(self, made):
+        """Returns how many of these lines are clients' lines."""
+        return len(made) - len(self.plan.first)
+
+    def note_all(self, numbers, answers, steps):
+        for number, answer in zip(numbers, answers):
+            self.note(number, answer, steps)
+
+    def note(self, number, answer, steps):
+        """Notes an answer of a line, with the fewest steps of a schedule that gives it."""
+        self.given[number, answer] = min(steps, self.given.get((number, answer), steps))
 
 
 def run(words, text):
@@ -188,14 +201,15 @@ def difference(program, seed):
     plan = Plan(seed)
     there = Schedules(program, plan).decide()
     for options in ((), ("--all-orders",)):
-        wrong = difference_of_report(run([program, "explore", "--json", *options], plan.script()), plan, there)
+        told = run([program, "explore", "--json", *options], plan.script())
+        wrong = difference_of_report(told, there, bool(options))
         if wrong:
             return wrong
     return None
 
 
-def difference_of_report(told, plan, there):
-    """Returns how a report of the plan differs from all of its schedules, or None."""
+def difference_of_report(told, there, is_shortest):
+    """Returns how a report of the plan differs from all of its schedules, or None. Its schedules may have to be shortest ones."""
     if told.returncode not in (0, 1) or told.stderr:
         return f"its status is {told.returncode}: {told.stderr}"
     objects = [json.loads(line) for line in told.stdout.splitlines()]
@@ -206,13 +220,16 @@ def difference_of_report(told, plan, there):
         return f"the totals are {objects[-1]}"
     lines = [it for it in objects if "line" in it]
     given = {(it["line"], tuple(one["answer"])) for it in lines for one in it["answers"]}
-    if given != there.given:
-        return f"only reported: {sorted(given - there.given)}; only there: {sorted(there.given - given)}"
+    if given != set(there.given):
+        return f"only reported: {sorted(given - set(there.given))}; only there: {sorted(set(there.given) - given)}"
     for it in lines:
         for one in it["answers"]:
             wrong = wrong_schedule(there, it["line"], one)
             if wrong:
                 return wrong
+            steps = there.given[it["line"], tuple(one["answer"])]
+            if is_shortest and len(one["schedule"]) != steps:
+                return f"a schedule of line {it['line']} with {steps} steps answers so too: {one}"
     return None
 
 
