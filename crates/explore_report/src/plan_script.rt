@@ -3,6 +3,7 @@
 ghost use Rattle.std.specs.Prelude.{◌≡◌, ◌+◌, IfErr, IfOk, drop, length, map, not, position, true};
 ghost use Rattle.line_core.specs.Script.{lines_of};
 ghost use Rattle.explore_core.specs.Found.{CanBeExplored, HasVisited, IsAll, IsShortest, IsTrue, ListsOnce};
+ghost use Rattle.explore_core.specs.Shortening.{IsShortened};
 ghost use Rattle.explore_report.specs.Finding.{expectations, expected, expecting, expects};
 ghost use Rattle.explore_report.specs.Making.{section_at};
 ghost use Rattle.explore_report.specs.Plan.{after_notes};
@@ -75,8 +76,16 @@ impl<'a> PlanScript<'a> {
         ensures memory { IfErr result (λ refusal. refusal ≡ Refusal.Memory) }
     {
         let mut found = explore(alloc, &self.plan, orders, bound)?;
-        shorten(alloc, self, &mut found);
+        self.shorten(alloc, &mut found);
         Ok(found)
+    }
+
+    /// Leaves out of the schedules of wrong answers and of races what these don't need, once a search has ended. `explore` does so
+    /// itself. Without memory, schedules stay as they are.
+    pub fn shorten(&self, alloc: Global, found: &mut Found)
+        ensures shortened { IsShortened self.now.plan found.old found.new }
+    {
+        shorten(alloc, self, found);
     }
 
     /// The text of a row, without the spaces around it.
