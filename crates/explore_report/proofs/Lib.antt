@@ -9,4 +9,5 @@ mod Rows
 mod Scheduled
 mod Shortened
 mod Steps
+mod Turns
 mod Ways

@@ -7,10 +7,12 @@ use Rattle.desk_core.specs.theorem.Answer.{is_refused}
 use Rattle.report_core.specs.Answer.{text_of}
 use Rattle.explore_report.specs.declared.expected.Finding.{Finding}
 use Rattle.explore_report.specs.declared.expected.Finding.TheVariants.{Unexpected, Refused}
+use Rattle.explore_report.specs.declared.line.Line.{Line}
 use Rattle.explore_report.specs.declared.mark.Mark.{Mark}
 use Rattle.explore_report.specs.declared.mark.Mark.TheVariants as mark
 use Rattle.explore_report.specs.declared.plan_script.PlanScript.{PlanScript}
 use Rattle.explore_report.specs.declared.row.Row.{Row}
+use Rattle.explore_report.specs.Lines.{line_text}
 use Rattle.explore_report.specs.Mark.{expected_text}
 
 -- a note that expects a line of an answer
@@ -40,7 +42,7 @@ expectations rows index = expecting (drop (index + 1) rows)
 
 -- the text that a note expects
 abbrev pub expected : PlanScript → Row → List ℕ
-expected p note = unwrap_or (option_map (λ line. expected_text line.now) (slice_get p.lines.items (note.number - 1))) []
+expected p note = unwrap_or (option_map (λ (line : Line). expected_text (line_text line)) (slice_get p.lines.items (note.number - 1))) []
 
 -- the line of an answer that a note expects, with its line feed
 abbrev pub line_expected : PlanScript → Row → List ℕ

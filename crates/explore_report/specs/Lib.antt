@@ -1,12 +1,16 @@
 pub mod Accesses
 pub mod Cases
 pub mod Context
+pub mod Filling
 pub mod Finding
+pub mod Lines
 pub mod Making
 pub mod Mark
 pub mod Mistake
 pub mod Plan
 pub mod Reading
 pub mod Report
+pub mod Rounds
 pub mod Rows
+pub mod Turns
 pub mod Words

@@ -9,11 +9,18 @@ use Rattle.line_core.specs.Line.{body_of}
 use Rattle.line_core.specs.declared.line.Body.{Body}
 use Rattle.line_core.specs.declared.line.Body.TheVariants.{Cmd, Bad}
 use Rattle.explore_report.specs.declared.cause.Cause.TheVariants as cause
+use Rattle.explore_report.specs.declared.cause.TheConstants.{PLAN_ROUNDS, REPEATED_LINES}
 use Rattle.explore_report.specs.declared.mark.Mark.{Mark}
 use Rattle.explore_report.specs.declared.mark.Mark.TheVariants as mark
 use Rattle.explore_report.specs.declared.verb.Verb.{Verb}
 use Rattle.explore_report.specs.declared.verb.Verb.TheVariants as verb
+use Rattle.explore_report.specs.Rounds.{rounds_said}
 use Rattle.explore_report.specs.Words.{first_word, words_after}
+
+-- A `#repeat` that was not made: a number of rounds has to follow, or it has no `#end`, is in two others, or makes too many lines.
+abbrev pub repeat_mark : List ℕ → Mark
+repeat_mark words =
+    mark.Wrong (if is_some (rounds_said words) then cause.NotRepeated REPEATED_LINES else cause.NoRounds PLAN_ROUNDS)
 
 -- a letter follows the first byte
 abbrev pub begins_directive : List ℕ → Bool
@@ -70,6 +77,7 @@ directive_of word words =
     else if bytes_eq word (codes "#if") then Some (if_mark words)
     else if bytes_eq word (codes "#else") then Some (without_words words mark.Else)
     else if bytes_eq word (codes "#end") then Some (without_words words mark.End)
+    else if bytes_eq word (codes "#repeat") then Some (repeat_mark words)
     else if bytes_eq word (codes "#reads") then Some (access_mark verb.Reads words)
     else if bytes_eq word (codes "#writes") then Some (access_mark verb.Writes words)
     else if bytes_eq word (codes "#done") then Some (access_mark verb.Done words)

@@ -8,22 +8,24 @@ use Rattle.explore_report.specs.declared.mistake.Mistake.{Mistake}
 use Rattle.explore_report.specs.declared.plan_script.PlanScript.{PlanScript}
 use Rattle.explore_report.specs.declared.plan_script.Reading.{Reading}
 use Rattle.explore_report.specs.declared.plan_script.Reading.TheVariants as reading
+use Rattle.explore_report.specs.Lines.{line_text}
 use Rattle.explore_report.specs.Mistake.{IsMistake, IsPlan}
 use Rattle.explore_report.specs.Plan.{plan_of}
 use Rattle.explore_report.specs.Rows.{rows_of}
+use Rattle.explore_report.specs.Turns.{line_number, plan_lines}
 
--- the script is short enough, and its lines make a plan
+-- the script is short enough, and its lines, those of a `#repeat` in each round, make a plan
 pub record IsPlanText (script : List ℕ) : Type 0 where
   pub short : length script ≤ SCRIPT_BYTES
-  pub plan : IsPlan (rows_of (lines_of script))
+  pub plan : IsPlan (rows_of (plan_lines (lines_of script)))
 
 -- the script is a plan, which is exactly what its sections say, and can be explored
 pub record IsPlanOf (script : List ℕ) (p : PlanScript) : Type 0 where
   pub valid : IsPlanText script
-  pub is : p.plan ≡ plan_of (lines_of script) (rows_of (lines_of script))
+  pub is : p.plan ≡ plan_of (plan_lines (lines_of script)) (rows_of (plan_lines (lines_of script)))
   pub explorable : CanBeExplored p.plan
-  pub lines : map (λ line. line.now) p.lines.items ≡ lines_of script
-  pub rows : p.rows.items ≡ rows_of (lines_of script)
+  pub lines : map line_text p.lines.items ≡ plan_lines (lines_of script)
+  pub rows : p.rows.items ≡ rows_of (plan_lines (lines_of script))
 
 -- the script is too long; reported of its last line
 pub record IsTooLong (script : List ℕ) (m : Mistake) : Type 0 where
@@ -31,11 +33,18 @@ pub record IsTooLong (script : List ℕ) (m : Mistake) : Type 0 where
   pub line : m.line ≡ length (lines_of script)
   pub why : m.cause ≡ cause.Bytes SCRIPT_BYTES
 
+-- one of the plan's lines makes the script no plan; reported of the script's line that makes it
+pub record IsWrongLine (script : List ℕ) (m : Mistake) : Type 0 where
+  pub short : length script ≤ SCRIPT_BYTES
+  pub wrong : Mistake
+  pub found : IsMistake (rows_of (plan_lines (lines_of script))) (length (plan_lines (lines_of script))) wrong
+  pub line : m.line ≡ line_number (lines_of script) wrong.line
+  pub why : m.cause ≡ wrong.cause
+
 -- the script is no plan: it is too long, or one of its lines makes it none; the first cause counts, and its first line
 pub record IsNoPlan (script : List ℕ) (m : Mistake) : Type 0 where
   pub none : IsPlanText script → ⊥
-  pub found : IsTooLong script m
-      ⊎ ((length script ≤ SCRIPT_BYTES) × IsMistake (rows_of (lines_of script)) (length (lines_of script)) m)
+  pub found : IsTooLong script m ⊎ IsWrongLine script m
 
 abbrev pub IsReading : List ℕ → Reading → Type 0
 IsReading script (reading.Plan p) = IsPlanOf script p

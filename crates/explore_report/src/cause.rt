@@ -10,12 +10,21 @@ pub(crate) const LAST_CLIENT: usize = PLAN_CLIENTS - 1;
 /// The most lines that the clients of a plan have together.
 pub const PLAN_LINES: usize = 4096;
 
+/// The most rounds of a `#repeat`.
+pub const PLAN_ROUNDS: u32 = 1024;
+
+/// The most lines that the outer `#repeat` of a plan make together, and so the inner ones.
+pub const REPEATED_LINES: usize = 65_536;
+
+/// A number of a `#repeat`, or of `$+K`, has room for a digit while it is below this one.
+pub(crate) const GROWING: u32 = 100_000_000;
+
 /// Why a script is no plan, so that nothing of it is explored.
 #[derive(Clone, Copy, Debug, Error)]
 pub enum Cause {
     #[error("the line is not a command; fencectl explain says why")]
     NoCommand,
-    #[error("there is no such directive, only #client, #finally, #await, #once, #if, #else, #end, #reads, #writes and #done; a note has a space after its #")]
+    #[error("there is no such directive, only #client, #finally, #await, #once, #if, #else, #end, #repeat, #reads, #writes and #done; a note has a space after its #")]
     NoDirective,
     #[error("a blank after the # makes this a note; #client, #finally and #await have none")]
     BlankFollows,
@@ -27,6 +36,10 @@ pub enum Cause {
     WordFollows,
     #[error("#if takes the first line of an answer")]
     NoText,
+    #[error("#repeat takes a number from 1 to {0}")]
+    NoRounds(u32),
+    #[error("#repeat needs its #end, can be in one other #repeat, and makes {0} lines at most with the others")]
+    NotRepeated(usize),
     #[error("there is already a client with this name")]
     NameTaken,
     #[error("a plan can have {0} clients")]
@@ -53,7 +66,7 @@ pub enum Cause {
     ElseBelowIf,
     #[error("there is already an #else of this #if")]
     ElseTwice,
-    #[error("there is no #if above it that this could end")]
+    #[error("there is no #if or #repeat above it that this could end")]
     EndsNothing,
     #[error("an #if has no #end in its client's section")]
     NotEnded,

@@ -123,7 +123,7 @@ impl Section {
 }
 
 /// One more open branch. Each has a line of its own above its `#if`, so a plan has no more of them than lines.
-fn one_more(depth: usize) -> usize
+pub(crate) fn one_more(depth: usize) -> usize
     ensures { result ≡ one_more depth }
 {
     if depth < PLAN_LINES { depth + 1 } else { depth }

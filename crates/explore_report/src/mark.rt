@@ -2,9 +2,10 @@
 ghost use Rattle.std.specs.Prelude.{◌≡◌};
 ghost use Rattle.explore_report.specs.Mistake.{is_named, unfollowed};
 ghost use Rattle.explore_report.specs.Rows.{command_said, is_else, is_end, is_if};
-ghost use Rattle.explore_report.specs.Mark.{access_mark, access_named, after_mark, begins_directive, blank_note, branch_text, client_mark, client_named, directive_of, expected_text, if_mark, is_directive, mark_of, mark_of_body, note_of, without_words};
+ghost use Rattle.explore_report.specs.Mark.{access_mark, access_named, after_mark, begins_directive, blank_note, branch_text, client_mark, client_named, directive_of, expected_text, if_mark, is_directive, mark_of, mark_of_body, note_of, repeat_mark, without_words};
 
-use crate::cause::Cause;
+use crate::cause::{Cause, PLAN_ROUNDS, REPEATED_LINES};
+use crate::unrolling::rounds_said;
 use crate::verb::Verb;
 use crate::words::{first_word, words_after};
 use command_core::Command;
@@ -97,11 +98,13 @@ const AWAIT: &[u8] = b"#await";
 
 const ONCE: &[u8] = b"#once";
 
-const IF: &[u8] = b"#if";
+pub(crate) const IF: &[u8] = b"#if";
 
 const ELSE: &[u8] = b"#else";
 
-const END: &[u8] = b"#end";
+pub(crate) const END: &[u8] = b"#end";
+
+pub(crate) const REPEAT: &[u8] = b"#repeat";
 
 const READS: &[u8] = b"#reads";
 
@@ -180,6 +183,9 @@ fn directive_of(word: &[u8], rest: &[u8]) -> Option<Mark>
     }
     if word == END {
         return Some(without_words(rest, Mark::End));
+    }
+    if word == REPEAT {
+        return Some(repeat_mark(rest));
     }
     if word == READS {
         return Some(access_mark(Verb::Reads, rest));
@@ -285,6 +291,17 @@ fn if_mark(rest: &[u8]) -> Mark
         Mark::Wrong(Cause::NoText)
     } else {
         Mark::If
+    }
+}
+
+/// The mark of a `#repeat` that was not made.
+fn repeat_mark(rest: &[u8]) -> Mark
+    ensures mark { result ≡ repeat_mark rest.now }
+{
+    if rounds_said(rest).is_some() {
+        Mark::Wrong(Cause::NotRepeated(REPEATED_LINES))
+    } else {
+        Mark::Wrong(Cause::NoRounds(PLAN_ROUNDS))
     }
 }
 

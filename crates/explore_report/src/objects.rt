@@ -94,7 +94,7 @@ fn add_line(plan: &PlanScript<'_>, index: usize, page: &mut Page) {
     let Some(row) = plan.rows.get(index) else {
         return;
     };
-    page.counted("\"line\":", row.number);
+    page.counted("\"line\":", plan.line_of(row));
     page.text(",\"client\":");
     page.strings(plan.client_of(row));
     page.text(",\"command\":");

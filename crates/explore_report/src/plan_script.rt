@@ -1,6 +1,6 @@
 //! `PlanScript`: a script that is a plan, with its rows and the plan that they make. Its plan can be explored.
 //! `Report` and `fencectl` read it.
-ghost use Rattle.std.specs.Prelude.{◌≡◌, ◌+◌, IfErr, IfOk, drop, length, map, not, position, true};
+ghost use Rattle.std.specs.Prelude.{◌≡◌, ◌+◌, IfErr, IfOk, drop, length, map, not, option_map, position, slice_get, true, unwrap_or, ◌-◌};
 ghost use Rattle.line_core.specs.Script.{lines_of};
 ghost use Rattle.explore_core.specs.Found.{CanBeExplored, HasVisited, IsAll, IsShortest, IsTrue, ListsOnce};
 ghost use Rattle.explore_core.specs.Shortening.{IsShortened};
@@ -8,14 +8,18 @@ ghost use Rattle.explore_report.specs.Finding.{expectations, expected, expecting
 ghost use Rattle.explore_report.specs.Making.{section_at};
 ghost use Rattle.explore_report.specs.Plan.{after_notes};
 ghost use Rattle.explore_report.specs.Reading.{IsReading};
+ghost use Rattle.explore_report.specs.declared.turn.Turn.{Turn};
 
 use crate::cause::Cause;
 use crate::context::Section;
+use crate::line::{Line, plan_lines, texts_of};
 use crate::mark::{Mark, expected_text};
 use crate::mistake::{Mistake, mistake_of};
 use crate::row::{Row, rows_of};
 use crate::sections::plan_of;
 use crate::shortening::shorten;
+use crate::turn::Turn;
+use crate::unrolling::turns_of;
 use crate::words::without_last_spaces;
 use command_core::Command;
 use explore_core::{Found, Orders, Plan, explore};
@@ -26,7 +30,7 @@ use std::alloc::{AllocError, Global};
 /// A script that is a plan.
 #[derive(Drop)]
 pub struct PlanScript<'a> {
-    pub(crate) lines: Vec<&'a [u8]>,
+    pub(crate) lines: Vec<Line<'a>>,
     pub(crate) rows: Vec<Row>,
     pub plan: Plan,
 }
@@ -54,12 +58,23 @@ impl<'a> PlanScript<'a> {
                 cause: Cause::Bytes(SCRIPT_BYTES),
             }));
         }
-        let rows = rows_of(alloc, lines.as_slice())?;
-        if let Some(mistake) = mistake_of(rows.as_slice(), last) {
-            return Ok(Reading::NoPlan(mistake));
+        let turns = turns_of(alloc, lines.as_slice())?;
+        let made = plan_lines(alloc, lines.as_slice(), turns.as_slice())?;
+        let texts = texts_of(alloc, made.as_slice())?;
+        let rows = rows_of(alloc, texts.as_slice())?;
+        if let Some(mistake) = mistake_of(rows.as_slice(), texts.len()) {
+            return Ok(Reading::NoPlan(Mistake {
+                line: line_number(turns.as_slice(), mistake.line, last),
+                cause: mistake.cause,
+            }));
         }
-        let plan = plan_of(alloc, lines.as_slice(), rows.as_slice())?;
-        Ok(Reading::Plan(PlanScript { lines, rows, plan }))
+        let plan = plan_of(alloc, texts.as_slice(), rows.as_slice())?;
+        drop(texts);
+        Ok(Reading::Plan(PlanScript {
+            lines: made,
+            rows,
+            plan,
+        }))
     }
 
     /// Explores the plan by these orders of the clients, unless more than `bound` states would be visited, and shortens the schedules
@@ -89,27 +104,35 @@ impl<'a> PlanScript<'a> {
     }
 
     /// The text of a row, without the spaces around it.
-    pub(crate) fn text(&self, row: &Row) -> &'a [u8] {
+    pub(crate) fn text(&self, row: &Row) -> &[u8] {
         match self.lines.get(row.number.saturating_sub(1)) {
-            Some(line) => without_last_spaces(without_spaces(line)),
+            Some(line) => without_last_spaces(without_spaces(line.text())),
             None => b"",
         }
     }
 
     /// The text that a note expects.
-    pub(crate) fn expected(&self, row: &Row) -> &'a [u8]
+    pub(crate) fn expected(&self, row: &Row) -> &[u8]
         ensures text { result.now ≡ expected self.now row.now }
     {
         match self.lines.get(row.number.saturating_sub(1)) {
-            Some(line) => expected_text(line),
+            Some(line) => expected_text(line.text()),
             None => b"",
         }
     }
 
-    /// The number of a row's line.
+    /// The number of the script's line that makes a row.
+    pub(crate) fn line_of(&self, row: &Row) -> usize {
+        match self.lines.get(row.number.saturating_sub(1)) {
+            Some(line) => line.number,
+            None => 0,
+        }
+    }
+
+    /// The number of the script's line that makes the row of that index.
     pub(crate) fn number_of(&self, index: usize) -> usize {
         match self.rows.get(index) {
-            Some(row) => row.number,
+            Some(row) => self.line_of(row),
             None => 0,
         }
     }
@@ -208,6 +231,16 @@ impl<'a> PlanScript<'a> {
             left -= 1;
         }
         None
+    }
+}
+
+/// The number of the script's line that makes the plan's line of that number; `last`, if the plan has no such line.
+fn line_number(turns: &[Turn], number: usize, last: usize) -> usize
+    ensures { result ≡ unwrap_or (option_map (λ (t : Turn). t.number) (slice_get turns.now (number - 1))) last }
+{
+    match turns.get(number.saturating_sub(1)) {
+        Some(turn) => turn.number,
+        None => last,
     }
 }
 

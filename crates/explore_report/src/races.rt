@@ -37,7 +37,7 @@ impl Racing {
         page.bytes(plan.client_of(other));
         page.text(", which ");
         page.text(verb_of(other));
-        page.counted(" it from line ", other.number);
+        page.counted(" it from line ", plan.line_of(other));
         page.text(" on");
     }
 

@@ -16,7 +16,7 @@ use std::alloc::{AllocError, Global};
 /// A line of a plan that says something.
 #[derive(Clone, Copy)]
 pub struct Row {
-    /// Its number, from 1.
+    /// Its number among the lines of the plan, from 1; `PlanScript::line_of` has the number of the script's line.
     pub number: usize,
     pub context: Context,
     pub mark: Mark,

@@ -203,7 +203,7 @@ fn branch_line(alloc: Global, lines: &[&[u8]], row: &Row) -> Result<Vec<u8>, All
     Ok(line)
 }
 
-fn text_at<'a>(lines: &[&'a [u8]], number: usize) -> &'a [u8]
+pub(crate) fn text_at<'a>(lines: &[&'a [u8]], number: usize) -> &'a [u8]
     ensures text { result.now ≡ text_at (texts_of lines.now) number }
 {
     match lines.get(number.saturating_sub(1)) {

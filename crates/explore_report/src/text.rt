@@ -117,7 +117,7 @@ fn add_head(plan: &PlanScript<'_>, name: &str, index: usize, page: &mut Page) {
         return;
     };
     page.text(name);
-    page.counted(":", row.number);
+    page.counted(":", plan.line_of(row));
     page.text(": ");
     page.bytes(plan.client_of(row));
     page.text(": ");
@@ -180,9 +180,11 @@ impl Run {
         })
     }
 
-    /// Whether the line is the client's next one in the plan.
+    /// Whether the line is the client's next one in the plan, and further down in the script: a round of a `#repeat` begins a run.
     fn leads_to(&self, plan: &PlanScript<'_>, line: &Run) -> bool {
-        self.client == line.client && plan.command_below(self.last) == Some(line.first)
+        self.client == line.client
+            && plan.command_below(self.last) == Some(line.first)
+            && plan.number_of(self.last) < plan.number_of(line.first)
     }
 
     fn add(&self, plan: &PlanScript<'_>, front: &str, page: &mut Page) {

@@ -125,7 +125,7 @@ fn add_step(plan: &PlanScript<'_>, index: usize, is_stuck: bool, page: &mut Page
     };
     page.text("# ");
     page.bytes(plan.client_of(row));
-    page.counted(", line ", row.number);
+    page.counted(", line ", plan.line_of(row));
     page.text(if is_stuck { ", waits\n" } else { "\n" });
     page.bytes(plan.text(row));
     page.text("\n");
