@@ -1,4 +1,5 @@
 """Plans of any size for `fencectl explore`, by family and numbers, as `bench-6x3`."""
+import re
 
 
 def bench(clients, rounds):
@@ -145,6 +146,41 @@ def submission(stage, point, has_next):
     yield f"inc done{stage} 1"
     if stage > 0:
         yield f"inc free{stage - 1} 1"
+
+
+def in_round(number, line):
+    """Returns a line of a `#repeat` in that round."""
+    return re.sub(r"\$\$|\$\+(\d+)|\$", lambda found: "$" if found[0] == "$$" else str(number + int(found[1] or 0)), line)
+
+
+def length_of(lines):
+    """Returns how many lines a block has that begins above these."""
+    depth = 0
+    for place, line in enumerate(lines):
+        first = (line.split() or [""])[0]
+        if first == "#end" and not depth:
+            return place
+        depth += (first in ("#if", "#repeat")) - (first == "#end")
+    raise ValueError("a block without its #end")
+
+
+def made_once(lines):
+    """Writes the outermost `#repeat` of a plan out."""
+    while lines:
+        line, *lines = lines
+        words = line.split()
+        if words[:1] == ["#repeat"]:
+            length = length_of(lines)
+            for number in range(1, int(words[1]) + 1):
+                yield from (in_round(number, it) for it in lines[:length])
+            lines = lines[length + 1:]
+        else:
+            yield line
+
+
+def written_out(text):
+    """Returns a plan's text with each `#repeat` written out, as `explore` reads it."""
+    return "\n".join(made_once(list(made_once(text.split("\n")))))
 
 
 FAMILIES = {family.__name__: family for family in (bench, reset, chain, workers, shared, triple, pipe)}
