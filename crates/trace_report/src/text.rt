@@ -22,6 +22,7 @@ fn add_parts(page: &mut Page, content: Content<'_>) {
     add_waits(page, content);
     add_broken(page, &tracker.ledger.total());
     add_timelines(page, content);
+    add_drawing(page, content);
 }
 
 fn add_read(page: &mut Page, tracker: &Tracker) {
@@ -299,5 +300,13 @@ fn seconds<'a>(delay: &Delay, time: u64) -> Part<'a> {
         Part::Seconds(time)
     } else {
         Part::Text("-")
+    }
+}
+
+/// How to see what hangs.
+fn add_drawing(page: &mut Page, content: Content<'_>) {
+    if !content.found.hangs.is_empty() {
+        page.text("\nto draw what hangs: fencectl trace --draw --hangs FILE");
+        page.text("; bimphlai-run --trace FILE writes one\n");
     }
 }
