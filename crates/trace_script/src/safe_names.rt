@@ -1,6 +1,6 @@
 //! `SafeNames`: a name for each timeline of the trace, with which the names of the script begin. No two timelines have the same
 //! name (`AreApart`). A name has no `.`, so a context and a seqno can follow it behind points.
-ghost use Rattle.std.specs.Prelude.{◌≡◌, ◌⊎◌, [], ◌∷◌, ◌++◌, List, ℕ, Some, false, take, decimal, codes, IfOk, IfSome, OnOk};
+ghost use Rattle.std.specs.Prelude.{◌≡◌, [], ◌++◌, List, ℕ, Some, false, take, decimal, codes, IfOk, IfSome};
 ghost use Rattle.std.specs.List.{list_any};
 ghost use Rattle.point_core.specs.Named.{same_name};
 ghost use Rattle.trace_core.specs.declared.fence_event.TimelineKey.{TimelineKey};
