@@ -1,3 +1,4 @@
 mod Adding
 mod Scripting
 mod Naming
+mod Lanes

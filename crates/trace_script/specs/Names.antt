@@ -1,5 +1,5 @@
 -- The names of a script's timelines and files.
-use Rattle.std.specs.Prelude.{◌≡◌, ℕ, Bool, true, not, ◌||◌, ◌==◌, if◌then◌else◌, List, ◌∷◌, ◌++◌, map, take, decimal, Option, None, Some}
+use Rattle.std.specs.Prelude.{◌≡◌, ◌<◌, ◌^◌, ℕ, Bool, true, not, ◌||◌, ◌==◌, if◌then◌else◌, List, ◌∷◌, ◌++◌, map, take, decimal, Option, None, Some, IfSome}
 use Rattle.std.specs.Char.{is_ascii_alphanumeric}
 use Rattle.std.specs.List.{list_all, list_any}
 use Rattle.std.specs.Map.{lookup}
@@ -43,6 +43,17 @@ pub record AreNames (names : List (TimelineKey × List ℕ)) (taken : List (List
 abbrev pub lane_name : List ℕ → Option ℕ → List ℕ
 lane_name base None = base
 lane_name base (Some context) = base ++ 46 ∷ decimal context
+
+-- a context, if there is one, is a number of 64 bits
+abbrev pub IsContext : Option ℕ → Type 0
+IsContext context = IfSome context (λ c. c < 2 ^ 64)
+
+-- no two timelines of a script have the same name
+abbrev pub AreLanesApart : List (TimelineKey × List ℕ) → Type 0
+AreLanesApart names =
+    (key other : TimelineKey) (base own : List ℕ) → name_at names key ≡ Some base → name_at names other ≡ Some own →
+    (context another : Option ℕ) → IsContext context → IsContext another →
+    lane_name base context ≡ lane_name own another → (key ≡ other) × (context ≡ another)
 
 -- the name of a fence's file: its timeline's, its context and its seqno, with points between
 abbrev pub file_name : List ℕ → ℕ → ℕ → List ℕ

@@ -5,6 +5,7 @@
 #![tactic(auto)]
 
 mod acts;
+pub mod laws;
 mod line;
 mod safe_names;
 mod text;
