@@ -1,24 +1,18 @@
 //! `fencectl explore`: decides a plan, and writes what is found, and the schedules that are shown.
-ghost use Rattle.std.specs.Prelude.{◌≡◌, IfOk};
 ghost use Rattle.explore_core.specs.Found.{CanBeExplored};
 
 use crate::action::Explore;
 use crate::drawing::{report_mistake, script_of, svg_of, write_output};
 use crate::fault::FAULT;
+use crate::no_plan::report_no_plan;
 use crate::status::{ACCEPTED, REFUSED};
 use explore_core::{Found, Orders, STATES};
-use explore_report::{Cause, Mistake, Outcome, PlanScript, Reading, Report};
-use line_core::{Body, RawLine, body_of, first_line, strip_prefix};
+use explore_report::{Outcome, PlanScript, Reading, Report};
 use point_core::Refusal;
-use reason_core::{NoteLook, NotePlace, explain_bad_line};
 use source_core::{Input, STANDARD_INPUT, reported};
-use std::alloc::Global;
 use std::fs::File;
 use std::io;
 use std::io::Write;
-
-/// What an explanation of the first line begins with.
-const FIRST_LINE: &[u8] = b"line 1: ";
 
 const WRONG_STATES: &str = "fencectl: --states takes a number from 1";
 
@@ -61,66 +55,6 @@ fn explore_script(
         Reading::Plan(plan) => explore_plan(rt, asked, bound, &plan),
         Reading::NoPlan(mistake) => report_no_plan(rt, name_of(asked), script, &mistake),
     }
-}
-
-/// Reports why a script is no plan. A line that is no command gets the reason that `explain` gives.
-fn report_no_plan(
-    rt: &HostRuntime,
-    name: &str,
-    script: &[u8],
-    mistake: &Mistake,
-) -> Result<u8, Refusal>
-    ensures status { IfOk result (λ status. status ≡ 2) }
-{
-    let number = mistake.line;
-    let printed = match mistake.cause {
-        Cause::NoCommand => {
-            let reason = reason_for(rt.alloc(), line_at(script, number))?;
-            eprintln!(rt; "{name}:{number}: {reason}")
-        }
-        cause => eprintln!(rt; "{name}:{number}: {cause}"),
-    };
-    printed.map_err(|_| Refusal::Write)?;
-    Ok(FAULT)
-}
-
-/// The line of that number, from 1.
-fn line_at(script: &[u8], number: usize) -> &[u8] {
-    let mut rest = script;
-    for _ in 1..number {
-        if let Some((_, more)) = first_line(rest) {
-            rest = more;
-        }
-    }
-    match first_line(rest) {
-        Some((line, _)) => line,
-        None => rest,
-    }
-}
-
-/// Why a line is no command.
-fn reason_for(alloc: Global, line: &[u8]) -> Result<String, Refusal> {
-    let refusal = match body_of(line) {
-        Some(Body::Bad(refusal)) => refusal,
-        _ => Refusal::Syntax,
-    };
-    let place = NotePlace {
-        line: 1,
-        look: NoteLook::Plain,
-    };
-    let mut note = Vec::new(alloc);
-    explain_bad_line(
-        alloc,
-        &place,
-        &RawLine::new(1, line, line.len()),
-        refusal,
-        &mut note,
-    )?;
-    let reason = match note.as_slice() {
-        [text @ .., b'\n'] => strip_prefix(text, FIRST_LINE).unwrap_or(text),
-        text => text,
-    };
-    Ok(String::from_utf8_lossy(alloc, reason)?)
 }
 
 fn explore_plan(

@@ -13,6 +13,7 @@ mod drawing;
 mod exploring;
 mod fault;
 mod meant;
+mod no_plan;
 mod paint;
 mod prompt;
 mod reasons;

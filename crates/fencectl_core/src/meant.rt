@@ -1,4 +1,5 @@
-//! Finds the subcommand or the option that a mistyped word may stand for. `usage.rt` adds it to what clap says.
+//! Finds the subcommand, the option or the directive that a mistyped word may stand for. `usage.rt` adds it to what clap says, and
+//! `no_plan.rt` names the directive.
 
 use crate::subcommands::{Argument, ArgumentForm, Subcommand, subcommands};
 use clap::error::ErrorKind;
@@ -112,6 +113,35 @@ fn nearest_option(
         }
     }
     Ok(found)
+}
+
+/// The directive of a plan that a mistyped one may stand for, among those that a text names.
+pub(crate) fn meant_among<'a>(
+    alloc: Global,
+    word: &str,
+    text: &'a str,
+) -> Result<Option<&'a str>, AllocError> {
+    let mut least = least_of(word);
+    let mut found = None;
+    for named in text.split(' ') {
+        let named = without_comma(named);
+        let letters = osa_distance(alloc, word, named)?;
+        if is_directive(named) && letters < least {
+            least = letters;
+            found = Some(named);
+        }
+    }
+    Ok(found)
+}
+
+/// A word of a sentence.
+fn without_comma(word: &str) -> &str {
+    let word = word.strip_suffix(',').unwrap_or(word);
+    word.strip_suffix(';').unwrap_or(word)
+}
+
+fn is_directive(word: &str) -> bool {
+    word.len() > 1 && word.starts_with('#')
 }
 
 /// One more than the letters in which another word may differ.
