@@ -76,8 +76,8 @@ what waits for what as Graphviz DOT.
 `fencectl trace` reads the text of ftrace's dma_fence events, as tracefs, trace-cmd or perf print
 them, and reports which fences were never signalled, who waits for them, and what each timeline did;
 RUN.md says how to record one. With --script it writes what happened as a script, with --draw it
-draws that, and with --perfetto it writes it as trace events, in JSON, which Perfetto and
-chrome://tracing open; --from and --to, in seconds, choose a window.
+draws that, with --hangs only what hangs, and with --perfetto it writes it as trace events, in JSON,
+which Perfetto and chrome://tracing open; --from and --to, in seconds, choose a window.
 
 Clients run on threads, each with a timeline of its own, and share two buffers; LIBRARY.md says what
 they do. What they settle is the same in every run: a row for each timeline, and for each buffer the
@@ -86,8 +86,8 @@ points that are pending.
 `fencectl run --json` writes a JSON object for each answer, on a line of its own.
 
 `fencectl explore` reads a plan, a script whose notes `#client NAME` begin the lines of a client.
-It decides the plan over every schedule of the clients: whether it can get stuck, and what each line
-can be answered.
+It decides the plan over every schedule of the clients: whether it can get stuck, what each line can
+be answered, and whether clients race for a buffer.
 
 Exit status:
   0  every line was accepted; of a check: every script passes; of clients: they settled;
