@@ -247,7 +247,7 @@ fn push_case(
     Ok(())
 }
 
-fn case_of(
+pub(crate) fn case_of(
     alloc: Global,
     plan: &PlanScript<'_>,
     index: usize,

@@ -4,7 +4,7 @@ use crate::case::Case;
 use crate::expected::Finding;
 use crate::plan_script::PlanScript;
 use crate::races::Racing;
-use crate::report::Report;
+use crate::report::{Ended, Report};
 use crate::schedule::Making;
 use crate::why::{Form, Waiting, add_stuck_lines};
 use explore_core::Race;
@@ -136,10 +136,10 @@ fn add_schedule(plan: &PlanScript<'_>, schedule: &[usize], last: Option<usize>, 
 
 /// The totals, which end the report.
 fn add_totals(report: &Report<'_>, page: &mut Page) {
-    page.text(if report.found.covered {
-        "{\"covered\":true"
-    } else {
-        "{\"covered\":false"
+    page.text(match report.ended() {
+        Ended::Covered => "{\"covered\":true",
+        Ended::Bound => "{\"covered\":false,\"stopped\":\"states\"",
+        Ended::First => "{\"covered\":false,\"stopped\":\"first\"",
     });
     page.counted(",\"clients\":", report.plan.client_count());
     page.counted(",\"lines\":", report.plan.line_count());

@@ -2,7 +2,7 @@
 //! makes one.
 ghost use Rattle.std.specs.Prelude.{◌≡◌, IfErr, IfOk, count_by};
 ghost use Rattle.point_core.specs.declared.refusal.Refusal.TheVariants.{Memory};
-ghost use Rattle.explore_report.specs.Report.{IsReport, findings_in, is_wrong, outcome_of, races_in, stuck_in};
+ghost use Rattle.explore_report.specs.Report.{IsReport, findings_in, has_findings, is_wrong, outcome_by, outcome_of, races_in, stuck_in};
 
 use crate::case::{Case, cases_of};
 use crate::plan_script::PlanScript;
@@ -12,15 +12,31 @@ use explore_core::Found;
 use point_core::Refusal;
 use std::alloc::Global;
 
+/// Which findings an exploration is to find.
+#[derive(Clone, Copy)]
+pub enum Wanted {
+    All,
+    /// The first: then the search may end.
+    First,
+}
+
 /// The outcome of an exploration.
 #[derive(Clone, Copy)]
 pub enum Outcome {
     /// Every schedule was covered, and nothing was found.
     Clean,
-    /// Every schedule was covered, and something was found.
+    /// Every schedule was covered, or only the first finding was wanted, and something was found.
     Findings,
-    /// There are more states than were to be visited.
+    /// Schedules are left.
     NotCovered,
+}
+
+/// Why the search has ended.
+#[derive(Clone, Copy)]
+pub(crate) enum Ended {
+    Covered,
+    Bound,
+    First,
 }
 
 /// What is found of a plan, by its lines.
@@ -29,6 +45,7 @@ pub struct Report<'a> {
     pub(crate) alloc: Global,
     pub(crate) plan: &'a PlanScript<'a>,
     pub(crate) found: &'a Found,
+    pub(crate) wanted: Wanted,
     pub(crate) cases: Vec<Case>,
 }
 
@@ -40,9 +57,10 @@ impl<'a> Report<'a> {
         alloc: Global,
         plan: &'a PlanScript<'a>,
         found: &'a Found,
+        wanted: Wanted,
     ) -> Result<Report<'a>, Refusal>
         ensures memory { IfErr result (λ e. e ≡ Memory) }
-        ensures report { IfOk result (IsReport plan.now found.now) }
+        ensures report { IfOk result (IsReport plan.now found.now wanted) }
     {
         let mut making = Making::new(alloc);
         let cases = cases_of(alloc, plan, found, &mut making);
@@ -51,6 +69,7 @@ impl<'a> Report<'a> {
             alloc,
             plan,
             found,
+            wanted,
             cases: cases?,
         })
     }
@@ -119,19 +138,29 @@ impl<'a> Report<'a> {
     pub fn outcome(&self) -> Outcome
         ensures outcome { result ≡ outcome_of self.now }
     {
-        if !self.found.covered {
-            return Outcome::NotCovered;
-        }
+        outcome_by(self.found.covered, self.wanted, self.has_findings())
+    }
+
+    /// Whether something is found.
+    fn has_findings(&self) -> bool
+        ensures findings { result ≡ has_findings self.now }
+    {
         if self.stuck() > 0 {
-            return Outcome::Findings;
+            return true;
         }
         if self.races() > 0 {
-            return Outcome::Findings;
+            return true;
         }
-        if self.findings() > 0 {
-            return Outcome::Findings;
+        self.findings() > 0
+    }
+
+    /// Why the search has ended.
+    pub(crate) fn ended(&self) -> Ended {
+        match self.outcome() {
+            _ if self.found.covered => Ended::Covered,
+            Outcome::Findings => Ended::First,
+            _ => Ended::Bound,
         }
-        Outcome::Clean
     }
 
     /// The answers of a row.
@@ -139,6 +168,18 @@ impl<'a> Report<'a> {
         let cases = self.cases.as_slice();
         let below = cases.get(front(cases, row, false)..).unwrap_or(&[]);
         below.get(..front(below, row, true)).unwrap_or(below)
+    }
+}
+
+/// By whether every schedule was covered, and whether something is found.
+fn outcome_by(covered: bool, wanted: Wanted, any: bool) -> Outcome
+    ensures { result ≡ outcome_by covered wanted any }
+{
+    match wanted {
+        Wanted::First if any => Outcome::Findings,
+        _ if !covered => Outcome::NotCovered,
+        _ if any => Outcome::Findings,
+        _ => Outcome::Clean,
     }
 }
 

@@ -3,7 +3,7 @@ use crate::case::Case;
 use crate::expected::Finding;
 use crate::plan_script::PlanScript;
 use crate::races::Racing;
-use crate::report::Report;
+use crate::report::{Ended, Report};
 use crate::row::Row;
 use crate::schedule::Making;
 use crate::why::{Form, Waiting, add_stuck_lines};
@@ -13,6 +13,9 @@ use text_core::Page;
 
 /// The most answers that are listed of a line.
 const LISTED: usize = 6;
+
+/// What is said if schedules are left.
+const SOME: &str = "; what is above was found in some of the schedules\n";
 
 /// The most answers that are named beside one that is wrong.
 const NAMED: usize = 2;
@@ -31,10 +34,8 @@ pub(crate) fn text_of(
     add_answers(report, name, everything, &mut page);
     if report.found.covered {
         add_unreached(report, name, everything, waiting.as_slice(), &mut page);
-        add_totals(report, &mut page);
-    } else {
-        add_bound(report, &mut page);
     }
+    add_end(report, &mut page);
     page.finish()
 }
 
@@ -61,14 +62,28 @@ fn add_stuck(
 }
 
 fn add_stuck_head(report: &Report<'_>, name: &str, steps: usize, page: &mut Page) {
-    page.text(name);
-    page.counted(": stuck after ", steps);
-    page.counted(" of ", report.plan.line_count());
-    page.text(" steps");
+    add_steps(report.plan, name, steps, page);
     if report.found.covered {
         page.text("; no schedule gets stuck sooner");
     }
-    page.text(" (schedule 1)\n");
+    add_number(Some(1), page);
+}
+
+/// `FILE: stuck after N of M steps`.
+pub(crate) fn add_steps(plan: &PlanScript<'_>, name: &str, steps: usize, page: &mut Page) {
+    page.text(name);
+    page.counted(": stuck after ", steps);
+    page.counted(" of ", plan.line_count());
+    page.text(" steps");
+}
+
+/// The number of the schedule, if it is shown with one, and the end of the line.
+pub(crate) fn add_number(number: Option<usize>, page: &mut Page) {
+    if let Some(number) = number {
+        page.counted(" (schedule ", number);
+        page.text(")");
+    }
+    page.text("\n");
 }
 
 /// A line at which a client waits, and why.
@@ -89,26 +104,40 @@ fn add_races(report: &Report<'_>, name: &str, making: &mut Making, page: &mut Pa
     let mut number = report.stuck();
     for race in report.found.races.as_slice() {
         number = number.saturating_add(1);
-        add_race(report, name, race, number, page);
-        if making
-            .follow(report.plan, race.schedule.as_slice())
-            .is_err()
-        {
-            page.fail();
-        }
-        add_making(report.plan, making.rows.as_slice(), page);
+        add_race(report.plan, name, race, Some(number), making, page);
     }
 }
 
-fn add_race(report: &Report<'_>, name: &str, race: &Race, number: usize, page: &mut Page) {
-    if let Some(racing) = Racing::of(report.plan, race) {
+/// A race, with the number of its schedule, and the lines that are made before it.
+pub(crate) fn add_race(
+    plan: &PlanScript<'_>,
+    name: &str,
+    race: &Race,
+    number: Option<usize>,
+    making: &mut Making,
+    page: &mut Page,
+) {
+    if let Some(racing) = Racing::of(plan, race) {
         page.text(name);
-        page.counted(":", report.plan.number_of(racing.one));
+        page.counted(":", plan.number_of(racing.one));
         page.text(": ");
-        racing.add(report.plan, page);
-        page.counted(" (schedule ", number);
-        page.text(")\n");
+        racing.add(plan, page);
+        add_number(number, page);
     }
+    add_schedule(plan, race.schedule.as_slice(), making, page);
+}
+
+/// The lines that a schedule makes.
+pub(crate) fn add_schedule(
+    plan: &PlanScript<'_>,
+    schedule: &[usize],
+    making: &mut Making,
+    page: &mut Page,
+) {
+    if making.follow(plan, schedule).is_err() {
+        page.fail();
+    }
+    add_making(plan, making.rows.as_slice(), page);
 }
 
 /// `FILE:LINE: CLIENT: COMMAND: `.
@@ -204,17 +233,17 @@ fn add_findings(report: &Report<'_>, name: &str, making: &mut Making, page: &mut
         if let Some(finding) = case.finding {
             number = number.saturating_add(1);
             add_finding(report, name, case, finding, number, page);
-            add_case(report, case, making, page);
+            add_case(report.plan, case, making, page);
         }
     }
 }
 
 /// The lines that are made up to an answer.
-fn add_case(report: &Report<'_>, case: &Case, making: &mut Making, page: &mut Page) {
-    if case.make(report.plan, making).is_err() {
+pub(crate) fn add_case(plan: &PlanScript<'_>, case: &Case, making: &mut Making, page: &mut Page) {
+    if case.make(plan, making).is_err() {
         page.fail();
     }
-    add_making(report.plan, making.rows.as_slice(), page);
+    add_making(plan, making.rows.as_slice(), page);
 }
 
 fn add_finding(
@@ -225,11 +254,24 @@ fn add_finding(
     number: usize,
     page: &mut Page,
 ) {
-    add_head(report.plan, name, case.row, page);
+    add_wrong(report.plan, name, case, finding, page);
+    add_others(report, case, page);
+    add_number(Some(number), page);
+}
+
+/// What is wrong with an answer.
+pub(crate) fn add_wrong(
+    plan: &PlanScript<'_>,
+    name: &str,
+    case: &Case,
+    finding: Finding,
+    page: &mut Page,
+) {
+    add_head(plan, name, case.row, page);
     match finding {
         Finding::Unexpected => {
             page.text("expected ");
-            add_expected(report.plan, case.row, page);
+            add_expected(plan, case.row, page);
             page.text(", came ");
             page.quoted(case.text.as_slice());
         }
@@ -238,9 +280,6 @@ fn add_finding(
             page.quoted(case.text.as_slice());
         }
     }
-    add_others(report, case, page);
-    page.counted(" (schedule ", number);
-    page.text(")\n");
 }
 
 /// The answers that are expected of a row.
@@ -401,9 +440,23 @@ fn add_totals(report: &Report<'_>, page: &mut Page) {
     page.text("\n");
 }
 
-fn add_bound(report: &Report<'_>, page: &mut Page) {
-    page.counted("not covered: stopped after ", report.found.states);
-    page.text(
-        " states; a greater --states goes on; what is above was found in some of the schedules\n",
-    );
+/// The totals, or why schedules are left.
+fn add_end(report: &Report<'_>, page: &mut Page) {
+    let states = report.found.states;
+    match report.ended() {
+        Ended::Covered => add_totals(report, page),
+        Ended::Bound => {
+            page.counted("not covered: stopped after ", states);
+            page.text(" states; a greater --states goes on");
+            page.text(SOME);
+        }
+        Ended::First => {
+            page.counted(
+                "not covered: stopped at the first finding (states: ",
+                states,
+            );
+            page.text("); without --first the search goes on");
+            page.text(SOME);
+        }
+    }
 }

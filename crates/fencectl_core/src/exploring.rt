@@ -7,7 +7,7 @@ use crate::fault::FAULT;
 use crate::no_plan::report_no_plan;
 use crate::status::{ACCEPTED, REFUSED};
 use explore_core::{Found, Orders, STATES};
-use explore_report::{Outcome, PlanScript, Reading, Report};
+use explore_report::{Outcome, PlanScript, Reading, Report, Wanted};
 use point_core::Refusal;
 use source_core::{Input, STANDARD_INPUT, reported};
 use std::fs::File;
@@ -84,7 +84,7 @@ fn report_found(
     plan: &PlanScript<'_>,
     found: &Found,
 ) -> Result<u8, Refusal> {
-    let report = Report::of(rt.alloc(), plan, found)?;
+    let report = Report::of(rt.alloc(), plan, found, Wanted::All)?;
     write_report(rt, asked, &report)
 }
 
