@@ -22,7 +22,7 @@ use crate::turn::Turn;
 use crate::unrolling::turns_of;
 use crate::words::without_last_spaces;
 use command_core::Command;
-use explore_core::{Found, Orders, Plan, explore};
+use explore_core::{Found, Orders, Plan, Search, explore};
 use line_core::{SCRIPT_BYTES, first_line, without_spaces};
 use point_core::Refusal;
 use std::alloc::{AllocError, Global};
@@ -101,6 +101,23 @@ impl<'a> PlanScript<'a> {
         ensures shortened { IsShortened self.now.plan found.old found.new }
     {
         shorten(alloc, self, found);
+    }
+
+    /// A search of the plan, level by level, for a caller that reports what is found meanwhile, or ends it early.
+    ///
+    /// Fails with `Memory` only.
+    pub fn search(
+        &self,
+        alloc: Global,
+        orders: Orders,
+        bound: usize,
+    ) -> Result<Search<'_>, Refusal>
+        requires explorable { CanBeExplored self.now.plan }
+        ensures plan { IfOk result (λ search. search.plan ≡ self.now.plan) }
+        ensures bound { IfOk result (λ search. search.bound ≡ bound) }
+        ensures memory { IfErr result (λ refusal. refusal ≡ Refusal.Memory) }
+    {
+        Search::new(alloc, &self.plan, orders, bound)
     }
 
     /// The text of a row, without the spaces around it.
