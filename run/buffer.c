@@ -242,6 +242,14 @@ static bool is_idle(struct registry *registry, const struct object *object, enum
     return bim_device_test(&registry->device, object->number, USAGES[access], &signalled) == 0 && signalled;
 }
 
+int buffer_test(struct registry *registry, const struct bim_request *request, const struct object *object, int32_t *idle)
+{
+    if (object->kind != BUFFER)
+        return ENOTTY;
+    *idle = is_idle(registry, object, request->flags & BIM_SYNC_WRITE ? WRITING : READING);
+    return 0;
+}
+
 /* Returns ENOMEM if poll still reports the readiness. */
 static int clear(struct object *object, enum access access, int theirs)
 {

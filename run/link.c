@@ -205,6 +205,7 @@ static bool gives_none(const struct bim_request *request)
     case BIM_OP_INC:
     case BIM_OP_INFO:
     case BIM_OP_GONE:
+    case BIM_OP_TEST:
     case BIM_OP_WAIT: return true;
     case BIM_OP_MEMORY: return request->value == BIM_NO_PART;
     default: return false;

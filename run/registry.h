@@ -123,6 +123,8 @@ int buffer_extend(struct registry *registry, const struct bim_request *request, 
 int buffer_memory(const struct bim_request *request, const struct object *buffer, struct bim_answer *answer,
                   int *gives);
 int buffer_import(struct registry *registry, const struct bim_request *request, struct object *buffer, int passed);
+/* Stores whether an access, by its flags, has nothing to wait for. Returns an errno. */
+int buffer_test(struct registry *registry, const struct bim_request *request, const struct object *buffer, int32_t *is_idle);
 void buffer_is_ready(struct object *buffer, enum access access);
 /* Retries what failed for want of memory. */
 void buffers_retry(struct registry *registry);

@@ -52,7 +52,8 @@ static int serve_timeline(struct registry *registry, const struct bim_request *r
     return registry_finish(registry, object, error, gives);
 }
 
-static int serve_fence(struct registry *registry, const struct bim_request *request, struct object *object, int *gives)
+static int serve_fence(struct registry *registry, const struct bim_request *request, struct object *object,
+                       struct bim_answer *answer, int *gives)
 {
     bim_device_point point;
     struct object *file;
@@ -65,6 +66,7 @@ static int serve_fence(struct registry *registry, const struct bim_request *requ
         error = bim_device_fence_of(&registry->device, file->number, 0, &point);
     if (error)
         return registry_finish(registry, file, error, gives);
+    answer->point = point.value;
     error = record_fence(&file->fences, object->timeline, request->value, &point, registry->trace);
     return finish_file(registry, file, error, gives);
 }
@@ -135,7 +137,7 @@ static int serve_object(struct registry *registry, const struct bim_request *req
     if (!object)
         return ENOTTY;
     switch (request->op) {
-    case BIM_OP_FENCE: return serve_fence(registry, request, object, gives);
+    case BIM_OP_FENCE: return serve_fence(registry, request, object, answer, gives);
     case BIM_OP_INC: return serve_inc(registry, request, object);
     case BIM_OP_MERGE: return serve_merge(registry, request, object, gives);
     case BIM_OP_INFO: return info_of_file(registry, request, object, answer, gives);
@@ -145,17 +147,19 @@ static int serve_object(struct registry *registry, const struct bim_request *req
     case BIM_OP_NAME: return buffer_name(object, request->name);
     case BIM_OP_EXPORT: return serve_export(registry, request, object, gives);
     case BIM_OP_IMPORT: return buffer_import(registry, request, object, passed);
+    case BIM_OP_TEST: return buffer_test(registry, request, object, &answer->status);
     default: return EINVAL;
     }
 }
 
-static int serve_gone(struct registry *registry, const struct bim_request *request)
+static int serve_gone(struct registry *registry, const struct bim_request *request, struct bim_answer *answer)
 {
     struct object *object = registry_find(registry, request->a);
 
     if (object)
         registry_look(registry, object, true);
     registry_settle(registry);
+    answer->status = !registry_find(registry, request->a);
     return 0;
 }
 
@@ -188,10 +192,12 @@ void registry_serve(struct registry *registry, const struct bim_request *request
     case BIM_OP_TIMELINE: answer->error = serve_timeline(registry, request, gives); break;
     case BIM_OP_BUFFER: answer->error = buffer_make(registry, request, passed, gives); break;
     case BIM_OP_TEXT: answer->error = info_text(registry, gives); break;
-    case BIM_OP_GONE: answer->error = serve_gone(registry, request); break;
+    case BIM_OP_GONE: answer->error = serve_gone(registry, request, answer); break;
     default: answer->error = serve_object(registry, request, passed, answer, gives); break;
     }
     answer->gives = *gives >= 0;
+    if (request->op != BIM_OP_MEMORY)
+        answer->at = registry->now;
     buffers_retry(registry);
     trace_flush(registry->trace);
 }

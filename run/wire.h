@@ -49,6 +49,7 @@ enum bim_op {
     BIM_OP_IMPORT, /* a: the buffer, which is passed as a descriptor too; b: the file; flags */
     BIM_OP_WAIT,   /* a: a file; value: 1 if a wait begins, 0 if it has ended */
     BIM_OP_TEXT,   /* gives the text of sync/info */
+    BIM_OP_TEST,   /* a: the buffer; flags. Answers whether an access has nothing to wait for */
     BIM_OPS
 };
 
@@ -86,15 +87,21 @@ struct bim_answer {
     uint32_t rows;
     int32_t is_lent; /* 1 if a buffer's memory is a program's memory files */
     __extension__ union {
-        int32_t status; /* of a file */
+        int32_t status; /* of a file. BIM_OP_GONE, BIM_OP_TEST: 1 if the object is gone, if nothing is pending */
         uint32_t flags; /* O_ACCMODE of a buffer */
     };
     __extension__ union {
         uint32_t fences; /* number of fences of a file */
         uint32_t parts;  /* number of parts of a buffer's memory */
     };
-    uint64_t size;   /* of a buffer */
-    uint64_t from;   /* offset of a part in its memory file */
+    __extension__ union {
+        uint64_t size; /* of a buffer (BIM_OP_MEMORY) */
+        uint64_t at;   /* when it was served, in nanoseconds of the monotonic clock, later than all that was served before */
+    };
+    __extension__ union {
+        uint64_t from;  /* offset of a part in its memory file */
+        uint64_t point; /* of a new fence, as a number that never wraps */
+    };
     uint64_t length; /* length of the part */
     char name[BIM_TEXT_ROOM];
     struct sync_fence_info row[BIM_ROWS];
