@@ -3,53 +3,69 @@
 #define _GNU_SOURCE
 #include "calls.h"
 #include "shim.h"
+#include "step.h"
 
 #include <errno.h>
 #include <limits.h>
 #include <stdio.h>
 
-/* Returns the number of the object that is closed if the service has to hear of it, or 0. */
-static uint64_t closing(int file)
-{
-    uint64_t inode;
-    enum bim_mark mark = shim_mark(file, &inode);
+/* What is closed, if the service has to hear of it. */
+struct closing {
+    uint64_t inode; /* or 0, or BIM_ANY */
+    bool is_step;
+};
 
-    if (mark != BIM_TIMELINE_MARK && mark != BIM_FILE_MARK && mark != BIM_BUFFER_MARK)
-        return 0;
-    return shim_hears_closing(mark == BIM_TIMELINE_MARK) ? inode : 0;
+static struct closing closing(int file)
+{
+    struct closing closing = { 0, false };
+    enum bim_mark mark = shim_mark(file, &closing.inode);
+
+    if ((mark != BIM_TIMELINE_MARK && mark != BIM_FILE_MARK && mark != BIM_BUFFER_MARK) ||
+        !shim_hears_closing(mark == BIM_TIMELINE_MARK))
+        return (struct closing){ 0, false };
+    closing.is_step = mark == BIM_TIMELINE_MARK && step_is_on();
+    if (closing.is_step)
+        step_begin(STEP_SHUT);
+    return closing;
 }
 
-static void tell(uint64_t inode)
+static void tell(struct closing closing)
 {
-    struct bim_request request = { .op = BIM_OP_GONE, .a = inode };
+    struct bim_request request = { .op = BIM_OP_GONE, .a = closing.inode };
+    struct step step = { .kind = STEP_SHUT, .of = closing.inode, .request = &request };
     struct bim_answer answer;
     int before = errno;
 
-    if (inode)
-        shim_ask(&request, -1, &answer, NULL);
+    if (closing.inode)
+        step.error = shim_ask(&request, -1, &answer, NULL);
+    if (closing.is_step) {
+        step.status = step.error ? 0 : answer.status;
+        step.answer = step.error ? NULL : &answer;
+        step_end(&step);
+    }
     errno = before;
 }
 
 void shim_close(int file)
 {
-    uint64_t inode = closing(file);
+    struct closing closed = closing(file);
 
     call_close(file);
-    tell(inode);
+    tell(closed);
 }
 
 EXPORT int close(int file)
 {
     NEXT(close);
-    uint64_t inode;
+    struct closing closed;
     int result;
 
     if (shim_is_own(file))
         return shim_result(EBADF);
-    inode = closing(file);
+    closed = closing(file);
     result = next(file);
     if (result == 0)
-        tell(inode);
+        tell(closed);
     return result;
 }
 
@@ -58,39 +74,41 @@ EXPORT int fclose(FILE *stream)
 {
     NEXT(fclose);
     int before = errno, result;
-    uint64_t inode = closing(fileno(stream));
+    struct closing closed = closing(fileno(stream));
 
     errno = before;
     result = next(stream);
-    tell(inode);
+    tell(closed);
     return result;
 }
 
 EXPORT int dup2(int file, int other)
 {
     NEXT(dup2);
-    uint64_t inode = file == other ? 0 : closing(other);
+    struct closing closed = { 0, false };
     int result;
 
     if (shim_is_own(other))
         return shim_result(EBUSY);
+    if (file != other)
+        closed = closing(other);
     result = next(file, other);
     if (result >= 0)
-        tell(inode);
+        tell(closed);
     return result;
 }
 
 EXPORT int dup3(int file, int other, int flags)
 {
     NEXT(dup3);
-    uint64_t inode = closing(other);
+    struct closing closed = closing(other);
     int result;
 
     if (shim_is_own(other))
         return shim_result(EBUSY);
     result = next(file, other, flags);
     if (result >= 0)
-        tell(inode);
+        tell(closed);
     return result;
 }
 
@@ -124,7 +142,7 @@ static int close_around(unsigned first, unsigned last, int flags)
     if (begin <= last)
         result |= close_numbers(begin, last, flags);
     if (above > 0)
-        tell(BIM_ANY);
+        tell((struct closing){ BIM_ANY, false });
     return result;
 }
 

@@ -5,6 +5,7 @@
 #include "ioctls.h"
 #include "loss.h"
 #include "shim.h"
+#include "step.h"
 #include "user.h"
 
 #include <errno.h>
@@ -16,10 +17,10 @@
 enum { SOCKET_CALLS = 0x89 }; /* the type of SIOCATMARK and other socket calls */
 
 /* Asks for a new descriptor, and stores it in the caller's struct. Closes it again if it can't be stored. */
-static int give_file(struct bim_request *request, void *arg, void *data, size_t size, int32_t *field)
+static int give_file(enum step_kind kind, struct bim_request *request, void *arg, void *data, size_t size, int32_t *field)
 {
     struct bim_answer answer;
-    int given, error = shim_ask(request, -1, &answer, &given);
+    int given, error = step_ask(kind, request, -1, &answer, &given);
 
     if (error)
         return error;
@@ -39,7 +40,7 @@ static int create_fence(uint64_t timeline, void *arg)
     if (error)
         return error;
     request.value = data.value;
-    return give_file(&request, arg, &data, sizeof data, &data.fence);
+    return give_file(STEP_FENCE, &request, arg, &data, sizeof data, &data.fence);
 }
 
 static int inc(uint64_t timeline, void *arg)
@@ -48,7 +49,7 @@ static int inc(uint64_t timeline, void *arg)
     struct bim_answer answer;
     int error = user_get(&request.value, arg, sizeof request.value);
 
-    return error ? error : shim_ask(&request, -1, &answer, NULL);
+    return error ? error : step_ask(STEP_INC, &request, -1, &answer, NULL);
 }
 
 static int merge(uint64_t file, void *arg)
@@ -66,7 +67,7 @@ static int merge(uint64_t file, void *arg)
     /* Like the kernel, stores the name back as it was read, with its last byte cleared. */
     data.name[sizeof data.name - 1] = 0;
     strcpy(request.name, data.name);
-    return give_file(&request, arg, &data, sizeof data, &data.fence);
+    return give_file(STEP_MERGE, &request, arg, &data, sizeof data, &data.fence);
 }
 
 /* Stores the rows of an answer. Many rows come in a memory file. */
@@ -98,6 +99,22 @@ static int put_info(struct sync_file_info *data, const struct bim_answer *answer
     return user_put(arg, data, sizeof *data);
 }
 
+/* Asks for the information of a file, which is cached once it has signalled. */
+static int ask_info(struct bim_request *request, struct bim_answer *answer, int *rows_file)
+{
+    struct step step = { .kind = STEP_INFO, .of = request->a };
+
+    step_begin(STEP_INFO);
+    if (!shim_recall(request->a, answer)) {
+        step.error = shim_ask(request, -1, answer, rows_file);
+        step.request = request;
+        step.answer = step.error ? NULL : answer;
+    }
+    step.status = step.error ? 0 : answer->status;
+    step_end(&step);
+    return step.error;
+}
+
 static int file_info(uint64_t file, void *arg)
 {
     struct bim_request request = { .op = BIM_OP_INFO, .a = file };
@@ -110,8 +127,7 @@ static int file_info(uint64_t file, void *arg)
     if (data.flags || data.pad)
         return EINVAL;
     request.value = data.num_fences;
-    if (!shim_recall(file, &answer))
-        error = shim_ask(&request, -1, &answer, &rows_file);
+    error = ask_info(&request, &answer, &rows_file);
     if (!error)
         error = put_info(&data, &answer, rows_file, arg);
     if (rows_file >= 0)
@@ -146,7 +162,7 @@ static int allocate(void *arg)
         return EINVAL;
     request.size = (data.len + page - 1) / page * page;
     request.flags = data.fd_flags & O_ACCMODE;
-    given = shim_ask_for_file(&request);
+    given = step_ask_for_file(STEP_BUFFER, &request);
     if (given < 0)
         return errno;
     if (!(data.fd_flags & O_CLOEXEC))
@@ -185,36 +201,34 @@ static int poll_buffer(int buffer, short event, int milliseconds)
  * any signal handler interrupts. */
 static int wait_for(int buffer, short event, struct bim_request *request)
 {
-    int file = shim_ask_for_file(request), error;
+    struct step wait = { .kind = STEP_WAIT, .status = 1, .is_second = true };
+    int file = step_ask_for_file(STEP_EXPORT, request);
 
     if (file < 0)
         return errno == EMFILE ? poll_buffer(buffer, event, -1) : errno;
     if (shim_is_traced())
         shim_wait(file, true);
-    error = wait_for_byte(file);
+    wait.error = wait_for_byte(file);
     if (shim_is_traced())
         shim_wait(file, false);
+    if (step_is_on()) {
+        step_continue(STEP_WAIT);
+        shim_mark(file, &wait.of);
+        step_end(&wait);
+    }
     shim_close(file);
-    return error;
+    return wait.error;
 }
 
-/* Returns whether a fence is pending for which an access has to wait. A poll shows a signal microseconds later than the service
- * knows it, so a file of the pending fences is asked. */
-static bool is_pending(int buffer, short event, struct bim_request *request)
+/* Ends an access: notes whether it had to wait for a fence. */
+static void end_access(struct bim_request *request)
 {
-    struct bim_request question = { .op = BIM_OP_INFO };
-    struct bim_answer answer = { .status = 0 };
-    int file;
+    struct bim_answer answer;
+    bool writes = request->flags & DMA_BUF_SYNC_WRITE;
 
-    if (poll_buffer(buffer, event, 0) != EAGAIN)
-        return false;
-    file = shim_ask_for_file(request);
-    if (file < 0)
-        return true;
-    if (shim_mark(file, &question.a) == BIM_FILE_MARK && !shim_recall(question.a, &answer))
-        shim_ask(&question, -1, &answer, NULL);
-    shim_close(file);
-    return answer.status == 0;
+    request->op = BIM_OP_TEST;
+    if (step_ask(STEP_TEST, request, -1, &answer, NULL) == 0 && answer.status == 0 && check_is_on())
+        check_note(writes);
 }
 
 static int access_buffer(int file, uint64_t buffer, void *arg)
@@ -231,11 +245,11 @@ static int access_buffer(int file, uint64_t buffer, void *arg)
         return EINVAL;
     event = request.flags & DMA_BUF_SYNC_WRITE ? POLLOUT : POLLIN;
     if (data.flags & DMA_BUF_SYNC_END) {
-        if (check_is_on() && is_pending(file, event, &request))
-            check_note(request.flags & DMA_BUF_SYNC_WRITE);
+        if (check_is_on() || step_is_on())
+            end_access(&request);
         return 0;
     }
-    if (poll_buffer(file, event, 0) == 0)
+    if (!step_is_on() && poll_buffer(file, event, 0) == 0)
         return 0;
     return wait_for(file, event, &request);
 }
@@ -261,7 +275,7 @@ static int export_file(uint64_t buffer, void *arg)
     if (data.flags & ~DMA_BUF_SYNC_RW || !data.flags)
         return EINVAL;
     request.flags = data.flags;
-    return give_file(&request, arg, &data, sizeof data, &data.fd);
+    return give_file(STEP_EXPORT, &request, arg, &data, sizeof data, &data.fd);
 }
 
 static int import_file(int file, uint64_t buffer, void *arg)
@@ -276,7 +290,7 @@ static int import_file(int file, uint64_t buffer, void *arg)
     request.flags = data.flags;
     if (shim_mark(data.fd, &request.b) != BIM_FILE_MARK)
         request.b = 0;
-    return shim_ask(&request, file, &answer, NULL);
+    return step_ask(STEP_IMPORT, &request, file, &answer, NULL);
 }
 
 /* The kernel takes a number for the new descriptor before it checks anything else, so a lack of numbers comes first. */

@@ -4,6 +4,7 @@
 #include "direct.h"
 #include "paths.h"
 #include "shim.h"
+#include "step.h"
 
 #include <errno.h>
 #include <stdarg.h>
@@ -31,7 +32,7 @@ static int open_by_service(enum path path)
     struct bim_request request = { .op = path == SW_SYNC ? BIM_OP_TIMELINE : BIM_OP_TEXT };
 
     prctl(PR_GET_NAME, request.name);
-    return shim_ask_for_file(&request);
+    return path == SW_SYNC ? step_ask_for_file(STEP_TIMELINE, &request) : shim_ask_for_file(&request);
 }
 
 /* Returns the kernel's error for flags that don't fit a file, or 0. */

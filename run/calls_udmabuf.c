@@ -3,6 +3,7 @@
 #include "calls.h"
 #include "parts.h"
 #include "shim.h"
+#include "step.h"
 #include "user.h"
 
 #include <errno.h>
@@ -56,7 +57,7 @@ static int make(const struct udmabuf_create_item *items, size_t count, int *buff
         .op = BIM_OP_BUFFER, .size = items[0].size, .flags = O_RDWR, .from = items[0].offset
     };
     struct bim_answer answer;
-    int error = shim_ask(&request, items[0].memfd, &answer, buffer);
+    int error = step_ask(STEP_BUFFER, &request, items[0].memfd, &answer, buffer);
 
     for (size_t i = 1; i < count && !error; i++)
         error = extend(*buffer, &items[i]);

@@ -6,9 +6,11 @@
 #include "numbers.h"
 #include "shim.h"
 #include "shuffle.h"
+#include "step.h"
 #include "user.h"
 
 #include <errno.h>
+#include <linux/dma-buf.h>
 #include <poll.h>
 #include <sys/epoll.h>
 #include <sys/select.h>
@@ -69,14 +71,65 @@ static bool waits(const struct timespec *limit)
     return !limit || (user_get(&copy, limit, sizeof copy) == 0 && (copy.tv_sec != 0 || copy.tv_nsec != 0));
 }
 
+/* Begins a step if any of a poll's first 64 descriptors is a file or a buffer. Returns whether it is a step. */
+static bool begin_step(const struct pollfd *files, nfds_t count)
+{
+    struct pollfd copy[NOTED];
+    uint64_t inode;
+
+    count = count < NOTED ? count : NOTED;
+    if (!step_is_on() || user_get(copy, files, count * sizeof *files))
+        return false;
+    for (nfds_t i = 0; i < count; i++) {
+        enum bim_mark mark = shim_mark(copy[i].fd, &inode);
+
+        if (mark != BIM_FILE_MARK && mark != BIM_BUFFER_MARK)
+            continue;
+        step_begin(STEP_WAIT);
+        return true;
+    }
+    return false;
+}
+
+/* Stores what a poll found of a descriptor. Returns whether it is a file or a buffer, and ready. */
+static bool find_ready(const struct pollfd *file, struct step_found *found)
+{
+    enum bim_mark mark = file->revents & (POLLIN | POLLOUT) ? shim_mark(file->fd, &found->of) : 0;
+
+    found->value = mark != BIM_BUFFER_MARK ? 0 : file->revents & POLLOUT ? DMA_BUF_SYNC_WRITE : DMA_BUF_SYNC_READ;
+    return mark == BIM_FILE_MARK || mark == BIM_BUFFER_MARK;
+}
+
+static void end_step(const struct pollfd *files, nfds_t count, int result)
+{
+    struct step_found found[NOTED];
+    struct step step = { .kind = STEP_WAIT, .error = result < 0 ? errno : 0 };
+    uint32_t ready = 0;
+
+    for (nfds_t i = 0; result > 0 && i < count && i < NOTED; i++)
+        ready += find_ready(&files[i], &found[ready]);
+    if (ready > 0) {
+        step.status = 1;
+        step.of = found[0].of;
+        step.value = found[0].value;
+        step.more = found + 1;
+        step.more_count = ready - 1;
+    }
+    step_end(&step);
+}
+
 #define POLL(name, parameters, arguments, may_wait)                                       \
     int name parameters;                                                                  \
     EXPORT int name parameters                                                            \
     {                                                                                     \
         NEXT(name);                                                                       \
+        bool is_step = begin_step(files, count);                                          \
         uint64_t noted = (may_wait) && prepares_waits() ? begin_waits(files, count) : 0;  \
+        int result = after_poll(files, count, noted, next arguments);                     \
                                                                                           \
-        return after_poll(files, count, noted, next arguments);                           \
+        if (is_step)                                                                      \
+            end_step(files, count, result);                                               \
+        return result;                                                                    \
     }
 
 POLL(poll, (struct pollfd *files, nfds_t count, int milliseconds), (files, count, milliseconds), milliseconds != 0)
@@ -135,12 +188,38 @@ static void look_at_bits(const fd_set *set, int count)
             loss_look(files, found);
 }
 
-static int after_select(int count, const fd_set *readable, const fd_set *writable, const struct pollfd *files,
-                        uint64_t noted, int result)
+/* What is done around a select: the first of its readable descriptors. */
+struct selection {
+    struct pollfd files[NOTED];
+    nfds_t count;
+    uint64_t noted;
+    bool is_step;
+};
+
+static void begin_select(struct selection *selection, const fd_set *readable, int count, bool is_traced)
+{
+    selection->noted = selection->count = 0;
+    if (is_traced || step_is_on())
+        selection->count = files_before(readable, count, selection->files);
+    selection->is_step = begin_step(selection->files, selection->count);
+    if (is_traced)
+        selection->noted = begin_waits(selection->files, selection->count);
+}
+
+static void end_select_step(struct selection *selection, const fd_set *readable, int result)
+{
+    for (nfds_t i = 0; result > 0 && i < selection->count; i++)
+        selection->files[i].revents = FD_ISSET(selection->files[i].fd, readable) ? POLLIN : 0;
+    end_step(selection->files, selection->count, result);
+}
+
+static int after_select(int count, const fd_set *readable, const fd_set *writable, struct selection *selection, int result)
 {
     int before = errno;
 
-    end_waits(files, noted);
+    end_waits(selection->files, selection->noted);
+    if (selection->is_step)
+        end_select_step(selection, readable, result);
     if (result > 0 && shim_is_on()) {
         look_at_bits(readable, count);
         look_at_bits(writable, count);
@@ -161,22 +240,22 @@ static bool waits_until(const struct timeval *limit)
 EXPORT int select(int count, fd_set *readable, fd_set *writable, fd_set *others, struct timeval *limit)
 {
     NEXT(select);
-    struct pollfd files[NOTED];
-    uint64_t noted = waits_until(limit) ? begin_waits(files, files_before(readable, count, files)) : 0;
+    struct selection selection;
 
+    begin_select(&selection, readable, count, waits_until(limit));
     count = selected(count);
-    return after_select(count, readable, writable, files, noted, next(count, readable, writable, others, limit));
+    return after_select(count, readable, writable, &selection, next(count, readable, writable, others, limit));
 }
 
 EXPORT int pselect(int count, fd_set *readable, fd_set *writable, fd_set *others, const struct timespec *limit,
                    const sigset_t *mask)
 {
     NEXT(pselect);
-    struct pollfd files[NOTED];
-    uint64_t noted = waits(limit) ? begin_waits(files, files_before(readable, count, files)) : 0;
+    struct selection selection;
 
+    begin_select(&selection, readable, count, waits(limit));
     count = selected(count);
-    return after_select(count, readable, writable, files, noted, next(count, readable, writable, others, limit, mask));
+    return after_select(count, readable, writable, &selection, next(count, readable, writable, others, limit, mask));
 }
 
 /* Linux's epoll refuses files without a poll operation, such as timelines. */

@@ -7,6 +7,7 @@
 #include "loss.h"
 #include "numbers.h"
 #include "shuffle.h"
+#include "thread.h"
 
 #include <errno.h>
 #include <limits.h>
@@ -63,6 +64,7 @@ static void before_fork(void)
 {
     sigset_t before;
 
+    thread_before_fork();
     if (is_inside)
         return;
     block_signals(&before);
@@ -90,6 +92,7 @@ static void in_child(void)
     if (!own->is_ready)
         way->leave();
     shuffle_fork();
+    thread_in_child();
     if (!is_inside)
         pthread_sigmask(SIG_SETMASK, &mask, NULL);
     is_inside = forks = false;
@@ -126,6 +129,7 @@ static void choose_way(void)
     make_own();
     shuffle_begin();
     check_begin();
+    thread_begin();
     way = strcmp(service, BIM_LOCAL) == 0 ? &LOCAL : &LINK;
 }
 

@@ -5,8 +5,6 @@
 #include "shim.h"
 
 #include <errno.h>
-#include <pthread.h>
-#include <stdint.h>
 #include <stdlib.h>
 #include <time.h>
 
@@ -33,6 +31,11 @@ static uint64_t drawn(void)
         stream = mixed(seed + strangers++) | 1;
     stream += 0x9e3779b97f4a7c15u;
     return mixed(stream);
+}
+
+bool shuffle_is_on(void)
+{
+    return is_on;
 }
 
 void shuffle_begin(void)
@@ -64,41 +67,18 @@ void shuffle_pause(void)
         stay_away();
 }
 
+uint64_t shuffle_draw(void)
+{
+    return is_on ? drawn() : 0;
+}
+
 void shuffle_fork(void)
 {
-    stream = is_on ? drawn() : 0;
+    stream = shuffle_draw();
 }
 
-/* The start of a new thread. The creating thread draws the new thread's stream, so that the stream doesn't depend on
- * which thread runs first. */
-struct beginning {
-    void *(*run)(void *);
-    void *given;
-    uint64_t stream;
-};
-
-static void *begin_thread(void *given)
+void shuffle_start(uint64_t of_thread)
 {
-    struct beginning beginning = *(struct beginning *)given;
-
-    free(given);
-    stream = beginning.stream;
+    stream = of_thread;
     shuffle_pause();
-    return beginning.run(beginning.given);
-}
-
-EXPORT int pthread_create(pthread_t *thread, const pthread_attr_t *how, void *(*run)(void *), void *given)
-{
-    NEXT(pthread_create);
-    struct beginning *beginning = shim_is_on() && is_on ? malloc(sizeof *beginning) : NULL;
-    int error;
-
-    if (!beginning)
-        return next(thread, how, run, given);
-    *beginning = (struct beginning){ run, given, drawn() };
-    error = next(thread, how, begin_thread, beginning);
-    if (error)
-        free(beginning);
-    shuffle_pause();
-    return error;
 }

@@ -7,13 +7,15 @@
 #include <stdint.h>
 #include <sys/stat.h>
 
-/* Environment variables of a program: where its service is, and, if given, the trace file, the seed of --shuffle, and the file of
- * --check. */
+/* Environment variables of a program: where its service is, and, if given, the trace file, the seed of --shuffle, the file of
+ * --check, and the file of processes (processes.h); and of a process that posix_spawn made, its name. */
 #define BIM_SERVICE "BIMPHLAI_RUN"
 #define BIM_TRACE   "BIMPHLAI_RUN_TRACE"
 #define BIM_SHUFFLE "BIMPHLAI_RUN_SHUFFLE"
 #define BIM_DIRECT  "BIMPHLAI_RUN_DIRECT"
 #define BIM_CHECK   "BIMPHLAI_RUN_CHECK"
+#define BIM_THREADS "BIMPHLAI_RUN_THREADS"
+#define BIM_THREAD  "BIMPHLAI_RUN_THREAD"
 #define BIM_LOCAL   "local"
 
 /* The exit status of a process whose service is gone, or belongs to another process. */
