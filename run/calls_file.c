@@ -1,6 +1,7 @@
 /* Other calls on descriptors: Linux's sync files can be neither read nor written. */
 #define _GNU_SOURCE
 #include "calls.h"
+#include "recorder.h"
 #include "shim.h"
 #include "user.h"
 
@@ -8,6 +9,14 @@
 #include <sys/sendfile.h>
 #include <sys/time.h>
 #include <sys/uio.h>
+
+/* Bytes that a program reads from its own pipes and sockets order threads, which a plan keeps. */
+static ssize_t received(int file, ssize_t result)
+{
+    if (result >= 0)
+        recorder_receive(file);
+    return result;
+}
 
 static bool has_mark(int file)
 {
@@ -20,14 +29,14 @@ EXPORT ssize_t read(int file, void *bytes, size_t length)
 {
     NEXT(read);
 
-    return has_mark(file) ? shim_result(EINVAL) : next(file, bytes, length);
+    return has_mark(file) ? shim_result(EINVAL) : received(file, next(file, bytes, length));
 }
 
 EXPORT ssize_t readv(int file, const struct iovec *parts, int count)
 {
     NEXT(readv);
 
-    return has_mark(file) ? shim_result(EINVAL) : next(file, parts, count);
+    return has_mark(file) ? shim_result(EINVAL) : received(file, next(file, parts, count));
 }
 
 /* Entry points of programs built with _FORTIFY_SOURCE. */
@@ -37,7 +46,7 @@ EXPORT ssize_t __read_chk(int file, void *bytes, size_t length, size_t room)
 {
     NEXT(__read_chk);
 
-    return has_mark(file) ? shim_result(EINVAL) : next(file, bytes, length, room);
+    return has_mark(file) ? shim_result(EINVAL) : received(file, next(file, bytes, length, room));
 }
 
 /* Corrects the error of a write. A pipe's read end and a sealed file can't be written anyway, but in Linux a timeline
@@ -62,6 +71,7 @@ EXPORT ssize_t write(int file, const void *bytes, size_t length)
     NEXT(write);
     uint64_t inode;
 
+    recorder_send(file);
     return shim_is_buffer(file, &inode) ? shim_result(EINVAL) : written(file, next(file, bytes, length));
 }
 
@@ -70,6 +80,7 @@ EXPORT ssize_t writev(int file, const struct iovec *parts, int count)
     NEXT(writev);
     uint64_t inode;
 
+    recorder_send(file);
     return shim_is_buffer(file, &inode) ? shim_result(EINVAL) : written(file, next(file, parts, count));
 }
 

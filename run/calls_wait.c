@@ -4,10 +4,12 @@
 #include "calls.h"
 #include "loss.h"
 #include "numbers.h"
+#include "recorder.h"
 #include "shim.h"
 #include "shuffle.h"
 #include "step.h"
 #include "user.h"
+#include "watched.h"
 
 #include <errno.h>
 #include <linux/dma-buf.h>
@@ -100,14 +102,11 @@ static bool find_ready(const struct pollfd *file, struct step_found *found)
     return mark == BIM_FILE_MARK || mark == BIM_BUFFER_MARK;
 }
 
-static void end_step(const struct pollfd *files, nfds_t count, int result)
+/* Ends a step that found so many files and buffers ready. */
+static void end_found(const struct step_found *found, uint32_t ready, int result)
 {
-    struct step_found found[NOTED];
     struct step step = { .kind = STEP_WAIT, .error = result < 0 ? errno : 0 };
-    uint32_t ready = 0;
 
-    for (nfds_t i = 0; result > 0 && i < count && i < NOTED; i++)
-        ready += find_ready(&files[i], &found[ready]);
     if (ready > 0) {
         step.status = 1;
         step.of = found[0].of;
@@ -116,6 +115,16 @@ static void end_step(const struct pollfd *files, nfds_t count, int result)
         step.more_count = ready - 1;
     }
     step_end(&step);
+}
+
+static void end_step(const struct pollfd *files, nfds_t count, int result)
+{
+    struct step_found found[NOTED];
+    uint32_t ready = 0;
+
+    for (nfds_t i = 0; result > 0 && i < count && i < NOTED; i++)
+        ready += find_ready(&files[i], &found[ready]);
+    end_found(found, ready, result);
 }
 
 #define POLL(name, parameters, arguments, may_wait)                                       \
@@ -263,10 +272,25 @@ EXPORT int epoll_ctl(int set, int how, int file, struct epoll_event *event)
 {
     NEXT(epoll_ctl);
     uint64_t inode;
+    int result;
 
     if (how == EPOLL_CTL_ADD && shim_mark(file, &inode) == BIM_TIMELINE_MARK)
         return shim_result(EPERM);
-    return next(set, how, file, event);
+    result = next(set, how, file, event);
+    if (result == 0 && step_is_on())
+        watched_note(set, how, file, event);
+    return result;
+}
+
+/* Ends a step of a wait that its events may be of. */
+static void end_epoll_step(int set, const struct epoll_event *events, int result)
+{
+    struct step_found found[NOTED];
+    int ready = result > 0 ? watched_find(set, events, result, found, NOTED) : 0;
+
+    if (ready < 0)
+        recorder_lack(LOG_LACKS_EPOLL);
+    end_found(found, ready < 0 ? 0 : ready, result);
 }
 
 static int after_epoll(int set, const struct epoll_event *events, int result)
@@ -288,10 +312,17 @@ static int after_epoll(int set, const struct epoll_event *events, int result)
     EXPORT int name parameters                           \
     {                                                    \
         NEXT(name);                                      \
+        bool is_step = step_is_on() && watched_has(set); \
+        int result;                                      \
                                                          \
+        if (is_step)                                     \
+            step_begin(STEP_WAIT);                       \
         if (may_wait)                                    \
             shim_before_wait();                          \
-        return after_epoll(set, events, next ? next arguments : shim_result(ENOSYS)); \
+        result = after_epoll(set, events, next ? next arguments : shim_result(ENOSYS)); \
+        if (is_step)                                     \
+            end_epoll_step(set, events, result);         \
+        return result;                                   \
     }
 
 EPOLL(epoll_wait, (int set, struct epoll_event *events, int room, int milliseconds), (set, events, room, milliseconds),

@@ -1,5 +1,6 @@
 /* Closings: releases objects that no process holds any more. */
 #include "calls.h"
+#include "log.h"
 #include "registry.h"
 
 #include <errno.h>
@@ -60,6 +61,7 @@ static int let_go(struct registry *registry, struct object *object, const struct
     set_closer(registry, object, teller);
     registry->counts[object->kind]--;
     if (object->kind == TIMELINE) {
+        log_add(&(struct log_record){ .time = registry->now, .kind = LOG_SHUT, .object = { object->inode } });
         record_close(object->timeline, value, registry->now, registry->trace);
         registry_wake(registry);
     } else if (object->kind == SYNC_FILE) {

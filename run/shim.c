@@ -6,6 +6,7 @@
 #include "direct.h"
 #include "loss.h"
 #include "numbers.h"
+#include "recorder.h"
 #include "shuffle.h"
 #include "thread.h"
 
@@ -129,6 +130,7 @@ static void choose_way(void)
     make_own();
     shuffle_begin();
     check_begin();
+    recorder_begin();
     thread_begin();
     way = strcmp(service, BIM_LOCAL) == 0 ? &LOCAL : &LINK;
 }

@@ -16,6 +16,7 @@
 #define BIM_CHECK   "BIMPHLAI_RUN_CHECK"
 #define BIM_THREADS "BIMPHLAI_RUN_THREADS"
 #define BIM_THREAD  "BIMPHLAI_RUN_THREAD"
+#define BIM_PLAN    "BIMPHLAI_RUN_PLAN"
 #define BIM_LOCAL   "local"
 
 /* The exit status of a process whose service is gone, or belongs to another process. */
