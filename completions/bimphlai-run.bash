@@ -5,15 +5,20 @@ _bimphlai_run() {
     # After the options comes a program, followed by its own words.
     while [ "$at" -lt "$COMP_CWORD" ]; do
         case "${COMP_WORDS[at]}" in
-        --trace | --shuffle) at=$((at + 2)) ;;
+        --trace | --shuffle | --patience) at=$((at + 2)) ;;
+        --follow)
+            at=$((at + 2))
+            # A number behind the file is a schedule's.
+            [[ ${COMP_WORDS[at]-} != +([0-9]) ]] || at=$((at + 1))
+            ;;
         --) at=$((at + 1)) && break ;;
         -*) at=$((at + 1)) ;;
         *) break ;;
         esac
     done
-    if [ "${COMP_WORDS[COMP_CWORD - 1]}" = --trace ]; then
+    if [[ ${COMP_WORDS[COMP_CWORD - 1]} == --@(trace|follow) ]]; then
         mapfile -t COMPREPLY < <(compgen -f -- "$word")
-    elif [ "${COMP_WORDS[COMP_CWORD - 1]}" = --shuffle ]; then
+    elif [[ ${COMP_WORDS[COMP_CWORD - 1]} == --@(shuffle|patience) ]]; then
         COMPREPLY=()
     elif [ "$at" -lt "$COMP_CWORD" ] && declare -F _command_offset >/dev/null; then
         # bash-completion knows the program's own words.
@@ -21,7 +26,7 @@ _bimphlai_run() {
     elif [ "$at" -lt "$COMP_CWORD" ]; then
         mapfile -t COMPREPLY < <(compgen -f -- "$word")
     elif [[ $word == -* ]]; then
-        mapfile -t COMPREPLY < <(compgen -W "--local --direct --trace --report --check --require --require-fences --shuffle --verbose -h --help --version" -- "$word")
+        mapfile -t COMPREPLY < <(compgen -W "--local --direct --trace --report --check --require --require-fences --shuffle --follow --patience --verbose -h --help --version" -- "$word")
     else
         mapfile -t COMPREPLY < <(compgen -c -- "$word")
         mapfile -t -O "${#COMPREPLY[@]}" COMPREPLY < <(compgen -f -- "$word")

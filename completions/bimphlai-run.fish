@@ -8,6 +8,8 @@ complete -c bimphlai-run -l check -d 'Find accesses of buffers that end while a 
 complete -c bimphlai-run -l require -d 'End with 1 if a fence hangs, a rule was broken, or --check finds an access'
 complete -c bimphlai-run -l require-fences -d 'End with 1 if the program made no fence'
 complete -c bimphlai-run -x -l shuffle -d 'Delay threads at moments that a number decides'
+complete -c bimphlai-run -r -l follow -d 'Have threads make their calls as a schedule says'
+complete -c bimphlai-run -x -l patience -d 'How long a thread waits for its turn'
 complete -c bimphlai-run -l verbose -d 'Say where the service is, and what was left'
 complete -c bimphlai-run -s h -l help -d 'Print help'
 complete -c bimphlai-run -l version -d 'Print the version'

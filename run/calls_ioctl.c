@@ -2,6 +2,7 @@
 #define _GNU_SOURCE
 #include "calls.h"
 #include "check.h"
+#include "follow.h"
 #include "ioctls.h"
 #include "loss.h"
 #include "shim.h"
@@ -208,7 +209,9 @@ static int wait_for(int buffer, short event, struct bim_request *request)
         return errno == EMFILE ? poll_buffer(buffer, event, -1) : errno;
     if (shim_is_traced())
         shim_wait(file, true);
+    follow_wait(true);
     wait.error = wait_for_byte(file);
+    follow_wait(false);
     if (shim_is_traced())
         shim_wait(file, false);
     if (step_is_on()) {

@@ -1,8 +1,10 @@
-/* Locks of the C library, which order threads: a plan keeps these orders. Only with --plan; else each call passes on. The C library's
+/* Locks of the C library, which order threads: a plan keeps these orders. Only with --plan and --follow; else each call passes on. The C library's
  * own locks don't come here, nor do those that a program makes of futexes or atomics. */
 #define _GNU_SOURCE
+#include "follow.h"
 #include "recorder.h"
 #include "shim.h"
+#include "thread.h"
 
 #include <errno.h>
 #include <pthread.h>
@@ -16,8 +18,13 @@
     EXPORT int name parameters                                    \
     {                                                             \
         NEXT(name);                                               \
-        int error = next arguments;                               \
+        int error;                                                \
                                                                   \
+        if (kind == LOG_MUTEX && thread_is_on())                  \
+            follow_begin_lock();                                  \
+        error = next arguments;                                   \
+        if (kind == LOG_MUTEX && thread_is_on())                  \
+            follow_end_lock(error == 0 || error == EOWNERDEAD);   \
         if (recorder_is_on() && (error == 0 || error == EOWNERDEAD)) \
             recorder_acquire(kind, OBJECT(lock));                 \
         return error;                                             \

@@ -2,6 +2,7 @@
  * is gone, these calls report what looks like a signal; it must not reach the program. */
 #define _GNU_SOURCE
 #include "calls.h"
+#include "follow.h"
 #include "loss.h"
 #include "numbers.h"
 #include "recorder.h"
@@ -73,6 +74,12 @@ static bool waits(const struct timespec *limit)
     return !limit || (user_get(&copy, limit, sizeof copy) == 0 && (copy.tv_sec != 0 || copy.tv_nsec != 0));
 }
 
+static void begin_wait(void)
+{
+    step_begin(STEP_WAIT);
+    follow_wait(true);
+}
+
 /* Begins a step if any of a poll's first 64 descriptors is a file or a buffer. Returns whether it is a step. */
 static bool begin_step(const struct pollfd *files, nfds_t count)
 {
@@ -87,7 +94,7 @@ static bool begin_step(const struct pollfd *files, nfds_t count)
 
         if (mark != BIM_FILE_MARK && mark != BIM_BUFFER_MARK)
             continue;
-        step_begin(STEP_WAIT);
+        begin_wait();
         return true;
     }
     return false;
@@ -107,6 +114,7 @@ static void end_found(const struct step_found *found, uint32_t ready, int result
 {
     struct step step = { .kind = STEP_WAIT, .error = result < 0 ? errno : 0 };
 
+    follow_wait(false);
     if (ready > 0) {
         step.status = 1;
         step.of = found[0].of;
@@ -316,7 +324,7 @@ static int after_epoll(int set, const struct epoll_event *events, int result)
         int result;                                      \
                                                          \
         if (is_step)                                     \
-            step_begin(STEP_WAIT);                       \
+            begin_wait();                                \
         if (may_wait)                                    \
             shim_before_wait();                          \
         result = after_epoll(set, events, next ? next arguments : shim_result(ENOSYS)); \

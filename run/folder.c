@@ -13,6 +13,8 @@
 
 #define NAME "bimphlai-run."
 
+static const char *const FILES[] = { FOLDER_SOCKET, FOLDER_TRACE, FOLDER_CHECK, FOLDER_THREADS, FOLDER_SCHEDULE };
+
 /* By su or sudo, the environment may name another user's folder, and that user could put a service of their own
  * there. */
 static bool is_own(const char *path)
@@ -25,9 +27,8 @@ static bool is_own(const char *path)
 
 static void remove_entries(int in, const char *name, int folder)
 {
-    unlinkat(folder, FOLDER_SOCKET, 0);
-    unlinkat(folder, FOLDER_TRACE, 0);
-    unlinkat(folder, FOLDER_CHECK, 0);
+    for (size_t i = 0; i < sizeof FILES / sizeof FILES[0]; i++)
+        unlinkat(folder, FILES[i], 0);
     unlinkat(in, name, AT_REMOVEDIR);
 }
 
@@ -127,8 +128,7 @@ void folder_remove(const char *path)
 {
     if (!path[0])
         return;
-    remove_in(path, FOLDER_SOCKET);
-    remove_in(path, FOLDER_TRACE);
-    remove_in(path, FOLDER_CHECK);
+    for (size_t i = 0; i < sizeof FILES / sizeof FILES[0]; i++)
+        remove_in(path, FILES[i]);
     rmdir(path);
 }

@@ -1,13 +1,15 @@
-/* A folder of a run, which contains the socket of its service, a temporary trace, or what --check finds. The folder is locked while the run
+/* A folder of a run, which contains the socket of its service, a temporary trace, what --check finds, or what --follow needs. The folder is locked while the run
  * lasts, so that a later run can recognise and remove the folder of a run that was killed. */
 #ifndef BIM_RUN_FOLDER_H
 #define BIM_RUN_FOLDER_H
 
 #include <stddef.h>
 
-#define FOLDER_SOCKET "socket"
-#define FOLDER_TRACE  "trace"
-#define FOLDER_CHECK  "check"
+#define FOLDER_SOCKET   "socket"
+#define FOLDER_TRACE    "trace"
+#define FOLDER_CHECK    "check"
+#define FOLDER_THREADS  "threads"
+#define FOLDER_SCHEDULE "schedule"
 
 /* Makes a folder that only this user may enter. Stores its path, and a descriptor that holds the lock. Removes all
  * unlocked folders beside it. Returns 0 or an errno. */

@@ -36,6 +36,14 @@ bool find_beside(const char *const folders[], const char *name, char *path)
     return false;
 }
 
+void launch_find_fencectl(char *path)
+{
+    static const char *const FOLDERS[] = { "", "../crates/fencectl/out/", NULL };
+
+    if (!find_beside(FOLDERS, "fencectl", path))
+        strcpy(path, "fencectl");
+}
+
 /* Adds a word to an environment variable, before or after its present value. */
 static int add(const char *variable, const char *word, bool is_first)
 {

@@ -13,6 +13,9 @@ int fault(const char *what, int error);
  * own. Returns false if none has it. */
 bool find_beside(const char *const folders[], const char *name, char *path);
 
+/* Stores the path of fencectl beside this program, or else its name, by which it is found in PATH. */
+void launch_find_fencectl(char *path);
+
 /* Sets the environment by which programs find the service. Returns 0 or STATUS_FAULT. */
 int launch_prepare(const char *service, const char *trace);
 /* Becomes the program (exec). Returns the exit status to end with if that fails. */

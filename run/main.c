@@ -7,6 +7,7 @@
 #include "report.h"
 #include "supervise.h"
 #include "trace.h"
+#include "verdict.h"
 #include "wire.h"
 
 #include <errno.h>
@@ -44,9 +45,21 @@ static int set_variable(const char *name, const char *value)
 static int begin_check(const struct options *options)
 {
     char path[PATH_MAX];
-    int error = options->checks ? report_findings(path) : 0;
+    bool checks = options_check(options);
+    int error = checks ? report_findings(path) : 0;
 
-    return error ? fault("a file for what is found", error) : set_variable(BIM_CHECK, options->checks ? path : NULL);
+    return error ? fault("a file for what is found", error) : set_variable(BIM_CHECK, checks ? path : NULL);
+}
+
+/* Gives the program's threads the schedule to follow, and no names otherwise. */
+static int begin_follow(const struct options *options)
+{
+    static const char *const VARIABLES[] = { BIM_THREADS, BIM_THREAD, BIM_FOLLOW, NULL };
+    int status = 0;
+
+    for (int i = 0; VARIABLES[i] && !status; i++)
+        status = set_variable(VARIABLES[i], NULL);
+    return status || !options->schedule ? status : verdict_begin(options);
 }
 
 static int run(const struct options *options, const char *trace)
@@ -88,6 +101,8 @@ int main(int count, char **words)
         status = begin_trace(&options, path);
     if (!status)
         status = begin_check(&options);
+    if (!status)
+        status = begin_follow(&options);
     if (!status)
         status = run(&options, path[0] ? path : NULL);
     report_remove_temporary();

@@ -5,6 +5,7 @@
 #include <bimphlai.h>
 #include <getopt.h>
 #include <stdio.h>
+#include <stdlib.h>
 #include <string.h>
 
 static const char USAGE[] = "usage: bimphlai-run [OPTION ...] PROGRAM [ARGUMENT ...]\n";
@@ -24,14 +25,19 @@ static const char HELP[] =
     "                ends with 1 if the program made no fence\n"
     "  --shuffle SEED\n"
     "                delays threads at moments that the number SEED decides, to find what relies on luck\n"
+    "  --follow FILE [N]\n"
+    "                has threads make their calls as schedule N of the plan FILE, or as the script FILE\n"
+    "  --patience MS for --follow: how long a thread waits for its turn, instead of 1500 ms\n"
     "  --verbose     says where the service is, and what was left at the end\n"
     "  -h, --help, --version\n"
     "\n"
-    "The status is the program's; 2 for options that don't fit, 123 if the service was lost, 125 if it can't\n"
+    "The status is the program's; with --follow 1 if what the plan says happens, 0 if it is harmless, and 3 if the\n"
+    "program didn't make the calls. It is 2 for options that don't fit, 123 if the service was lost, 125 if it can't\n"
     "start, 126 if the program can't be run with it, and 127 if there is no such program.\n";
 
-enum word { LOCAL = 256, DIRECT, TRACE, REPORT, REQUIRE, REQUIRE_FENCES, CHECK, SHUFFLE, VERBOSE, VERSION };
-enum { SEED_DIGITS = 19 }; /* fit into 64 bits */
+enum word { LOCAL = 256, DIRECT, TRACE, REPORT, REQUIRE, REQUIRE_FENCES, CHECK, SHUFFLE, FOLLOW, PATIENCE, VERBOSE, VERSION };
+enum { DIGITS = 19 }; /* fit into 64 bits */
+enum { PATIENCE_MS = 1500 };
 
 static const struct option WORDS[] = {
     { "local", no_argument, NULL, LOCAL },
@@ -42,6 +48,8 @@ static const struct option WORDS[] = {
     { "require-fences", no_argument, NULL, REQUIRE_FENCES },
     { "check", no_argument, NULL, CHECK },
     { "shuffle", required_argument, NULL, SHUFFLE },
+    { "follow", required_argument, NULL, FOLLOW },
+    { "patience", required_argument, NULL, PATIENCE },
     { "verbose", no_argument, NULL, VERBOSE },
     { "help", no_argument, NULL, 'h' },
     { "version", no_argument, NULL, VERSION },
@@ -111,15 +119,34 @@ static int take_trace(struct options *options)
     return tell_usage();
 }
 
-static int take_seed(struct options *options)
+static bool is_number(const char *word)
 {
-    size_t length = strlen(optarg);
+    size_t length = strlen(word);
 
-    options->seed = optarg;
-    if (length > 0 && length <= SEED_DIGITS && strspn(optarg, "0123456789") == length)
+    return length > 0 && length <= DIGITS && strspn(word, "0123456789") == length;
+}
+
+/* Checks a number. */
+static int take_number(const char *option)
+{
+    if (is_number(optarg))
         return -1;
-    say("--shuffle takes a number of at most %d digits, but '%s' is none", SEED_DIGITS, optarg);
+    say("%s takes a number of at most %d digits, but '%s' is none", option, DIGITS, optarg);
     return tell_usage();
+}
+
+/* Takes the word behind the file too, if it is a number. */
+static int take_schedule(struct options *options, char **words)
+{
+    options->schedule = optarg;
+    options->finding = words[optind] && is_number(words[optind]) ? words[optind++] : NULL;
+    return -1;
+}
+
+static int take_patience(struct options *options)
+{
+    options->patience = strtoull(optarg, NULL, 10);
+    return take_number("--patience");
 }
 
 static int take(struct options *options, int word, char **words)
@@ -132,13 +159,20 @@ static int take(struct options *options, int word, char **words)
     case REQUIRE: options->requires = true; return -1;
     case REQUIRE_FENCES: options->requires_fences = true; return -1;
     case CHECK: options->checks = true; return -1;
-    case SHUFFLE: return take_seed(options);
+    case SHUFFLE: options->seed = optarg; return take_number("--shuffle");
+    case FOLLOW: return take_schedule(options, words);
+    case PATIENCE: return take_patience(options);
     case VERBOSE: options->is_verbose = true; return -1;
     case 'h': return print(USAGE, HELP);
     case VERSION: return print("bimphlai-run " BIM_VERSION, "\n");
     case ':': say("%s takes a word behind it", words[optind - 1]); return tell_usage();
     default: return tell_unknown(words[optind - 1]);
     }
+}
+
+bool options_check(const struct options *options)
+{
+    return options->checks || options->schedule;
 }
 
 bool options_trace(const struct options *options)
@@ -148,14 +182,14 @@ bool options_trace(const struct options *options)
 
 bool options_report(const struct options *options)
 {
-    return options_trace(options) || options->checks;
+    return options_trace(options) || options_check(options);
 }
 
 int options_read(struct options *options, int count, char **words)
 {
     int word, status = -1;
 
-    *options = (struct options){ .program = NULL };
+    *options = (struct options){ .patience = PATIENCE_MS };
     while (status < 0 && (word = getopt_long(count, words, "+:h", WORDS, NULL)) >= 0)
         status = take(options, word, words);
     options->program = words + optind;

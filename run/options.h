@@ -10,11 +10,16 @@ struct options {
     bool is_local, is_direct, reports, requires, requires_fences, checks, is_verbose;
     const char *trace; /* a file name, or NULL */
     const char *seed;  /* decimal digits, or NULL */
+    const char *schedule; /* to follow: a script, or a plan, or NULL */
+    const char *finding;  /* decimal digits: which schedule of the plan, or NULL */
+    unsigned long long patience; /* of a thread that waits for its turn, in milliseconds */
     char **program;    /* with its arguments */
 };
 
 /* Returns -1, or the exit status if bimphlai-run is to end: after it has printed help, the version or a usage error. */
 int options_read(struct options *options, int count, char **words);
+/* Returns whether accesses are checked. */
+bool options_check(const struct options *options);
 /* Returns whether the trace is read at the end of the run. */
 bool options_trace(const struct options *options);
 /* Returns whether anything is told at the end of the run. */

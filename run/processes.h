@@ -10,7 +10,7 @@
 /* A thread with its numbers. */
 struct thread {
     _Atomic pid_t process;
-    uint32_t calls;             /* that were counted */
+    uint32_t calls, locks;      /* that were counted */
     _Atomic uint32_t children;  /* that were made: threads and processes */
     struct thread_name name;
 };

@@ -6,6 +6,7 @@
 #include "launch.h"
 #include "say.h"
 #include "trace.h"
+#include "verdict.h"
 
 #include <errno.h>
 #include <fcntl.h>
@@ -29,24 +30,27 @@ static int make_folder(void)
     return folder[0] ? 0 : folder_make(folder, sizeof folder, &lock);
 }
 
-int report_temporary(char *path)
+int report_path(const char *name, char *path)
 {
     int error = make_folder();
 
-    if (error)
-        return error;
-    snprintf(path, PATH_MAX, "%s/" FOLDER_TRACE, folder);
-    return trace_begin(path);
+    if (!error)
+        snprintf(path, PATH_MAX, "%s/%s", folder, name);
+    return error;
+}
+
+int report_temporary(char *path)
+{
+    int error = report_path(FOLDER_TRACE, path);
+
+    return error ? error : trace_begin(path);
 }
 
 int report_findings(char *path)
 {
-    int error = make_folder();
+    int error = report_path(FOLDER_CHECK, path);
 
-    if (error)
-        return error;
-    snprintf(path, PATH_MAX, "%s/" FOLDER_CHECK, folder);
-    return findings_begin(path);
+    return error ? error : findings_begin(path);
 }
 
 void report_remove_temporary(void)
@@ -58,7 +62,6 @@ void report_remove_temporary(void)
  * handles. */
 static void become_fencectl(const char *trace, bool reports)
 {
-    static const char *const FOLDERS[] = { "", "../crates/fencectl/out/", NULL };
     char fencectl[PATH_MAX];
     int nowhere = open("/dev/null", O_RDWR | O_CLOEXEC);
     sigset_t none;
@@ -70,8 +73,7 @@ static void become_fencectl(const char *trace, bool reports)
     dup2(STDERR_FILENO, STDOUT_FILENO);
     dup2(nowhere, STDIN_FILENO);
     unsetenv("LD_PRELOAD");
-    if (!find_beside(FOLDERS, "fencectl", fencectl))
-        strcpy(fencectl, "fencectl");
+    launch_find_fencectl(fencectl);
     execlp(fencectl, "fencectl", "trace", trace, (char *)NULL);
     fault("fencectl", errno);
     _exit(STATUS_FAULT);
@@ -130,8 +132,11 @@ static int look_at_trace(const struct options *options, const char *trace)
 
 int report(const struct options *options, const char *trace, int status)
 {
-    int found = options->checks && has_findings() && options->requires ? FAILED : 0;
+    bool has_any = options_check(options) && has_findings();
+    int found = has_any && options->requires ? FAILED : 0;
     int of_trace = options_trace(options) ? look_at_trace(options, trace) : 0;
 
+    if (options->schedule)
+        return verdict_tell(status, has_any);
     return status ? status : of_trace ? of_trace : found;
 }

@@ -4,6 +4,8 @@
 
 #include "options.h"
 
+/* Stores the path of a temporary file, whose name folder.h has. Returns 0 or an errno. */
+int report_path(const char *name, char *path);
 /* Makes an empty temporary file for a trace that isn't to be kept. Returns 0 or an errno. */
 int report_temporary(char *path);
 /* Makes an empty temporary file for what --check finds. Returns 0 or an errno. */
@@ -12,7 +14,7 @@ int report_findings(char *path);
 void report_remove_temporary(void);
 /* Says on standard error what --check found, and prints the report under --report. Returns the exit status: the program's, but 1
  * if that is 0 and, under --require, a fence hangs, a rule was broken or --check found an access, or, under --require-fences, no
- * fence was made. */
+ * fence was made; under --follow the verdict's. */
 int report(const struct options *options, const char *trace, int status);
 
 #endif

@@ -4,6 +4,7 @@
 #include "calls.h"
 #include "check.h"
 #include "direct.h"
+#include "follow.h"
 #include "loss.h"
 #include "numbers.h"
 #include "recorder.h"
@@ -132,6 +133,7 @@ static void choose_way(void)
     check_begin();
     recorder_begin();
     thread_begin();
+    follow_begin();
     way = strcmp(service, BIM_LOCAL) == 0 ? &LOCAL : &LINK;
 }
 

@@ -1,6 +1,7 @@
 #define _GNU_SOURCE
 #include "step.h"
 
+#include "follow.h"
 #include "shim.h"
 #include "thread.h"
 
@@ -20,12 +21,14 @@ void step_listen(void (*to)(const struct step *step, uint32_t number))
 
 void step_begin(enum step_kind kind)
 {
-    (void)kind;
+    if (step_is_on())
+        follow_await(thread_calls() + 1, kind);
 }
 
 void step_continue(enum step_kind kind)
 {
-    (void)kind;
+    if (step_is_on())
+        follow_await(thread_calls(), kind);
 }
 
 /* Returns whether a call did or found something. */
@@ -45,10 +48,12 @@ void step_end(const struct step *step)
         return;
     if (step->is_second)
         number = thread_calls();
-    else if (does(step))
+    else if (does(step) || follow_counts(step, thread_calls() + 1))
         number = thread_count();
     if (listener)
         listener(step, number);
+    if (number)
+        follow_end(step, number);
     errno = before;
 }
 

@@ -2,7 +2,7 @@
  *
  * A call is a step if it succeeds, and does or finds something: it makes, merges, exports, imports or increments, ends an
  * access, or shuts a timeline; or it finds that a file or a buffer is ready, or that a file has signalled. A call that fails or
- * finds nothing has no number. */
+ * finds nothing has no number, unless it is what a followed schedule has next (follow.h). */
 #ifndef BIM_RUN_STEP_H
 #define BIM_RUN_STEP_H
 
@@ -22,7 +22,8 @@ enum step_kind {
     STEP_WAIT,         /* a poll found `of`, and `more`, ready (`status` 1), or nothing */
     STEP_INFO,         /* FILE_INFO of the file `of`: `status` */
     STEP_TEST,         /* the end of the access `value` to the buffer `of`; `status` 1 if it has nothing to wait for */
-    STEP_SHUT          /* a close of the timeline `of`; `status` 1 if it was the last */
+    STEP_SHUT,         /* a close of the timeline `of`; `status` 1 if it was the last */
+    STEP_LOCK          /* a mutex is locked: no step, but a schedule may have a turn for it, by the thread's number of locks */
 };
 
 /* What a poll found: a file, or a buffer that is ready for an access. */
@@ -51,7 +52,7 @@ bool step_is_on(void);
 /* Calls a function for each call that may be a step, with its number, or 0, on its thread, before it returns. */
 void step_listen(void (*listener)(const struct step *step, uint32_t number));
 
-/* Called around a call that may be a step. */
+/* Called around a call that may be a step, which begins when it is its turn. */
 void step_begin(enum step_kind kind);
 void step_end(const struct step *step);
 /* Called in place of step_begin before a step that is the second of its call. */

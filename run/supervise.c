@@ -9,6 +9,8 @@
 #include "say.h"
 #include "service.h"
 #include "trace.h"
+#include "users.h"
+#include "verdict.h"
 #include "wire.h"
 
 #include <errno.h>
@@ -17,7 +19,7 @@
 #include <sys/signalfd.h>
 #include <sys/wait.h>
 
-enum { MILLISECONDS_BETWEEN_STARTS = 100 };
+enum { MILLISECONDS_BETWEEN_STARTS = 100, MILLISECONDS_BETWEEN_LOOKS = 100 };
 
 static struct service service = SERVICE_CLOSED;
 
@@ -32,6 +34,7 @@ struct run {
     char said;             /* the last word of the server, or 0 */
     bool is_guarded;
     bool users_are_killed; /* by the guard, since the server is lost */
+    bool looks;            /* whether the program hangs (--follow) */
 };
 
 /* All signals but faults' and the ones by which a terminal stops and continues a job. */
@@ -139,17 +142,32 @@ static void wait_for_events(struct run *run)
 {
     struct pollfd files[] = { { run->signals, POLLIN, 0 }, { service.hears, POLLIN, 0 } };
 
-    call_poll(files, 2, run->lacks_guard ? MILLISECONDS_BETWEEN_STARTS : -1);
+    call_poll(files, 2, run->lacks_guard ? MILLISECONDS_BETWEEN_STARTS : run->looks ? MILLISECONDS_BETWEEN_LOOKS : -1);
     take_signals(run);
     take_words(run);
     if (run->lacks_guard && !run->users_are_killed && !service.shared->has_ended)
         run->lacks_guard = guard_start(&service) != 0;
 }
 
+/* Kills a program that hangs, with all of its processes. */
+static void end_hang(struct run *run)
+{
+    if (!run->looks || run->program_has_ended || !verdict_hangs())
+        return;
+    verdict_note_hang();
+    run->looks = false;
+    if (service.shared)
+        users_kill(&service);
+    else
+        kill(run->program, SIGKILL);
+}
+
 static void wait_for_an_end(struct run *run)
 {
-    while (!run->program_has_ended && !run->server_has_ended)
+    while (!run->program_has_ended && !run->server_has_ended) {
         wait_for_events(run);
+        end_hang(run);
+    }
 }
 
 /* Waits for a word of the server, and returns it, or 0 if the server is lost. */
@@ -268,7 +286,7 @@ static void end_trace(const char *path)
 
 int supervise(const struct options *options, const char *trace)
 {
-    struct run run = { .program = 0 };
+    struct run run = { .looks = options->schedule };
     int status = start(&run, options, trace);
 
     if (status) {

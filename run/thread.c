@@ -76,6 +76,16 @@ uint32_t thread_count(void)
     return is_known() ? ++thread->calls : 0;
 }
 
+uint32_t thread_locks(void)
+{
+    return is_known() ? thread->locks : 0;
+}
+
+uint32_t thread_count_lock(void)
+{
+    return is_known() ? ++thread->locks : 0;
+}
+
 struct thread_name thread_draw(void)
 {
     struct thread_name name = { "" };

@@ -49,6 +49,9 @@ const char *thread_name(void);
 uint32_t thread_calls(void);
 /* Counts a call. Returns its number, from 1 on. */
 uint32_t thread_count(void);
+/* The same for the mutexes that this thread has locked. */
+uint32_t thread_locks(void);
+uint32_t thread_count_lock(void);
 
 /* Draws the name of the next thing that this thread makes. */
 struct thread_name thread_draw(void);

@@ -8,7 +8,7 @@
 #include <sys/stat.h>
 
 /* Environment variables of a program: where its service is, and, if given, the trace file, the seed of --shuffle, the file of
- * --check, and the file of processes (processes.h); and of a process that posix_spawn made, its name. */
+ * --check, the file of processes (processes.h), and the schedule of --follow; and of a process that posix_spawn made, its name. */
 #define BIM_SERVICE "BIMPHLAI_RUN"
 #define BIM_TRACE   "BIMPHLAI_RUN_TRACE"
 #define BIM_SHUFFLE "BIMPHLAI_RUN_SHUFFLE"
@@ -17,6 +17,7 @@
 #define BIM_THREADS "BIMPHLAI_RUN_THREADS"
 #define BIM_THREAD  "BIMPHLAI_RUN_THREAD"
 #define BIM_PLAN    "BIMPHLAI_RUN_PLAN"
+#define BIM_FOLLOW  "BIMPHLAI_RUN_FOLLOW"
 #define BIM_LOCAL   "local"
 
 /* The exit status of a process whose service is gone, or belongs to another process. */

@@ -1,0 +1,135 @@
+#define _GNU_SOURCE
+#include "verdict.h"
+
+#include "folder.h"
+#include "launch.h"
+#include "processes.h"
+#include "report.h"
+#include "say.h"
+#include "schedule.h"
+#include "turns.h"
+#include "wire.h"
+
+#include <errno.h>
+#include <limits.h>
+#include <stdint.h>
+#include <stdio.h>
+#include <stdlib.h>
+#include <string.h>
+
+enum verdict { HARMLESS = 0, HAPPENS = 1, NOT_REACHED = 3 };
+enum { NANOSECONDS_OF_MS = 1000000, CALL_ROOM = SCHEDULE_PLACE + 64 };
+
+static struct schedule *schedule;
+static bool has_hung;
+
+/* Makes a file of the run's folder, whose path an environment variable then has. Returns 0 or an errno. */
+static int make_shared(const char *name, const char *variable, const struct schedule *content)
+{
+    char path[PATH_MAX];
+    int error = report_path(name, path);
+
+    if (!error)
+        error = content ? schedule_make(path, content) : processes_make(path);
+    if (!error && content)
+        schedule = schedule_open(path);
+    if (!error && content && !schedule)
+        error = ENOMEM;
+    return error ? error : setenv(variable, path, 1) ? errno : 0;
+}
+
+/* Half of all nanoseconds are forever. */
+static uint64_t nanoseconds_of(unsigned long long milliseconds)
+{
+    const uint64_t most = UINT64_MAX / 2;
+
+    return milliseconds < most / NANOSECONDS_OF_MS ? milliseconds * NANOSECONDS_OF_MS : most;
+}
+
+int verdict_begin(const struct options *options)
+{
+    char folder[PATH_MAX];
+    struct schedule *read;
+    int error = report_path(".", folder);
+
+    if (error)
+        return fault("a folder for the schedule", error);
+    read = turns_read(options->schedule, options->finding, folder);
+    if (!read)
+        return STATUS_OPTIONS;
+    read->patience = nanoseconds_of(options->patience);
+    error = make_shared(FOLDER_THREADS, BIM_THREADS, NULL);
+    if (!error)
+        error = make_shared(FOLDER_SCHEDULE, BIM_FOLLOW, read);
+    free(read);
+    return error ? fault("a file for the schedule", error) : 0;
+}
+
+bool verdict_hangs(void)
+{
+    return schedule && schedule->outcome == SCHEDULE_MADE && schedule->waiting > 0 &&
+           schedule_now() > schedule->last + schedule->patience;
+}
+
+void verdict_note_hang(void)
+{
+    has_hung = true;
+}
+
+/* Writes which call of its thread a turn is, its kind, and its place. */
+static void write_call(char *text, const struct turn *turn)
+{
+    snprintf(text, CALL_ROOM, "its call %u (%s%s%.119s)", turn->number, turns_word(turn->kind), turn->place[0] ? ", " : "",
+             turn->place);
+}
+
+static int tell_made(int status, bool has_findings)
+{
+    if (has_hung)
+        say("happens: all %u calls of the schedule were made, and then the program hung", schedule->turns);
+    else if (status != 0)
+        say("happens: all %u calls of the schedule were made, and the program ended with status %d", schedule->turns, status);
+    else if (has_findings)
+        say("happens: all %u calls of the schedule were made, and an access ended while a fence was pending", schedule->turns);
+    else
+        say("harmless: all %u calls of the schedule were made, and nothing failed", schedule->turns);
+    return has_hung || status != 0 || has_findings ? HAPPENS : HARMLESS;
+}
+
+static int tell_missed(int status)
+{
+    const struct turn *turn = &schedule->all[schedule->at], *other = &schedule->other;
+    char missed[CALL_ROOM], waited[CALL_ROOM], ended[32] = "";
+
+    write_call(missed, turn);
+    write_call(waited, other);
+    if (status != 0)
+        snprintf(ended, sizeof ended, "; its status was %d", status);
+    if (schedule->outcome == SCHEDULE_MISSED)
+        say("not reached: after %u of %u calls %s did not come to %s while %s waited to make %s%s", schedule->at, schedule->turns,
+            turn->thread.text, missed, other->thread.text, waited, ended);
+    else
+        say("not reached: the program ended after %u of %u calls, before %s came to %s%s", schedule->at, schedule->turns,
+            turn->thread.text, missed, ended);
+    return NOT_REACHED;
+}
+
+static int tell_left(void)
+{
+    const struct turn *turn = &schedule->all[schedule->at];
+    char wanted[CALL_ROOM];
+
+    write_call(wanted, turn);
+    say("another way: after %u of %u calls %s was to make %s, but made another call (%s)", schedule->at, schedule->turns,
+        turn->thread.text, wanted, turns_word(schedule->other.kind));
+    return NOT_REACHED;
+}
+
+int verdict_tell(int status, bool has_findings)
+{
+    switch (schedule->outcome) {
+    case SCHEDULE_MADE: return tell_made(status, has_findings);
+    case SCHEDULE_LEFT: return tell_left();
+    default: return tell_missed(status);
+    }
+}
