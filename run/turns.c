@@ -1,18 +1,15 @@
 #define _GNU_SOURCE
 #include "turns.h"
 
+#include "explore.h"
 #include "launch.h"
 #include "say.h"
 
 #include <errno.h>
-#include <fcntl.h>
 #include <limits.h>
-#include <signal.h>
 #include <stdio.h>
 #include <stdlib.h>
 #include <string.h>
-#include <sys/wait.h>
-#include <unistd.h>
 
 static const char *const WORDS[] = {
     [STEP_TIMELINE] = "timeline", [STEP_BUFFER] = "buffer", [STEP_FENCE] = "fence",   [STEP_MERGE] = "merge",
@@ -155,43 +152,6 @@ static bool read_text(struct text *text, const char *path)
     return is_read;
 }
 
-/* Becomes fencectl (exec), which writes each schedule that it shows into a file. */
-static void become_explore(const char *plan, const char *prefix)
-{
-    char fencectl[PATH_MAX];
-    int nowhere = open("/dev/null", O_RDWR | O_CLOEXEC);
-
-    dup2(nowhere, STDIN_FILENO);
-    dup2(nowhere, STDOUT_FILENO);
-    launch_find_fencectl(fencectl);
-    execlp(fencectl, "fencectl", "explore", "--witness", prefix, plan, (char *)NULL);
-    fault("fencectl", errno);
-    _exit(STATUS_FAULT);
-}
-
-static bool explore(const char *plan, const char *prefix)
-{
-    enum { FOUND = 1, BOUND = 2 };
-    pid_t child = fork();
-    int waited;
-
-    if (child == 0)
-        become_explore(plan, prefix);
-    while (child > 0 && waitpid(child, &waited, 0) < 0)
-        if (errno != EINTR)
-            return false;
-    return child > 0 && launch_status(waited) <= BOUND;
-}
-
-/* Removes the files of all schedules. */
-static void remove_shown(const char *prefix)
-{
-    char path[PATH_MAX];
-
-    for (int i = 1; snprintf(path, sizeof path, "%s-%d.fence", prefix, i) > 0 && unlink(path) == 0; i++)
-        ;
-}
-
 /* Adds the calls that a shown schedule makes, by their lines in the plan. */
 static bool add_shown(struct turn **turns, size_t *count, const struct text *plan, FILE *shown)
 {
@@ -215,13 +175,11 @@ static bool add_shown(struct turn **turns, size_t *count, const struct text *pla
 static bool read_shown(struct turn **turns, size_t *count, const struct text *plan, const char *path, const char *finding,
                        const char *folder)
 {
-    char prefix[PATH_MAX], name[PATH_MAX];
-    bool is_read;
+    char name[PATH_MAX];
+    bool is_read = explore(path, folder, false) <= EXPLORE_BOUND;
     FILE *shown;
 
-    snprintf(prefix, sizeof prefix, "%.4000s/shown", folder);
-    is_read = explore(path, prefix);
-    snprintf(name, sizeof name, "%.4000s-%s.fence", prefix, finding);
+    explore_shown(name, folder, strtoul(finding, NULL, 10));
     shown = is_read ? fopen(name, "re") : NULL;
     if (shown) {
         is_read = add_shown(turns, count, plan, shown);
@@ -231,7 +189,7 @@ static bool read_shown(struct turn **turns, size_t *count, const struct text *pl
     } else {
         say("fencectl can't explore %s", path);
     }
-    remove_shown(prefix);
+    explore_remove(folder);
     return is_read && shown;
 }
 

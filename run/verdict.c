@@ -17,8 +17,7 @@
 #include <stdlib.h>
 #include <string.h>
 
-enum verdict { HARMLESS = 0, HAPPENS = 1, NOT_REACHED = 3 };
-enum { NANOSECONDS_OF_MS = 1000000, CALL_ROOM = SCHEDULE_PLACE + 64 };
+enum { NANOSECONDS_OF_MS = 1000000, CALL_ROOM = SCHEDULE_PLACE + 64, LAST = 5 };
 
 static struct schedule *schedule;
 static bool has_hung;
@@ -83,17 +82,32 @@ static void write_call(char *text, const struct turn *turn)
              turn->place);
 }
 
+/* Says what the last calls of the schedule were, which leave the run's order as a rule. */
+static void tell_last(void)
+{
+    uint32_t first = schedule->turns > LAST ? schedule->turns - LAST : 0;
+
+    say("its last calls:");
+    for (uint32_t i = first; i < schedule->turns; i++)
+        say("  %-9s %-8s %.119s", schedule->all[i].thread.text, turns_word(schedule->all[i].kind), schedule->all[i].place);
+}
+
 static int tell_made(int status, bool has_findings)
 {
+    const char *made = "all calls of the schedule were made";
+
     if (has_hung)
-        say("happens: all %u calls of the schedule were made, and then the program hung", schedule->turns);
+        say("happens: %s, and then the program hung", made);
     else if (status != 0)
-        say("happens: all %u calls of the schedule were made, and the program ended with status %d", schedule->turns, status);
+        say("happens: %s, and the program ended with status %d", made, status);
     else if (has_findings)
-        say("happens: all %u calls of the schedule were made, and an access ended while a fence was pending", schedule->turns);
+        say("happens: %s, and an access ended while a fence was pending", made);
     else
-        say("harmless: all %u calls of the schedule were made, and nothing failed", schedule->turns);
-    return has_hung || status != 0 || has_findings ? HAPPENS : HARMLESS;
+        say("harmless: %s, and nothing failed", made);
+    if (!has_hung && status == 0 && !has_findings)
+        return VERDICT_HARMLESS;
+    tell_last();
+    return VERDICT_HAPPENS;
 }
 
 static int tell_missed(int status)
@@ -111,7 +125,7 @@ static int tell_missed(int status)
     else
         say("not reached: the program ended after %u of %u calls, before %s came to %s%s", schedule->at, schedule->turns,
             turn->thread.text, missed, ended);
-    return NOT_REACHED;
+    return VERDICT_NOT_REACHED;
 }
 
 static int tell_left(void)
@@ -122,7 +136,7 @@ static int tell_left(void)
     write_call(wanted, turn);
     say("another way: after %u of %u calls %s was to make %s, but made another call (%s)", schedule->at, schedule->turns,
         turn->thread.text, wanted, turns_word(schedule->other.kind));
-    return NOT_REACHED;
+    return VERDICT_NOT_REACHED;
 }
 
 int verdict_tell(int status, bool has_findings)

@@ -6,6 +6,8 @@
 
 #include <stdbool.h>
 
+enum { VERDICT_HARMLESS = 0, VERDICT_HAPPENS = 1, VERDICT_NOT_REACHED = 3 };
+
 /* Reads the schedule, and makes the files that the program's threads share. Returns 0 or the exit status. */
 int verdict_begin(const struct options *options);
 /* Returns whether all calls of the schedule were made, and the program hangs since: for longer than the patience a thread has
