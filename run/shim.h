@@ -96,6 +96,8 @@ const char *shim_service(void);
 bool shim_open(const char *path, int flags, int *file);
 /* Serves an ioctl(2) on /dev/udmabuf. */
 int shim_udmabuf(unsigned long call, const void *arg);
+/* Begins or ends an access of a buffer, as DMA_BUF_IOCTL_SYNC does. Returns an errno. */
+int shim_access(int file, uint64_t buffer, void *arg);
 
 /* Returns the mark of a descriptor, or 0 if there is no service. */
 enum bim_mark shim_mark(int file, uint64_t *inode);
