@@ -152,6 +152,21 @@ static bool read_text(struct text *text, const char *path)
     return is_read;
 }
 
+/* Adds a turn. A poll that found several files is one call with several lines: its turn is the last of these. */
+static bool add_turn(struct turn **turns, size_t *count, const struct turn *turn)
+{
+    for (size_t i = 0; turn->kind == STEP_WAIT && i < *count; i++) {
+        struct turn *before = *turns + i;
+
+        if (before->kind != STEP_WAIT || before->number != turn->number || strcmp(before->thread.text, turn->thread.text) != 0)
+            continue;
+        memmove(before, before + 1, (*count - i - 1) * sizeof *before);
+        (*turns)[*count - 1] = *turn;
+        return true;
+    }
+    return add(turns, count, turn);
+}
+
 /* Adds the calls that a shown schedule makes, by their lines in the plan. */
 static bool add_shown(struct turn **turns, size_t *count, const struct text *plan, FILE *shown)
 {
@@ -165,7 +180,7 @@ static bool add_shown(struct turn **turns, size_t *count, const struct text *pla
         size_t at = number ? strtoul(number + strlen(", line "), &end, 10) : 0;
 
         if (at > 0 && at <= plan->lines && *end == '\n' && plan->of[at - 1].kind)
-            is_read = add(turns, count, &plan->of[at - 1]);
+            is_read = add_turn(turns, count, &plan->of[at - 1]);
     }
     free(line);
     return is_read;
@@ -201,7 +216,7 @@ static bool read_script(struct turn **turns, size_t *count, const struct text *s
         return false;
     }
     for (size_t i = 0; i < script->lines; i++)
-        if (script->of[i].kind && !add(turns, count, &script->of[i]))
+        if (script->of[i].kind && !add_turn(turns, count, &script->of[i]))
             return false;
     return true;
 }

@@ -214,12 +214,40 @@ static void branch(void)
     run_both(choose, increment_at_once);
 }
 
+/* A thread waits for two files at once: one call, and two lines of a schedule. */
+static void *wait_for_both(void *none)
+{
+    struct pollfd files[] = { { fence(work, 1), POLLIN, 0 }, { fence(work, 2), POLLIN, 0 } };
+
+    sem_post(&back);
+    while (poll(files, 2, SOON) == 1)
+        pause_for(1);
+    inc(work, 1);
+    close(files[0].fd);
+    close(files[1].fd);
+    return none;
+}
+
+static void *increment_twice(void *none)
+{
+    sem_wait(&back);
+    inc(work, 1);
+    inc(work, 1);
+    return none;
+}
+
+static void wait_at_once(void)
+{
+    run_both(wait_for_both, increment_twice);
+}
+
 static const struct {
     const char *name;
     void (*run)(void);
 } PROGRAMS[] = {
     { "give-back", give_back }, { "wait-locked", wait_locked }, { "use-processes", use_processes },
     { "reset", reset },         { "use-atomics", use_atomics }, { "branch", branch },
+    { "wait-at-once", wait_at_once },
 };
 
 int main(int count, char **words)
