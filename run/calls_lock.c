@@ -1,5 +1,5 @@
-/* Locks of the C library, which order threads: a plan keeps these orders. Only with --plan and --follow; else each call passes on. The C library's
- * own locks don't come here, nor do those that a program makes of futexes or atomics. */
+/* Locks of the C library, which order threads: a plan keeps these orders. Only with --plan and --follow; else each call passes on.
+ * The C library's own locks don't come here, nor do those that a program makes of futexes or atomics. */
 #define _GNU_SOURCE
 #include "follow.h"
 #include "recorder.h"
@@ -26,7 +26,7 @@
         if (kind == LOG_MUTEX && thread_is_on())                  \
             follow_end_lock(error == 0 || error == EOWNERDEAD);   \
         if (recorder_is_on() && (error == 0 || error == EOWNERDEAD)) \
-            recorder_acquire(kind, OBJECT(lock));                 \
+            recorder_acquire(kind, OBJECT(lock), kind == LOG_MUTEX ? thread_locks() : 0); \
         return error;                                             \
     }
 
@@ -75,16 +75,16 @@ EXPORT int pthread_barrier_wait(pthread_barrier_t *barrier)
 
     recorder_release(LOG_OTHER_LOCK, OBJECT(barrier));
     result = next(barrier);
-    recorder_acquire(LOG_OTHER_LOCK, OBJECT(barrier));
+    recorder_acquire(LOG_OTHER_LOCK, OBJECT(barrier), 0);
     return result;
 }
 
 /* A wait gives the mutex, and has it again when it returns, whatever it returns. */
 static int waited(void *condition, void *mutex, int result)
 {
-    recorder_acquire(LOG_MUTEX, OBJECT(mutex));
+    recorder_acquire(LOG_MUTEX, OBJECT(mutex), 0);
     if (result == 0)
-        recorder_acquire(LOG_CONDITION, OBJECT(condition));
+        recorder_acquire(LOG_CONDITION, OBJECT(condition), 0);
     return result;
 }
 

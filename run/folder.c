@@ -13,7 +13,8 @@
 
 #define NAME "bimphlai-run."
 
-static const char *const FILES[] = { FOLDER_SOCKET, FOLDER_TRACE, FOLDER_CHECK, FOLDER_THREADS, FOLDER_SCHEDULE };
+static const char *const FILES[] = { FOLDER_SOCKET, FOLDER_TRACE,   FOLDER_CHECK,
+                                     FOLDER_PLAN,   FOLDER_THREADS, FOLDER_SCHEDULE };
 
 /* By su or sudo, the environment may name another user's folder, and that user could put a service of their own
  * there. */

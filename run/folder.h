@@ -1,5 +1,6 @@
-/* A folder of a run, which contains the socket of its service, a temporary trace, what --check finds, or what --follow needs. The folder is locked while the run
- * lasts, so that a later run can recognise and remove the folder of a run that was killed. */
+/* A folder of a run, which contains the socket of its service, a temporary trace, what --check finds, what --plan records, or what
+ * --follow needs. The folder is locked while the run lasts, so that a later run can recognise and remove the folder of a run that
+ * was killed. */
 #ifndef BIM_RUN_FOLDER_H
 #define BIM_RUN_FOLDER_H
 
@@ -8,6 +9,7 @@
 #define FOLDER_SOCKET   "socket"
 #define FOLDER_TRACE    "trace"
 #define FOLDER_CHECK    "check"
+#define FOLDER_PLAN     "plan"
 #define FOLDER_THREADS  "threads"
 #define FOLDER_SCHEDULE "schedule"
 

@@ -40,7 +40,7 @@ enum log_kind {
 
     /* Orders. */
     LOG_RELEASE, /* object: what is given; flags: enum log_order */
-    LOG_ACQUIRE,
+    LOG_ACQUIRE, /* the same; call: which mutex of its thread it locks, or 0 */
     LOG_PAIR,   /* object: the two ends of a pair of sockets */
     LOG_CREATE, /* text: the name of a thread that is created next */
     LOG_JOIN,   /* text: the name of a thread that has ended */

@@ -1,8 +1,11 @@
 /* bimphlai-run: runs a program, and provides a fence service for it and for all its child processes. */
 #define _GNU_SOURCE
+#include "folder.h"
 #include "guard.h"
 #include "launch.h"
 #include "options.h"
+#include "plan.h"
+#include "processes.h"
 #include "program.h"
 #include "report.h"
 #include "supervise.h"
@@ -62,6 +65,27 @@ static int begin_follow(const struct options *options)
     return status || !options->schedule ? status : verdict_begin(options);
 }
 
+/* Makes the files in which the program's threads note what a plan needs. With --follow they have names anyway. */
+static int begin_plan(const struct options *options)
+{
+    char log[PATH_MAX], processes[PATH_MAX];
+    int error, status;
+
+    if (!options->plan)
+        return set_variable(BIM_PLAN, NULL);
+    error = report_path(FOLDER_PLAN, log);
+    if (!error)
+        error = log_make(log, options->calls ? options->calls : PLAN_LINES);
+    if (!error)
+        error = report_path(FOLDER_THREADS, processes);
+    if (!error && !options->schedule)
+        error = processes_make(processes);
+    if (error)
+        return fault("a file for the plan", error);
+    status = set_variable(BIM_PLAN, log);
+    return status ? status : set_variable(BIM_THREADS, processes);
+}
+
 static int run(const struct options *options, const char *trace)
 {
     if (options->is_local && !options_report(options)) {
@@ -103,6 +127,8 @@ int main(int count, char **words)
         status = begin_check(&options);
     if (!status)
         status = begin_follow(&options);
+    if (!status)
+        status = begin_plan(&options);
     if (!status)
         status = run(&options, path[0] ? path : NULL);
     report_remove_temporary();

@@ -28,14 +28,34 @@ static const char HELP[] =
     "  --follow FILE [N]\n"
     "                has threads make their calls as schedule N of the plan FILE, or as the script FILE\n"
     "  --patience MS for --follow: how long a thread waits for its turn, instead of 1500 ms\n"
+    "  --plan FILE   writes the run as a plan to FILE, for `fencectl explore`\n"
+    "  --calls N     only its first N calls\n"
+    "  --orders all|locks\n"
+    "                keeps the orders of all locks, or lets the sections of a mutex come in any order\n"
     "  --verbose     says where the service is, and what was left at the end\n"
     "  -h, --help, --version\n"
     "\n"
     "The status is the program's; with --follow 1 if what the plan says happens, 0 if it is harmless, and 3 if the\n"
-    "program didn't make the calls. It is 2 for options that don't fit, 123 if the service was lost, 125 if it can't\n"
-    "start, 126 if the program can't be run with it, and 127 if there is no such program.\n";
+    "program didn't make the calls. It is 2 for options that don't fit, 123 if the service was lost, 124 if there is\n"
+    "no plan, 125 if it can't start, 126 if the program can't be run with it, and 127 if there is no such program.\n";
 
-enum word { LOCAL = 256, DIRECT, TRACE, REPORT, REQUIRE, REQUIRE_FENCES, CHECK, SHUFFLE, FOLLOW, PATIENCE, VERBOSE, VERSION };
+enum word {
+    LOCAL = 256,
+    DIRECT,
+    TRACE,
+    REPORT,
+    REQUIRE,
+    REQUIRE_FENCES,
+    CHECK,
+    SHUFFLE,
+    FOLLOW,
+    PATIENCE,
+    PLAN,
+    CALLS,
+    ORDERS,
+    VERBOSE,
+    VERSION
+};
 enum { DIGITS = 19 }; /* fit into 64 bits */
 enum { PATIENCE_MS = 1500 };
 
@@ -50,6 +70,9 @@ static const struct option WORDS[] = {
     { "shuffle", required_argument, NULL, SHUFFLE },
     { "follow", required_argument, NULL, FOLLOW },
     { "patience", required_argument, NULL, PATIENCE },
+    { "plan", required_argument, NULL, PLAN },
+    { "calls", required_argument, NULL, CALLS },
+    { "orders", required_argument, NULL, ORDERS },
     { "verbose", no_argument, NULL, VERBOSE },
     { "help", no_argument, NULL, 'h' },
     { "version", no_argument, NULL, VERSION },
@@ -110,12 +133,13 @@ static int print(const char *text, const char *more)
     return fputs(text, stdout) < 0 || fputs(more, stdout) < 0 || fflush(stdout) ? 125 : 0;
 }
 
-static int take_trace(struct options *options)
+/* Takes the name of a file. */
+static int take_file(const char *option, const char **file)
 {
-    options->trace = optarg;
+    *file = optarg;
     if (*optarg && strcmp(optarg, "-") != 0)
         return -1;
-    say("--trace takes the name of a file, but '%s' is none", optarg);
+    say("%s takes the name of a file, but '%s' is none", option, optarg);
     return tell_usage();
 }
 
@@ -132,6 +156,26 @@ static int take_number(const char *option)
     if (is_number(optarg))
         return -1;
     say("%s takes a number of at most %d digits, but '%s' is none", option, DIGITS, optarg);
+    return tell_usage();
+}
+
+static int take_calls(struct options *options)
+{
+    int status = take_number("--calls");
+
+    options->calls = strtoull(optarg, NULL, 10);
+    if (status >= 0 || options->calls > 0)
+        return status;
+    say("--calls takes a number from 1 on");
+    return tell_usage();
+}
+
+static int take_orders(struct options *options)
+{
+    options->excludes = strcmp(optarg, "locks") == 0;
+    if (options->excludes || strcmp(optarg, "all") == 0)
+        return -1;
+    say("--orders takes 'all' or 'locks', but '%s' is neither", optarg);
     return tell_usage();
 }
 
@@ -154,7 +198,7 @@ static int take(struct options *options, int word, char **words)
     switch (word) {
     case LOCAL: options->is_local = true; return -1;
     case DIRECT: options->is_direct = true; return -1;
-    case TRACE: return take_trace(options);
+    case TRACE: return take_file("--trace", &options->trace);
     case REPORT: options->reports = true; return -1;
     case REQUIRE: options->requires = true; return -1;
     case REQUIRE_FENCES: options->requires_fences = true; return -1;
@@ -162,6 +206,9 @@ static int take(struct options *options, int word, char **words)
     case SHUFFLE: options->seed = optarg; return take_number("--shuffle");
     case FOLLOW: return take_schedule(options, words);
     case PATIENCE: return take_patience(options);
+    case PLAN: return take_file("--plan", &options->plan);
+    case CALLS: return take_calls(options);
+    case ORDERS: return take_orders(options);
     case VERBOSE: options->is_verbose = true; return -1;
     case 'h': return print(USAGE, HELP);
     case VERSION: return print("bimphlai-run " BIM_VERSION, "\n");
@@ -182,7 +229,7 @@ bool options_trace(const struct options *options)
 
 bool options_report(const struct options *options)
 {
-    return options_trace(options) || options_check(options);
+    return options_trace(options) || options_check(options) || options->plan;
 }
 
 int options_read(struct options *options, int count, char **words)

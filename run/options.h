@@ -13,6 +13,9 @@ struct options {
     const char *schedule; /* to follow: a script, or a plan, or NULL */
     const char *finding;  /* decimal digits: which schedule of the plan, or NULL */
     unsigned long long patience; /* of a thread that waits for its turn, in milliseconds */
+    const char *plan;  /* a file name, or NULL */
+    unsigned long long calls; /* how many calls a plan may have, or 0 */
+    bool excludes;            /* whether a mutex only excludes, in a plan */
     char **program;    /* with its arguments */
 };
 

@@ -227,7 +227,7 @@ static void take_step(const struct step *step, uint32_t number)
     if (step->kind == STEP_INFO && step->answer)
         record.value = step->answer->fences;
     set_objects(&record, step);
-    if (!number) {
+    if (!number || step->error) {
         record.kind = step->error ? LOG_FAILED : LOG_AGAIN;
         record.result = step->error;
     } else {
@@ -275,10 +275,12 @@ bool recorder_is_on(void)
     return is_on;
 }
 
-static void add_order(enum log_kind kind, enum log_order order, uint64_t object)
+static void add_order(enum log_kind kind, enum log_order order, uint64_t object, uint32_t number)
 {
     int before = errno;
-    struct log_record record = { .time = log_now(), .thread = number_of_thread(), .kind = kind, .flags = order };
+    struct log_record record = {
+        .time = log_now(), .thread = number_of_thread(), .kind = kind, .flags = order, .call = number
+    };
 
     record.object[0] = object;
     log_add(&record);
@@ -288,13 +290,13 @@ static void add_order(enum log_kind kind, enum log_order order, uint64_t object)
 void recorder_release(enum log_order kind, uint64_t object)
 {
     if (is_on)
-        add_order(LOG_RELEASE, kind, object);
+        add_order(LOG_RELEASE, kind, object, 0);
 }
 
-void recorder_acquire(enum log_order kind, uint64_t object)
+void recorder_acquire(enum log_order kind, uint64_t object, uint32_t number)
 {
     if (is_on)
-        add_order(LOG_ACQUIRE, kind, object);
+        add_order(LOG_ACQUIRE, kind, object, number);
 }
 
 /* Adds an order by a program's own pipe or socket. */
@@ -305,9 +307,9 @@ static void add_order_of_file(enum log_kind kind, int file)
 
     if (call_fstat(file, &found) == 0 && !(found.st_mode & S_ISVTX)) {
         if (S_ISFIFO(found.st_mode))
-            add_order(kind, LOG_PIPE, found.st_ino);
+            add_order(kind, LOG_PIPE, found.st_ino, 0);
         else if (S_ISSOCK(found.st_mode))
-            add_order(kind, LOG_SOCKET, found.st_ino);
+            add_order(kind, LOG_SOCKET, found.st_ino, 0);
     }
     errno = before;
 }

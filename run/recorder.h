@@ -13,9 +13,9 @@ void recorder_begin(void);
 bool recorder_is_on(void);
 
 /* An order of threads: what was done before a release is done once another thread's acquisition of the object has returned. Both
- * keep errno. */
+ * keep errno. `number` says which mutex of its thread it is that a call locks, or is 0. */
 void recorder_release(enum log_order kind, uint64_t object);
-void recorder_acquire(enum log_order kind, uint64_t object);
+void recorder_acquire(enum log_order kind, uint64_t object, uint32_t number);
 /* Bytes that are sent, or were received, by a pipe or a socket. */
 void recorder_send(int file);
 void recorder_receive(int file);

@@ -4,6 +4,7 @@
 #include "findings.h"
 #include "folder.h"
 #include "launch.h"
+#include "plan.h"
 #include "say.h"
 #include "trace.h"
 #include "verdict.h"
@@ -130,13 +131,20 @@ static int look_at_trace(const struct options *options, const char *trace)
     return found > FAILED ? STATUS_FAULT : options->requires ? found : 0;
 }
 
+/* Writes the plan. Returns 0 or an exit status. */
+static int make_plan(const struct options *options)
+{
+    return plan_make(log_opened(), options->plan, options->calls ? options->calls : PLAN_LINES, options->excludes, options->program[0]);
+}
+
 int report(const struct options *options, const char *trace, int status)
 {
     bool has_any = options_check(options) && has_findings();
     int found = has_any && options->requires ? FAILED : 0;
     int of_trace = options_trace(options) ? look_at_trace(options, trace) : 0;
+    int of_plan = options->plan ? make_plan(options) : 0;
 
     if (options->schedule)
         return verdict_tell(status, has_any);
-    return status ? status : of_trace ? of_trace : found;
+    return status ? status : of_plan ? of_plan : of_trace ? of_trace : found;
 }

@@ -1,0 +1,279 @@
+/* Writes a plan, and the run that it was made of as a script. */
+#define _GNU_SOURCE
+#include "plan.h"
+
+#include "places.h"
+
+#include <linux/dma-buf.h>
+#include <string.h>
+
+/* No line of a script may be longer, without its line feed. */
+enum { LINE_BYTES = 256, SHOWN = 2 };
+
+/* A place that is worth reading: a line of a source that is no header. */
+static bool is_good(const struct place *place, int call)
+{
+    const char *line = place->calls[call].line, *end = strchr(line, ':');
+
+    return line[0] && !(end && end - line >= 2 && strncmp(end - 2, ".h", 2) == 0);
+}
+
+static void add_place(char *text, size_t room, const char *function, const char *line)
+{
+    size_t length = strlen(text);
+
+    snprintf(text + length, room - length, "%s%s%s%s", length ? ", " : "", function, *function ? " " : "", line);
+}
+
+/* The C library's calls are of no interest. */
+static bool is_of_program(const struct spot *spot)
+{
+    const char *name = spot->object ? strrchr(spot->object, '/') : NULL;
+
+    return name && strncmp(name, "/libc.", 6) != 0 && strncmp(name, "/libc-", 6) != 0;
+}
+
+/* Writes the first calls that led to a record, or as much as is known of the last. */
+static void write_places(const struct plan *plan, const struct log_record *record, const struct places *places, char *text, size_t room)
+{
+    int shown = 0;
+
+    text[0] = 0;
+    for (int i = 0; record && i < LOG_FRAMES && record->frames[i]; i++) {
+        struct spot spot = plan_spot(plan, record, record->frames[i] - 1);
+        const struct place *place = is_of_program(&spot) ? places_at(places, spot.object, spot.address) : NULL;
+
+        for (int call = 0; place && call < place->count && shown < SHOWN; call++)
+            if (is_good(place, call)) {
+                add_place(text, room, place->calls[call].function, place->calls[call].line);
+                shown++;
+            }
+    }
+    if (!shown && record && record->frames[0]) {
+        struct spot spot = plan_spot(plan, record, record->frames[0] - 1);
+        const char *name = spot.object ? strrchr(spot.object, '/') : NULL;
+
+        snprintf(text, room, "%.60s+%#llx", name ? name + 1 : "?", (unsigned long long)spot.address);
+    }
+}
+
+static const char *flags_of(uint64_t flags)
+{
+    switch (flags & DMA_BUF_SYNC_RW) {
+    case DMA_BUF_SYNC_READ: return "read";
+    case DMA_BUF_SYNC_WRITE: return "write";
+    default: return "rw";
+    }
+}
+
+static const char *name_of(const struct thing *thing)
+{
+    return thing ? thing->name : "unknown";
+}
+
+/* An access for reading waits for writers, one for writing for all. */
+static const char *tested(uint64_t flags)
+{
+    return flags & DMA_BUF_SYNC_WRITE ? "read" : "write";
+}
+
+static void write_command(const struct line *line, FILE *to)
+{
+    const char *made = name_of(line->made), *of = name_of(line->of), *with = name_of(line->with);
+    unsigned long long value = line->value;
+
+    switch (line->verb) {
+    case LINE_TIMELINE: fprintf(to, "timeline %s\n", made); break;
+    case LINE_BUFFER: fprintf(to, "buffer %s\n", made); break;
+    case LINE_FENCE: fprintf(to, "fence %s %s %llu\n", made, of, value); break;
+    case LINE_MERGE: fprintf(to, "merge %s %s %s\n", made, of, with); break;
+    case LINE_EXPORT: fprintf(to, "export %s %s %s\n", made, of, flags_of(value)); break;
+    case LINE_IMPORT: fprintf(to, "import %s %s %s\n", of, with, flags_of(value)); break;
+    case LINE_INC: fprintf(to, "inc %s %llu\n", of, value); break;
+    case LINE_WAIT: fprintf(to, "wait %s\n", of); break;
+    case LINE_INFO: fprintf(to, "info %s\n", of); break;
+    case LINE_TEST: fprintf(to, "test %s %s\n", of, tested(value)); break;
+    case LINE_SHUT: fprintf(to, "shut %s\n", of); break;
+    }
+}
+
+/* What every order has to answer: what the program saw. */
+static void write_expected(const struct line *line, FILE *to)
+{
+    if (line->verb == LINE_INFO) {
+        fprintf(to, "#= ok %s %d 1\n", name_of(line->of), line->status);
+        fprintf(to, "#= fence %s sw_sync %llu %d\n", name_of(line->of->timeline), (unsigned long long)line->of->value, line->status);
+    } else if (line->verb == LINE_TEST && line->status) {
+        fputs("#= ok 1\n", to);
+    }
+}
+
+/* What the run itself answered. */
+static void write_answered(const struct line *line, FILE *to)
+{
+    switch (line->verb) {
+    case LINE_INFO: write_expected(line, to); break;
+    case LINE_TEST: fprintf(to, "#= ok %d\n", line->status); break;
+    case LINE_INC:
+    case LINE_SHUT: fprintf(to, "#= ok %llu\n", (unsigned long long)line->reached); break;
+    case LINE_TIMELINE: break;
+    default: fputs("#= ok\n", to);
+    }
+}
+
+/* Writes which call of which thread a line was, when, and where in the program. */
+static void write_origin(const struct plan *plan, const struct line *line, const struct places *places, FILE *to)
+{
+    char place[LINE_BYTES / 2], text[LINE_BYTES + 1];
+    const struct event *event = line->event;
+
+    write_places(plan, event->place, places, place, sizeof place);
+    if (line->call)
+        snprintf(text, sizeof text, "# @%s:%u +%.3f ms %s", line->thread->name, line->call, (event->time - plan->begun) / 1e6, place);
+    else if (line->verb == LINE_SHUT)
+        snprintf(text, sizeof text, "# thread %s: at the end of its process", line->thread->name);
+    else
+        return;
+    fprintf(to, "%s\n", text);
+}
+
+/* Writes that a section begins, below which mutex of its thread it is. A wait for a condition ends with one that has no number. */
+static void write_taken(const struct section *section, FILE *to)
+{
+    if (section->taken->record->call)
+        fprintf(to, "# @%s:L%u\n", section->taken->thread->name, section->taken->record->call);
+    fprintf(to, "#await\nfence lock%u order 0\n", section->mutex->number);
+}
+
+static void write_given(const struct section *given, FILE *to)
+{
+    for (; given; given = given->next)
+        fprintf(to, "close lock%u\n", given->mutex->number);
+}
+
+static void write_before(const struct line *line, FILE *to)
+{
+    for (const struct token *token = line->tokens; token; token = token->next)
+        fprintf(to, "wait o%u\n", token->line->token);
+    for (const struct section *passed = line->passes; passed; passed = passed->next) {
+        write_taken(passed, to);
+        fprintf(to, "close lock%u\n", passed->mutex->number);
+    }
+    for (const struct section *taken = line->begins; taken; taken = taken->next)
+        write_taken(taken, to);
+}
+
+static bool is_of_client(const struct plan *plan, const struct line *line)
+{
+    return line->thread != plan->main || (line->number > plan->first && line->number <= plan->last);
+}
+
+/* Writes the notes of an access that begins or ends with a line. */
+static void write_access(const struct plan *plan, const struct line *line, FILE *to)
+{
+    const struct line *other = line->access;
+
+    if (!other || !is_of_client(plan, line) || !is_of_client(plan, other))
+        return;
+    if (line->verb == LINE_TEST)
+        fprintf(to, "#done %s\n", name_of(line->of));
+    else
+        fprintf(to, "#%s %s\n", line->value & DMA_BUF_SYNC_WRITE ? "writes" : "reads", name_of(line->with));
+}
+
+static void write_line(const struct plan *plan, const struct line *line, const struct places *places, FILE *to)
+{
+    write_before(line, to);
+    write_origin(plan, line, places, to);
+    if (line->awaits)
+        fputs("#await\n", to);
+    write_command(line, to);
+    write_expected(line, to);
+    write_access(plan, line, to);
+    write_given(line->ends, to);
+    if (line->token)
+        fprintf(to, "fence o%u order 0\n", line->token);
+}
+
+static void write_lines(const struct plan *plan, const struct plan_thread *thread, unsigned from, unsigned to_line,
+                        const struct places *places, FILE *to)
+{
+    for (unsigned i = from; i < to_line; i++)
+        write_line(plan, thread->lines[i], places, to);
+}
+
+static void write_checked_buffers(const struct plan *plan, FILE *to)
+{
+    for (unsigned t = 0; t < plan->thread_count; t++)
+        if (plan->threads[t].checked)
+            fprintf(to, "buffer %s\n", plan->threads[t].checked->name);
+}
+
+static void write_head(const struct plan *plan, const char *program, FILE *to)
+{
+    fprintf(to, "# One run of %.180s (bimphlai-run --plan): %llu of its %llu calls.\n", program, (unsigned long long)plan->calls,
+            (unsigned long long)plan->calls_of_run);
+    fputs("# Above the line of a call are its thread, its number in that, its time, and its place in the program.\n"
+          "# Orders of threads by their making, their ends, pipes and pairs of sockets are kept as in the run.\n",
+          to);
+    fputs(plan->excludes ? "# A mutex excludes: its sections come in any order. All other locks' orders are kept (--orders locks).\n" :
+                           "# Orders of locks are kept as in the run (--orders all).\n", to);
+    fputs("# Not seen, so in any order: what atomics, futexes, event files, signals, other sockets and shared memory order.\n"
+          "# Not seen at all: accesses of memory without DMA_BUF_IOCTL_SYNC, and calls that bypass the C library.\n",
+          to);
+}
+
+/* Writes what comes before the clients. */
+static void write_first(const struct plan *plan, const struct places *places, FILE *to)
+{
+    if (plan->tokens || plan->mutex_count)
+        fputs("# Orders: a client makes a file once a line is made, and others wait for it.\ntimeline order\n", to);
+    for (size_t i = 0; i < plan->count; i++)
+        if (plan->lines[i]->is_common)
+            write_line(plan, plan->lines[i], places, to);
+    write_checked_buffers(plan, to);
+    if (plan->main)
+        write_lines(plan, plan->main, 0, plan->first, places, to);
+}
+
+static void write_title(const struct plan_thread *thread, FILE *to)
+{
+    fprintf(to, "\n#client %s%s%s\n", thread->title, strcmp(thread->name, "1") == 0 ? "" : "-",
+            strcmp(thread->name, "1") == 0 ? "" : thread->name);
+}
+
+static void write_client(const struct plan *plan, const struct plan_thread *thread, const struct places *places, FILE *to)
+{
+    write_title(thread, to);
+    for (; thread; thread = thread->after) {
+        if (thread->before)
+            fprintf(to, "# thread %s, after thread %s\n", thread->name, thread->before->name);
+        write_lines(plan, thread, thread == plan->main ? plan->first : 0, thread == plan->main ? plan->last : thread->count, places, to);
+    }
+}
+
+void plan_write(const struct plan *plan, const struct places *places, const char *program, FILE *to)
+{
+    write_head(plan, program, to);
+    write_first(plan, places, to);
+    for (unsigned t = 0; t < plan->thread_count; t++) {
+        const struct plan_thread *thread = plan->sorted[t];
+
+        if (thread->count && !thread->before && (thread != plan->main || plan->last > plan->first))
+            write_client(plan, thread, places, to);
+    }
+    if (plan->main && plan->last < plan->main->count) {
+        fputs("\n#finally\n", to);
+        write_lines(plan, plan->main, plan->last, plan->main->count, places, to);
+    }
+}
+
+void plan_write_run(const struct plan *plan, FILE *to)
+{
+    write_checked_buffers(plan, to);
+    for (size_t i = 0; i < plan->count; i++)
+        if (!plan->lines[i]->is_dropped) {
+            write_command(plan->lines[i], to);
+            write_answered(plan->lines[i], to);
+        }
+}
