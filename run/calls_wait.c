@@ -74,15 +74,19 @@ static bool waits(const struct timespec *limit)
     return !limit || (user_get(&copy, limit, sizeof copy) == 0 && (copy.tv_sec != 0 || copy.tv_nsec != 0));
 }
 
-static void begin_wait(void)
+static void begin_wait(bool has_buffer)
 {
-    step_begin(STEP_WAIT);
+    if (has_buffer)
+        step_begin_of_buffer();
+    else
+        step_begin(STEP_WAIT);
     follow_wait(true);
 }
 
 /* Begins a step if any of a poll's first 64 descriptors is a file or a buffer. Returns whether it is a step. */
 static bool begin_step(const struct pollfd *files, nfds_t count)
 {
+    bool has_file = false, has_buffer = false;
     struct pollfd copy[NOTED];
     uint64_t inode;
 
@@ -92,12 +96,12 @@ static bool begin_step(const struct pollfd *files, nfds_t count)
     for (nfds_t i = 0; i < count; i++) {
         enum bim_mark mark = shim_mark(copy[i].fd, &inode);
 
-        if (mark != BIM_FILE_MARK && mark != BIM_BUFFER_MARK)
-            continue;
-        begin_wait();
-        return true;
+        has_file |= mark == BIM_FILE_MARK;
+        has_buffer |= mark == BIM_BUFFER_MARK;
     }
-    return false;
+    if (has_file || has_buffer)
+        begin_wait(has_buffer);
+    return has_file || has_buffer;
 }
 
 /* Stores what a poll found of a descriptor. Returns whether it is a file or a buffer, and ready. */
@@ -324,7 +328,7 @@ static int after_epoll(int set, const struct epoll_event *events, int result)
         int result;                                      \
                                                          \
         if (is_step)                                     \
-            begin_wait();                                \
+            begin_wait(false);                           \
         if (may_wait)                                    \
             shim_before_wait();                          \
         result = after_epoll(set, events, next ? next arguments : shim_result(ENOSYS)); \

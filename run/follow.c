@@ -14,6 +14,9 @@
 
 enum { NANOSECONDS = 1000000000 };
 
+/* A call that may find nothing waits for its turn for this part of the patience. */
+enum { PART_TO_ASK = 10 };
+
 
 static struct schedule *schedule; /* NULL if none is followed */
 
@@ -78,6 +81,7 @@ static void go_on(uint32_t at)
 {
     if (at + 1 == schedule->turns)
         schedule_end(schedule, SCHEDULE_MADE, NULL);
+    schedule->turned = schedule_now();
     schedule->at = at + 1;
     syscall(SYS_futex, &schedule->at, FUTEX_WAKE, INT_MAX, NULL, NULL, 0);
 }
@@ -90,10 +94,10 @@ static struct turn call_of(uint32_t number, enum step_kind kind)
     return call;
 }
 
-/* Sleeps until a turn has ended, or the patience. Returns whether the turn is over. */
-static bool sleep_until_over(uint32_t at)
+/* Sleeps until a turn has ended, or some time. Returns whether the turn is over. */
+static bool sleep_until_over(uint32_t at, uint64_t time)
 {
-    uint64_t until = schedule_now() + schedule->patience;
+    uint64_t until = schedule_now() + time;
 
     while (schedule->at == at && schedule->outcome == SCHEDULE_RUNS) {
         uint64_t now = schedule_now();
@@ -112,9 +116,33 @@ static bool is_export_of_poll(uint32_t at, enum step_kind kind)
     return kind == STEP_WAIT && schedule->all[at].kind == STEP_EXPORT;
 }
 
-static void await_turn(uint32_t number, enum step_kind kind)
+/* Returns whether the schedule has what FILE_INFO is to answer, be it that the file is pending. */
+static bool has_answer(uint32_t at, uint32_t number, enum step_kind kind)
+{
+    for (uint32_t i = at; i < schedule->turns; i++)
+        if (is_call(i, number, false))
+            return kind == STEP_INFO && (schedule->all[i].kind == STEP_INFO || schedule->all[i].kind == STEP_TEST);
+    return false;
+}
+
+/* Ends the following for all, if a turn lasts longer than the patience. */
+static void lose_patience(uint32_t number, enum step_kind kind)
+{
+    struct turn call = call_of(number, kind);
+
+    if (schedule_now() >= schedule->turned + schedule->patience)
+        schedule_end(schedule, SCHEDULE_MISSED, &call);
+}
+
+static void await_turn(uint32_t number, enum step_kind kind, bool asks)
 {
     bool locks = kind == STEP_LOCK;
+    uint64_t time = schedule->patience;
+
+    if (asks && !has_answer(schedule->at, number, kind))
+        time /= PART_TO_ASK;
+    else
+        asks = false;
 
     while (schedule->outcome == SCHEDULE_RUNS) {
         uint32_t at = schedule->at;
@@ -125,20 +153,20 @@ static void await_turn(uint32_t number, enum step_kind kind)
             go_on(at);
         else if (locks ? !has_lock(at, number) : is_free(at, number))
             return;
-        else if (!sleep_until_over(at)) {
-            struct turn call = call_of(number, kind);
-
-            schedule_end(schedule, SCHEDULE_MISSED, &call);
+        else if (!sleep_until_over(at, time)) {
+            lose_patience(number, kind);
+            if (asks)
+                return;
         }
     }
 }
 
-void follow_await(uint32_t number, enum step_kind kind)
+void follow_await(uint32_t number, enum step_kind kind, bool asks)
 {
     int before = errno;
 
     if (runs())
-        await_turn(number, kind);
+        await_turn(number, kind, asks);
     if (schedule)
         schedule->last = schedule_now();
     errno = before;
@@ -182,7 +210,7 @@ void follow_begin_lock(void)
     int before = errno;
 
     if (runs())
-        await_turn(thread_locks() + 1, STEP_LOCK);
+        await_turn(thread_locks() + 1, STEP_LOCK, false);
     errno = before;
 }
 

@@ -10,8 +10,9 @@
 
 /* Reads the schedule that the environment names, if it names one. */
 void follow_begin(void);
-/* Waits for the turn of this thread's call. Keeps errno. */
-void follow_await(uint32_t number, enum step_kind kind);
+/* Waits for the turn of this thread's call. A call that may find nothing, and then isn't in turn, waits only for a part of the
+ * patience (`asks`): a loop that asks must go on. It waits again, for its turn, once it has found something. Keeps errno. */
+void follow_await(uint32_t number, enum step_kind kind, bool asks);
 /* Returns whether the turn is a call that has done nothing, as one that is refused only now: it counts. */
 bool follow_counts(const struct step *step, uint32_t number);
 /* Ends the turn, if the call was in turn. */

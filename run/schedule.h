@@ -29,6 +29,7 @@ struct schedule {
     _Atomic uint32_t outcome;
     struct turn other;
     _Atomic uint32_t waiting; /* threads that wait for a file or a buffer */
+    _Atomic uint64_t turned;  /* when the turn `at` began, in nanoseconds */
     _Atomic uint64_t last;    /* when a call last began or ended, in nanoseconds */
     uint64_t patience;        /* in nanoseconds */
     uint32_t turns, others;   /* behind the turns are the calls that are made out of turn, and the locks that may have no turn */

@@ -22,13 +22,19 @@ void step_listen(void (*to)(const struct step *step, uint32_t number))
 void step_begin(enum step_kind kind)
 {
     if (step_is_on())
-        follow_await(thread_calls() + 1, kind);
+        follow_await(thread_calls() + 1, kind, kind == STEP_WAIT || kind == STEP_INFO);
+}
+
+void step_begin_of_buffer(void)
+{
+    if (step_is_on())
+        follow_await(thread_calls() + 1, STEP_WAIT, false);
 }
 
 void step_continue(enum step_kind kind)
 {
     if (step_is_on())
-        follow_await(thread_calls(), kind);
+        follow_await(thread_calls(), kind, false);
 }
 
 /* Returns whether a call did or found something. */
@@ -46,6 +52,8 @@ void step_end(const struct step *step)
 
     if (!step_is_on())
         return;
+    if ((step->kind == STEP_WAIT || step->kind == STEP_INFO) && does(step) && !step->is_second)
+        follow_await(thread_calls() + 1, step->kind, false);
     if (step->is_second)
         number = thread_calls();
     else if (does(step) || follow_counts(step, thread_calls() + 1))

@@ -54,6 +54,8 @@ void step_listen(void (*listener)(const struct step *step, uint32_t number));
 
 /* Called around a call that may be a step, which begins when it is its turn. */
 void step_begin(enum step_kind kind);
+/* The same for a poll of a buffer: what it finds may change, so it isn't made before its turn. */
+void step_begin_of_buffer(void);
 void step_end(const struct step *step);
 /* Called in place of step_begin before a step that is the second of its call. */
 void step_continue(enum step_kind kind);

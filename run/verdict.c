@@ -57,6 +57,7 @@ int verdict_begin(const struct options *options)
     if (!read)
         return STATUS_OPTIONS;
     read->patience = nanoseconds_of(options->patience);
+    read->turned = schedule_now();
     error = make_shared(FOLDER_THREADS, BIM_THREADS, NULL);
     if (!error)
         error = make_shared(FOLDER_SCHEDULE, BIM_FOLLOW, read);
