@@ -252,6 +252,14 @@ static void write_client(const struct plan *plan, const struct plan_thread *thre
     }
 }
 
+/* Writes the notes of calls that have no line, since nobody can tell: whoever follows the plan makes them out of turn. */
+static void write_unseen(const struct plan *plan, FILE *to)
+{
+    for (size_t i = 0; i < plan->count; i++)
+        if (plan->lines[i]->is_dropped && plan->lines[i]->call)
+            fprintf(to, "# @%s:%u\n", plan->lines[i]->thread->name, plan->lines[i]->call);
+}
+
 void plan_write(const struct plan *plan, const struct places *places, const char *program, FILE *to)
 {
     write_head(plan, program, to);
@@ -266,6 +274,7 @@ void plan_write(const struct plan *plan, const struct places *places, const char
         fputs("\n#finally\n", to);
         write_lines(plan, plan->main, plan->last, plan->main->count, places, to);
     }
+    write_unseen(plan, to);
 }
 
 void plan_write_run(const struct plan *plan, FILE *to)
