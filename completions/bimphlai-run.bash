@@ -28,7 +28,7 @@ _bimphlai_run() {
     elif [ "$at" -lt "$COMP_CWORD" ]; then
         mapfile -t COMPREPLY < <(compgen -f -- "$word")
     elif [[ $word == -* ]]; then
-        mapfile -t COMPREPLY < <(compgen -W "--local --direct --trace --report --check --require --require-fences --shuffle --follow --patience --plan --calls --orders --verbose -h --help --version" -- "$word")
+        mapfile -t COMPREPLY < <(compgen -W "--local --direct --trace --report --check --require --require-fences --shuffle --follow --patience --plan --calls --orders --predict --verbose -h --help --version" -- "$word")
     else
         mapfile -t COMPREPLY < <(compgen -c -- "$word")
         mapfile -t -O "${#COMPREPLY[@]}" COMPREPLY < <(compgen -f -- "$word")

@@ -13,6 +13,7 @@ complete -c bimphlai-run -x -l patience -d 'How long a thread waits for its turn
 complete -c bimphlai-run -r -l plan -d 'Write the run as a plan'
 complete -c bimphlai-run -x -l calls -d 'Write only the first calls'
 complete -c bimphlai-run -x -l orders -a 'all locks' -d 'Keep the orders of all locks, or let the sections of a mutex come in any order'
+complete -c bimphlai-run -l predict -d 'Record a run, and follow each schedule that is found'
 complete -c bimphlai-run -l verbose -d 'Say where the service is, and what was left'
 complete -c bimphlai-run -s h -l help -d 'Print help'
 complete -c bimphlai-run -l version -d 'Print the version'

@@ -8,10 +8,12 @@
 #include <limits.h>
 #include <stdio.h>
 #include <stdlib.h>
+#include <string.h>
 #include <sys/wait.h>
 #include <unistd.h>
 
-static void become_fencectl(const char *plan, const char *prefix, bool tells)
+/* Becomes fencectl (exec). A report that is read names a plan of the folder without the folder. */
+static void become_fencectl(const char *plan, const char *folder, const char *prefix, bool tells)
 {
     char fencectl[PATH_MAX];
     int nowhere = open("/dev/null", O_RDWR | O_CLOEXEC);
@@ -19,6 +21,8 @@ static void become_fencectl(const char *plan, const char *prefix, bool tells)
     dup2(nowhere, STDIN_FILENO);
     dup2(tells ? STDERR_FILENO : nowhere, STDOUT_FILENO);
     launch_find_fencectl(fencectl);
+    if (tells && chdir(folder) == 0)
+        plan = strrchr(plan, '/') + 1;
     execlp(fencectl, "fencectl", "explore", "--witness", prefix, plan, (char *)NULL);
     fault("fencectl", errno);
     _exit(STATUS_FAULT);
@@ -33,7 +37,7 @@ int explore(const char *plan, const char *folder, bool tells)
     snprintf(prefix, sizeof prefix, "%.4000s/shown", folder);
     child = fork();
     if (child == 0)
-        become_fencectl(plan, prefix, tells);
+        become_fencectl(plan, folder, prefix, tells);
     while (child > 0 && waitpid(child, &waited, 0) < 0)
         if (errno != EINTR)
             return STATUS_FAULT;

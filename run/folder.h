@@ -6,12 +6,13 @@
 
 #include <stddef.h>
 
-#define FOLDER_SOCKET   "socket"
-#define FOLDER_TRACE    "trace"
-#define FOLDER_CHECK    "check"
-#define FOLDER_PLAN     "plan"
-#define FOLDER_THREADS  "threads"
-#define FOLDER_SCHEDULE "schedule"
+#define FOLDER_SOCKET    "socket"
+#define FOLDER_TRACE     "trace"
+#define FOLDER_CHECK     "check"
+#define FOLDER_PLAN      "plan"
+#define FOLDER_THREADS   "threads"
+#define FOLDER_SCHEDULE  "schedule"
+#define FOLDER_PREDICTED "predicted"
 
 /* Makes a folder that only this user may enter. Stores its path, and a descriptor that holds the lock. Removes all
  * unlocked folders beside it. Returns 0 or an errno. */

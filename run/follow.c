@@ -17,7 +17,6 @@ enum { NANOSECONDS = 1000000000 };
 /* A call that may find nothing waits for its turn for this part of the patience. */
 enum { PART_TO_ASK = 10 };
 
-
 static struct schedule *schedule; /* NULL if none is followed */
 
 void follow_begin(void)

@@ -5,6 +5,7 @@
 #include "launch.h"
 #include "options.h"
 #include "plan.h"
+#include "predict.h"
 #include "processes.h"
 #include "program.h"
 #include "report.h"
@@ -116,6 +117,8 @@ int main(int count, char **words)
     status = options_read(&options, count, words);
     if (status >= 0)
         return status;
+    if (options.predicts)
+        return predict(&options, words);
     status = program_check(options.program[0]);
     if (!status)
         status = set_variable(BIM_SHUFFLE, options.seed);

@@ -27,17 +27,19 @@ static const char HELP[] =
     "                delays threads at moments that the number SEED decides, to find what relies on luck\n"
     "  --follow FILE [N]\n"
     "                has threads make their calls as schedule N of the plan FILE, or as the script FILE\n"
-    "  --patience MS for --follow: how long a thread waits for its turn, instead of 1500 ms\n"
+    "  --patience MS for --follow: how long a thread waits for its turn, by default 1500 ms\n"
     "  --plan FILE   writes the run as a plan to FILE, for `fencectl explore`\n"
     "  --calls N     only its first N calls\n"
     "  --orders all|locks\n"
     "                keeps the orders of all locks, or lets the sections of a mutex come in any order\n"
+    "  --predict     records a run as a plan, explores it, and follows each schedule that is found\n"
     "  --verbose     says where the service is, and what was left at the end\n"
     "  -h, --help, --version\n"
     "\n"
-    "The status is the program's; with --follow 1 if what the plan says happens, 0 if it is harmless, and 3 if the\n"
-    "program didn't make the calls. It is 2 for options that don't fit, 123 if the service was lost, 124 if there is\n"
-    "no plan, 125 if it can't start, 126 if the program can't be run with it, and 127 if there is no such program.\n";
+    "The status is the program's; with --follow and --predict 1 if what the plan says happens, 0 if it is harmless, and\n"
+    "3 if the program didn't make the calls. It is 2 for options that don't fit, 123 if the service was lost, 124 if\n"
+    "there is no plan, 125 if it can't start, 126 if the program can't be run with it, and 127 if there is no such\n"
+    "program.\n";
 
 enum word {
     LOCAL = 256,
@@ -53,6 +55,7 @@ enum word {
     PLAN,
     CALLS,
     ORDERS,
+    PREDICT,
     VERBOSE,
     VERSION
 };
@@ -73,6 +76,7 @@ static const struct option WORDS[] = {
     { "plan", required_argument, NULL, PLAN },
     { "calls", required_argument, NULL, CALLS },
     { "orders", required_argument, NULL, ORDERS },
+    { "predict", no_argument, NULL, PREDICT },
     { "verbose", no_argument, NULL, VERBOSE },
     { "help", no_argument, NULL, 'h' },
     { "version", no_argument, NULL, VERSION },
@@ -209,6 +213,7 @@ static int take(struct options *options, int word, char **words)
     case PLAN: return take_file("--plan", &options->plan);
     case CALLS: return take_calls(options);
     case ORDERS: return take_orders(options);
+    case PREDICT: options->predicts = true; return -1;
     case VERBOSE: options->is_verbose = true; return -1;
     case 'h': return print(USAGE, HELP);
     case VERSION: return print("bimphlai-run " BIM_VERSION, "\n");
@@ -240,5 +245,9 @@ int options_read(struct options *options, int count, char **words)
     while (status < 0 && (word = getopt_long(count, words, "+:h", WORDS, NULL)) >= 0)
         status = take(options, word, words);
     options->program = words + optind;
+    if (status < 0 && options->predicts && (options->plan || options->schedule)) {
+        say("--predict records a plan and follows it by itself, without --plan and --follow");
+        return tell_usage();
+    }
     return status < 0 && !options->program[0] ? tell_usage() : status;
 }

@@ -7,7 +7,7 @@
 enum { STATUS_OPTIONS = 2 };
 
 struct options {
-    bool is_local, is_direct, reports, requires, requires_fences, checks, is_verbose;
+    bool is_local, is_direct, reports, requires, requires_fences, checks, predicts, is_verbose;
     const char *trace; /* a file name, or NULL */
     const char *seed;  /* decimal digits, or NULL */
     const char *schedule; /* to follow: a script, or a plan, or NULL */
