@@ -23,14 +23,21 @@ static void lack(struct plan *plan, const char *form, ...)
     va_end(words);
 }
 
-/* Objects' names count those of a thread, so they are equal in each run in which the thread does the same. */
+/* Objects' names count those of a thread, so they are equal in each run in which the thread does the same. A long name of a thread has
+ * its number in the plan in place. */
 static struct thing *make_thing(struct plan *plan, struct plan_thread *thread, uint64_t inode, enum letter letter)
 {
+    enum { LONG = 16 };
     struct thing *thing = plan_take(plan, sizeof *thing);
     const char *path = strchr(thread->name, '.');
+    unsigned number = ++thread->made[letter];
 
-    snprintf(thing->name, sizeof thing->name, "%c%.20s%s%u", "tbfx"[letter], path ? path + 1 : "", path ? "_" : "",
-             ++thread->made[letter]);
+    if (!path)
+        snprintf(thing->name, sizeof thing->name, "%c%u", "tbfx"[letter], number);
+    else if (strlen(path + 1) <= LONG)
+        snprintf(thing->name, sizeof thing->name, "%c%s_%u", "tbfx"[letter], path + 1, number);
+    else
+        snprintf(thing->name, sizeof thing->name, "%c.%u_%u", "tbfx"[letter], thread->index, number);
     plan_put(plan, &plan->things, inode, thing);
     return thing;
 }
@@ -175,7 +182,10 @@ static void add_check(struct plan *plan, const struct event *event, struct thing
 
     if (!thread->checked) {
         thread->checked = plan_take(plan, sizeof *thread->checked);
-        snprintf(thread->checked->name, PLAN_NAME, "q.%.28s", thread->name);
+        if (strlen(thread->name) < PLAN_NAME - 2)
+            snprintf(thread->checked->name, PLAN_NAME, "q.%.29s", thread->name);
+        else
+            snprintf(thread->checked->name, PLAN_NAME, "q%u", thread->index);
     }
     line->call = 0;
     use(line, thread->checked, file);
@@ -275,7 +285,7 @@ static void take(struct plan *plan, const struct event *event)
     const struct log_record *record = event->record;
 
     if (event->call && !event->thread->name[0])
-        lack(plan, "a thread or a process that a system call made uses fences");
+        lack(plan, "the log doesn't say how a thread that uses fences was made");
     switch (record->kind) {
     case LOG_THREAD:
     case LOG_CREATE:

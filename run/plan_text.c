@@ -211,7 +211,12 @@ static void write_checked_buffers(const struct plan *plan, FILE *to)
 
 static void write_head(const struct plan *plan, const char *program, FILE *to)
 {
-    fprintf(to, "# One run of %.180s (bimphlai-run --plan): %llu of its %llu calls.\n", program, (unsigned long long)plan->calls,
+    char name[LINE_BYTES / 2];
+
+    snprintf(name, sizeof name, "%s", program);
+    for (char *byte = name; *byte; byte++)
+        *byte = *byte < ' ' ? '?' : *byte;
+    fprintf(to, "# One run of %s (bimphlai-run --plan): %llu of its %llu calls.\n", name, (unsigned long long)plan->calls,
             (unsigned long long)plan->calls_of_run);
     fputs("# Above the line of a call are its thread, its number in that, its time, and its place in the program.\n"
           "# Orders of threads by their making, their ends, pipes and pairs of sockets are kept as in the run.\n",
@@ -236,10 +241,18 @@ static void write_first(const struct plan *plan, const struct places *places, FI
         write_lines(plan, plan->main, 0, plan->first, places, to);
 }
 
+/* A client's name has what its thread runs, as far as there is room, and the thread's name, or its number in the plan if that is
+ * too long. */
 static void write_title(const struct plan_thread *thread, FILE *to)
 {
-    fprintf(to, "\n#client %s%s%s\n", thread->title, strcmp(thread->name, "1") == 0 ? "" : "-",
-            strcmp(thread->name, "1") == 0 ? "" : thread->name);
+    int length = strlen(thread->name), room = PLAN_NAME - 2 - length;
+
+    if (strcmp(thread->name, "1") == 0)
+        fprintf(to, "\n#client %s\n", thread->title);
+    else if (room > 0)
+        fprintf(to, "\n#client %.*s-%s\n", room, thread->title, thread->name);
+    else
+        fprintf(to, "\n#client %s-t%u\n", thread->title, thread->index);
 }
 
 static void write_client(const struct plan *plan, const struct plan_thread *thread, const struct places *places, FILE *to)
