@@ -144,7 +144,7 @@ static void *replace(void *none)
 {
     int old;
 
-    pause_for(SLOW);
+    pause_for(5 * SLOW);
     pthread_mutex_lock(&lock);
     old = current;
     current = timeline();
