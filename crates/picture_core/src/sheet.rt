@@ -39,6 +39,11 @@ pub(crate) const PAD: u64 = 10;
 const NARROW: u64 = 30;
 
 const BESIDE: u64 = 14;
+/// The pause that makes no gap before a column, in microseconds, and the gap for ten times that, for a hundred times twice that gap, and
+/// so on.
+const PAUSE: u64 = 1_000;
+
+const GAP: u64 = 30;
 /// The length of the heading `sync files`, and of `waiting tasks`.
 const HEADING_LENGTH: u64 = 10;
 
@@ -51,6 +56,8 @@ const APART: u64 = 10;
 pub(crate) struct Sheet {
     /// The left edge of each column, from column 0 on, and the right edge of the last.
     edges: Vec<u64>,
+    /// The gap at the left of each column, which shows that time passed before it.
+    gaps: Vec<u64>,
     /// The right edge of the last column.
     pub(crate) end: u64,
     /// The width of the lanes and the texts beside them.
@@ -81,6 +88,7 @@ impl Sheet {
     /// The sheet with up to `operands` words below the first.
     fn with(alloc: Global, history: &History, operands: usize) -> Result<Sheet, AllocError> {
         let (edges, end) = edges_of(alloc, history, operands)?;
+        let gaps = gaps_of(alloc, history.columns.as_slice())?;
         let head = below(HEAD, operands, LINE);
         let (clients, next) = lanes(head, history.clients.len(), CLIENT);
         let (timelines, next) = lanes(next, history.lanes.timelines.len(), TIMELINE);
@@ -90,6 +98,7 @@ impl Sheet {
         let (tasks, bottom) = lanes(next, history.lanes.tasks.len(), TASK);
         Ok(Sheet {
             edges,
+            gaps,
             end,
             width: end.saturating_add(beside(history)),
             operands,
@@ -121,9 +130,10 @@ impl Sheet {
         self.text_middle(column)
     }
 
-    /// The middle of the texts in a column; column 0 has room for the state before the first line.
+    /// The middle of the texts in a column, right of its gap; column 0 has room for the state before the first line.
     pub(crate) fn text_middle(&self, column: usize) -> u64 {
-        let left = self.left(column);
+        let gap = self.gaps.get(column).copied().unwrap_or(0);
+        let left = self.left(column).saturating_add(gap);
         left.saturating_add(self.right(column).saturating_sub(left) / 2)
     }
 
@@ -246,7 +256,45 @@ fn widths_of(alloc: Global, history: &History, operands: usize) -> Result<Vec<u6
     for lane in &history.lanes.timelines {
         widen(widths.as_mut_slice(), lane.steps.as_slice());
     }
+    let gaps = gaps_of(alloc, history.columns.as_slice())?;
+    add_gaps(widths.as_mut_slice(), gaps.as_slice());
     Ok(widths)
+}
+
+fn add_gaps(widths: &mut [u64], gaps: &[u64]) {
+    for (width, gap) in widths.iter_mut().zip(gaps) {
+        *width = width.saturating_add(*gap);
+    }
+}
+
+/// The gap before each column, from column 0 on, by the time since the column before.
+fn gaps_of(alloc: Global, columns: &[Column]) -> Result<Vec<u64>, AllocError> {
+    let mut gaps = Vec::with_capacity(alloc, columns.len().saturating_add(1))?;
+    gaps.push(0)?;
+    let mut before = None;
+    for column in columns {
+        let time = time_of(column);
+        gaps.push(gap_between(before, time))?;
+        before = time.or(before);
+    }
+    Ok(gaps)
+}
+
+fn time_of(column: &Column) -> Option<u64> {
+    match column.head {
+        ColumnHead::Time(time) => Some(time),
+        ColumnHead::Line | ColumnHead::Blank => None,
+    }
+}
+
+fn gap_between(before: Option<u64>, time: Option<u64>) -> u64 {
+    match (before, time) {
+        (Some(before), Some(time)) => {
+            let pauses = time.saturating_sub(before) / PAUSE;
+            digits(pauses).saturating_sub(1).saturating_mul(GAP)
+        }
+        _ => 0,
+    }
 }
 
 fn word_widths(alloc: Global, columns: &[Column], operands: usize) -> Result<Vec<u64>, AllocError> {
@@ -392,9 +440,7 @@ fn values_width(history: &History) -> u64 {
 fn time_width(history: &History) -> u64 {
     let mut length = 0;
     for column in &history.columns {
-        if let ColumnHead::Time(time) = column.head {
-            length = time_length(time).max(length);
-        }
+        length = time_of(column).map_or(0, time_length).max(length);
     }
     text_width(length)
 }

@@ -13,7 +13,7 @@ pub(crate) const NO_COMMANDS: &str = "no commands";
 /// What is said behind a number of commands that are left out, and below it.
 pub(crate) const LEFT_OUT: &str = " earlier commands are not shown";
 
-pub(crate) const CHOOSING: &str = "(--lines, or --from of a trace, shows them)";
+pub(crate) const CHOOSING: &str = "(see --lines; of a trace --from and --hangs)";
 
 /// The letter for a command's action on a buffer.
 pub(crate) fn letter_of(access: Access) -> &'static str {
