@@ -3,6 +3,7 @@
 The run may end with the fault of memory, after a prefix of the right result. Otherwise, commands may answer Memory. Such a
 command must leave nothing behind: all other answers are as if it were a note.
 """
+import json
 import os
 import re
 from dataclasses import replace
@@ -12,6 +13,8 @@ from scripts import answers_of
 
 MEMORY = b"err 16 Memory"
 FAULT = b"fencectl: 16 Memory\n"
+# The last line of a report on a search that was refused memory.
+UNCOVERED = re.compile(rb'not covered: memory was refused \(states: [0-9]+\); |\{"covered":false,"stopped":"memory",')
 with open(os.path.join(os.path.dirname(os.path.realpath(__file__)), "..", "..", "docs", "SCRIPT.md"), "rb") as document:
     COMMANDS = re.findall(rb"^\| `(\w+)[^|]*\|[^|]*\|[^|]*\|([^|]*)\|$", document.read(), re.M)
 # These commands are never refused memory.
@@ -85,6 +88,31 @@ class Words:
 
     def wrong_refusals(self, run, lasts, refused):
         return ""
+
+
+class Plans(Words):
+    """An exploration. If memory is refused to the search, it reports what it found until then."""
+
+    WORD = "explore"
+
+    def wrong_answers(self, run, refused):
+        *found, last = run.output.splitlines() or [b""]
+        if run.refused == 0 or not UNCOVERED.match(last):
+            return super().wrong_answers(run, refused)
+        if run.status != 2 or run.errors:
+            return f"its status is {run.status}, and it reports {run.errors}, though its search was refused memory"
+        right = self.whole.output.splitlines()
+        strange = [line for line in found if not any(is_part(line, other) for other in right)]
+        return f"it finds {strange[0]}, which is not among {right}" if strange else ""
+
+
+def is_part(line, other):
+    """Returns whether a line of a report is a line of the whole one; as JSON it may lack answers."""
+    if not line.startswith(b"{") or not other.startswith(b"{"):
+        return line == other
+    part, whole = json.loads(line), json.loads(other)
+    came, wanted = ([(it["answer"], it["finding"]) for it in row.pop("answers", [])] for row in (part, whole))
+    return part == whole and all(answer in wanted for answer in came)
 
 
 class Answers(Words):

@@ -139,6 +139,7 @@ fn add_totals(report: &Report<'_>, page: &mut Page) {
     page.text(match report.ended() {
         Ended::Covered => "{\"covered\":true",
         Ended::Bound => "{\"covered\":false,\"stopped\":\"states\"",
+        Ended::Memory => "{\"covered\":false,\"stopped\":\"memory\"",
         Ended::First => "{\"covered\":false,\"stopped\":\"first\"",
     });
     page.counted(",\"clients\":", report.plan.client_count());

@@ -36,6 +36,7 @@ pub enum Outcome {
 pub(crate) enum Ended {
     Covered,
     Bound,
+    Memory,
     First,
 }
 
@@ -159,6 +160,7 @@ impl<'a> Report<'a> {
         match self.outcome() {
             _ if self.found.covered => Ended::Covered,
             Outcome::Findings => Ended::First,
+            _ if self.found.out_of_memory => Ended::Memory,
             _ => Ended::Bound,
         }
     }

@@ -450,6 +450,11 @@ fn add_end(report: &Report<'_>, page: &mut Page) {
             page.text(" states; a greater --states goes on");
             page.text(SOME);
         }
+        Ended::Memory => {
+            page.counted("not covered: memory was refused (states: ", states);
+            page.text(")");
+            page.text(SOME);
+        }
         Ended::First => {
             page.counted(
                 "not covered: stopped at the first finding (states: ",

@@ -57,6 +57,7 @@ pub record AskedExplore : Type 0 where
   pub draw : Option Text
   pub answers : Bool
   pub all_orders : Bool
+  pub is_first : Bool
 
 -- a script has the name of its file, or none on standard input; clients have their number, their rounds and their table
 pub data Asked : Type 0 where
@@ -145,6 +146,7 @@ explore_after rows = record {
   draw = first_of (codes "draw") rows;
   answers = flag_named (one_of (codes "answers") rows);
   all_orders = flag_named (one_of (codes "all-orders") rows);
+  is_first = flag_named (one_of (codes "first") rows);
 }
 
 -- of a script, by the word of a subcommand
@@ -204,6 +206,7 @@ asked_of_explore explore = record {
   draw = option_map (λ t. t.now) explore.draw;
   answers = explore.answers;
   all_orders = explore.all_orders;
+  is_first = explore.is_first;
 }
 
 -- nothing if the program is to end

@@ -104,6 +104,8 @@ pub(crate) struct Explore<'a> {
     pub answers: bool,
     /// Whether every order of the clients is followed.
     pub all_orders: bool,
+    /// Whether the search ends at the first finding.
+    pub is_first: bool,
 }
 
 /// The number of clients, the rounds that each makes, and the table that they share.

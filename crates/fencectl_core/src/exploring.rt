@@ -5,9 +5,10 @@ use crate::action::Explore;
 use crate::drawing::{report_mistake, script_of, svg_of, write_output};
 use crate::fault::FAULT;
 use crate::no_plan::report_no_plan;
+use crate::progress::Progress;
 use crate::status::{ACCEPTED, REFUSED};
-use explore_core::{Found, Orders, STATES};
-use explore_report::{Outcome, PlanScript, Reading, Report, Wanted};
+use explore_core::{Found, Orders, STATES, Search};
+use explore_report::{News, Outcome, PlanScript, Reading, Report, Wanted};
 use point_core::Refusal;
 use source_core::{Input, STANDARD_INPUT, reported};
 use std::fs::File;
@@ -17,13 +18,14 @@ use std::io::Write;
 const WRONG_STATES: &str = "fencectl: --states takes a number from 1";
 
 /// Decides a plan over every schedule, and writes what is found to standard output, and schedules to files if `--witness` asks
-/// for them. Gives the status: 1 if something was found, and 2 if not every schedule was covered. A script that is no plan, and
-/// options that don't fit, are reported, with the status of a fault.
+/// for them. Gives the status: 1 if something was found, and 2 if not every schedule was covered, unless the first finding was all that
+/// was wanted. A script that is no plan, and options that don't fit, are reported, with the status of a fault.
 pub(crate) fn explore(rt: &HostRuntime, asked: &Explore<'_>) -> Result<u8, Refusal> {
-    match bound_of(asked.states) {
-        Some(bound) => explore_file(rt, asked, bound),
-        None => report_mistake(rt, WRONG_STATES),
-    }
+    let Some(bound) = bound_of(asked.states) else {
+        return report_mistake(rt, WRONG_STATES);
+    };
+    let script = script_of(rt, asked.script)?;
+    explore_script(rt, asked, bound, script.as_slice())
 }
 
 /// How many states are visited at most.
@@ -39,11 +41,6 @@ fn bound_of(states: Option<&str>) -> Option<usize> {
 }
 
 // A function that owns much memory only hands on a reference to it.
-
-fn explore_file(rt: &HostRuntime, asked: &Explore<'_>, bound: usize) -> Result<u8, Refusal> {
-    let script = script_of(rt, asked.script)?;
-    explore_script(rt, asked, bound, script.as_slice())
-}
 
 fn explore_script(
     rt: &HostRuntime,
@@ -65,8 +62,48 @@ fn explore_plan(
 ) -> Result<u8, Refusal>
     requires explorable { CanBeExplored plan.now.plan }
 {
-    let found = plan.explore(rt.alloc(), orders_of(asked), bound)?;
-    report_found(rt, asked, plan, &found)
+    let mut search = plan.search(rt.alloc(), orders_of(asked), bound)?;
+    follow(rt, asked, plan, &mut search)?;
+    let found = search.into_found();
+    let report = Report::of(rt.alloc(), plan, &found, wanted_of(asked))?;
+    write_report(rt, asked, &report)
+}
+
+/// Searches level by level, to the first finding if no more is asked for, and says at a terminal how far it has come.
+fn follow(
+    rt: &HostRuntime,
+    asked: &Explore<'_>,
+    plan: &PlanScript<'_>,
+    search: &mut Search<'_>,
+) -> Result<(), Refusal> {
+    let mut news = News::new(rt.alloc(), plan);
+    let mut progress = Progress::begin(rt);
+    for _ in 0..usize::MAX {
+        if !search.next_level() || has_ended(rt, asked, search.found(), &mut news, &mut progress)? {
+            break;
+        }
+    }
+    progress.end(rt);
+    Ok(())
+}
+
+/// Whether what was found up to a level is enough. Says what is new in it, if it is time.
+fn has_ended(
+    rt: &HostRuntime,
+    asked: &Explore<'_>,
+    found: &Found,
+    news: &mut News<'_>,
+    progress: &mut Progress,
+) -> Result<bool, Refusal> {
+    let due = progress.due(rt);
+    if !asked.is_first && due.is_none() {
+        return Ok(false);
+    }
+    let text = news.look(name_of(asked), found)?;
+    if let Some(passed) = due {
+        progress.tell(rt, passed, text.as_slice(), news.findings(), found);
+    }
+    Ok(asked.is_first && news.findings() > 0)
 }
 
 /// The orders of the clients that are followed.
@@ -78,14 +115,12 @@ fn orders_of(asked: &Explore<'_>) -> Orders {
     }
 }
 
-fn report_found(
-    rt: &HostRuntime,
-    asked: &Explore<'_>,
-    plan: &PlanScript<'_>,
-    found: &Found,
-) -> Result<u8, Refusal> {
-    let report = Report::of(rt.alloc(), plan, found, Wanted::All)?;
-    write_report(rt, asked, &report)
+fn wanted_of(asked: &Explore<'_>) -> Wanted {
+    if asked.is_first {
+        Wanted::First
+    } else {
+        Wanted::All
+    }
 }
 
 /// Writes the report, and then the schedules, so that a file in their place doesn't cost the report.

@@ -15,6 +15,7 @@ mod fault;
 mod meant;
 mod no_plan;
 mod paint;
+mod progress;
 mod prompt;
 mod reasons;
 mod run;

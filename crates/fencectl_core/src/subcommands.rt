@@ -106,6 +106,8 @@ pub(crate) const ANSWERS: &str = "answers";
 
 pub(crate) const ALL_ORDERS: &str = "all-orders";
 
+pub(crate) const FIRST: &str = "first";
+
 /// The script that a subcommand runs.
 const SCRIPT_FILE: Argument = Argument {
     name: FILE,
@@ -299,6 +301,11 @@ static SUBCOMMANDS: &[Subcommand] = &[
                 name: ALL_ORDERS,
                 form: ArgumentForm::Flag,
                 help: "Follows every order of the clients, also where it makes no difference",
+            },
+            Argument {
+                name: FIRST,
+                form: ArgumentForm::Flag,
+                help: "Ends at the first finding",
             },
         ],
     },
