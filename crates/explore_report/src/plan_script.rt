@@ -106,12 +106,7 @@ impl<'a> PlanScript<'a> {
     /// A search of the plan, level by level, for a caller that reports what is found meanwhile, or ends it early.
     ///
     /// Fails with `Memory` only.
-    pub fn search(
-        &self,
-        alloc: Global,
-        orders: Orders,
-        bound: usize,
-    ) -> Result<Search<'_>, Refusal>
+    pub fn search(&self, alloc: Global, orders: Orders, bound: usize) -> Result<Search<'_>, Refusal>
         requires explorable { CanBeExplored self.now.plan }
         ensures plan { IfOk result (λ search. search.plan ≡ self.now.plan) }
         ensures bound { IfOk result (λ search. search.bound ≡ bound) }

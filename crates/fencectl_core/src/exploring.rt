@@ -64,7 +64,8 @@ fn explore_plan(
 {
     let mut search = plan.search(rt.alloc(), orders_of(asked), bound)?;
     follow(rt, asked, plan, &mut search)?;
-    let found = search.into_found();
+    let mut found = search.into_found();
+    plan.shorten(rt.alloc(), &mut found);
     let report = Report::of(rt.alloc(), plan, &found, wanted_of(asked))?;
     write_report(rt, asked, &report)
 }
@@ -131,45 +132,54 @@ fn write_report(rt: &HostRuntime, asked: &Explore<'_>, report: &Report<'_>) -> R
         report.text(name_of(asked), asked.answers)?
     };
     let status = write_output(rt, document.as_slice(), status_of(report.outcome()))?;
+    let are_written = write_schedules(rt, asked, report)?;
+    Ok(if are_written { status } else { FAULT })
+}
+
+/// Writes each schedule to files of its own, as it is asked for. Whether all are written: a file that is there stays, which is
+/// reported.
+fn write_schedules(
+    rt: &HostRuntime,
+    asked: &Explore<'_>,
+    report: &Report<'_>,
+) -> Result<bool, Refusal> {
+    if asked.witness.is_none() && asked.draw.is_none() {
+        return Ok(true);
+    }
+    for number in 1..usize::MAX {
+        let Some(script) = report.script(number)? else {
+            break;
+        };
+        if !write_schedule(rt, asked, number, script.as_slice())? {
+            return Ok(false);
+        }
+    }
+    Ok(true)
+}
+
+/// Writes the schedule of that number as a script, and as a picture.
+fn write_schedule(
+    rt: &HostRuntime,
+    asked: &Explore<'_>,
+    number: usize,
+    script: &[u8],
+) -> Result<bool, Refusal> {
     if let Some(prefix) = asked.witness {
-        write_schedules(rt, prefix, report)?;
+        let name = format!(in rt.alloc(); "{prefix}-{number}.fence")?;
+        if !write_new(rt, name.as_str(), script) {
+            return Ok(false);
+        }
     }
-    if let Some(prefix) = asked.draw {
-        draw_schedules(rt, prefix, report)?;
-    }
-    Ok(status)
+    let Some(prefix) = asked.draw else {
+        return Ok(true);
+    };
+    let name = format!(in rt.alloc(); "{prefix}-{number}.svg")?;
+    let picture = svg_of(rt, script)?;
+    Ok(write_new(rt, name.as_str(), picture.as_slice()))
 }
 
-/// Writes each schedule to a file of its own. A file that is there stays, and is a fault.
-fn write_schedules(rt: &HostRuntime, prefix: &str, report: &Report<'_>) -> Result<(), Refusal> {
-    for number in 1..usize::MAX {
-        let Some(script) = report.script(number)? else {
-            break;
-        };
-        let file = format!(in rt.alloc(); "{prefix}-{number}.fence")?;
-        write_new(rt, file.as_str(), script.as_slice())?;
-    }
-    Ok(())
-}
-
-/// Draws each schedule into a file of its own. A file that is there stays, and is a fault.
-fn draw_schedules(rt: &HostRuntime, prefix: &str, report: &Report<'_>) -> Result<(), Refusal> {
-    for number in 1..usize::MAX {
-        let Some(script) = report.script(number)? else {
-            break;
-        };
-        let file = format!(in rt.alloc(); "{prefix}-{number}.svg")?;
-        let picture = svg_of(rt, script.as_slice())?;
-        write_new(rt, file.as_str(), picture.as_slice())?;
-    }
-    Ok(())
-}
-
-fn write_new(rt: &HostRuntime, name: &str, bytes: &[u8]) -> Result<(), Refusal> {
-    match reported(rt, name, make(rt, name, bytes)) {
-        Ok(()) => Ok(()),
-        Err(_) => Err(Refusal::Write),
-    }
+fn write_new(rt: &HostRuntime, name: &str, bytes: &[u8]) -> bool {
+    reported(rt, name, make(rt, name, bytes)).is_ok()
 }
 
 fn make(rt: &HostRuntime, name: &str, bytes: &[u8]) -> io::Result<()> {
