@@ -38,7 +38,7 @@ pub use chooser::Orders;
 pub use explorer::{STATES, explore};
 pub use found::{Found, Given, Race};
 pub use list::SCHEDULED_CLIENTS;
-pub use plan::{Branch, Plan, Step};
+pub use plan::{Branch, Expects, Milestone, Plan, RightAnswer, Step};
 pub use position::{line_at, make};
 pub use progress::{clear_made, count_to, place_of};
 pub use search::Search;

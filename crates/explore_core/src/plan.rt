@@ -23,6 +23,41 @@ pub struct Step {
     pub waits: bool,
     /// The branch that begins directly below the line.
     pub branch: Option<Branch>,
+    /// The line of another client that comes before: the client makes this line only once the other is past that one.
+    pub after: Option<Milestone>,
+    /// Whether the line is one step with the client's line above it: no other client goes between them.
+    pub joined: bool,
+    /// After which answers a schedule goes on.
+    pub expects: Expects,
+    /// The line's place in the order that shown schedules keep near to, such as that of a recorded run.
+    pub turn: usize,
+}
+
+/// A line of a client: others may have to let it pass.
+#[derive(Clone, Copy)]
+pub struct Milestone {
+    pub client: usize,
+    pub place: usize,
+}
+
+/// After which answers of a line a schedule goes on. It ends at any other.
+#[derive(Drop)]
+pub enum Expects {
+    /// After any answer.
+    Any,
+    /// After any but a refusal.
+    Accepted,
+    /// After one of these.
+    Texts(Vec<RightAnswer>),
+}
+
+/// An answer that is expected of a line.
+#[derive(Drop)]
+pub struct RightAnswer {
+    /// The text, each line with its line feed.
+    pub text: Vec<u8>,
+    /// Whether the text is only the first line of the answer.
+    pub begins: bool,
 }
 
 /// Lines below a line, which the client makes only if that line got one answer, and else skips.

@@ -8,6 +8,7 @@ use Rattle.command_core.specs.declared.command.Command.TheVariants as command
 use Rattle.explore_core.specs.Branch.{Branching}
 use Rattle.explore_core.specs.declared.access.Access.{Access}
 use Rattle.explore_core.specs.Schedule.{Lines}
+use Rattle.explore_core.specs.declared.plan.Expects.TheVariants as expects
 use Rattle.explore_core.specs.declared.plan.Step.{Step}
 use Rattle.explore_report.specs.declared.context.Above.{Above}
 use Rattle.explore_report.specs.declared.context.Above.TheVariants as above
@@ -108,6 +109,10 @@ step_of lines place row below command = record {
   command = command;
   waits = waits row.context.above command;
   branch = branch_below lines (place + 1) below;
+  after = None;
+  joined = false;
+  expects = expects.Any;
+  turn = 0;
 }
 
 -- the line of a row, if the row is in that section; it has that place among the section's lines, and these rows below it

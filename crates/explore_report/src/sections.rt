@@ -12,7 +12,7 @@ use crate::plan_script::{after_notes, below};
 use crate::row::Row;
 use crate::way::{Way, left_out, more};
 use command_core::Command;
-use explore_core::{Branch, Plan, Step};
+use explore_core::{Branch, Expects, Plan, Step};
 use std::alloc::{AllocError, Global};
 
 /// The plan of the rows, which are of these lines.
@@ -115,6 +115,10 @@ fn push_step(
             command,
             waits,
             branch,
+            after: None,
+            joined: false,
+            expects: Expects::Any,
+            turn: 0,
         })?;
     }
     Ok(())
