@@ -1,6 +1,6 @@
 //! `Contexts`: for each context the order of its signals, its points and its tally. It is a cache: the ledger forgets contexts
 //! without fences when there are more than `KEPT_CONTEXTS`, so that a trace of any length fits in memory.
-ghost use Rattle.std.specs.Prelude.{◌≡◌, false, true, if◌then◌else◌, OnOk, IfOk, IfErr, nat_lt, length};
+ghost use Rattle.std.specs.Prelude.{◌≡◌, if◌then◌else◌, IfOk, IfErr, nat_lt, length};
 ghost use Rattle.point_core.specs.declared.refusal.Refusal.TheVariants.{Memory};
 ghost use Rattle.trace_core.specs.declared.fence_event.ContextKey.{ContextKey};
 ghost use Rattle.trace_core.specs.declared.contexts.TheConstants.{KEPT_CONTEXTS};

@@ -1,6 +1,6 @@
 //! `Lives`: the `Life` of each key that has fences alive. A key whose fences are all gone is dropped, so memory is bounded by what is
 //! alive at once.
-ghost use Rattle.std.specs.Prelude.{◌≡◌, ◌&&◌, nat_eq, if◌then◌else◌, OnOk, OnErr, IfOk, IfErr};
+ghost use Rattle.std.specs.Prelude.{◌≡◌, ◌&&◌, nat_eq, if◌then◌else◌, OnOk, IfOk, IfErr};
 ghost use Rattle.point_core.specs.declared.refusal.Refusal.TheVariants.{Memory};
 ghost use Rattle.trace_core.specs.declared.fence_event.FenceKey.{FenceKey};
 ghost use Rattle.trace_core.specs.Keys.{same_key};

@@ -1,10 +1,10 @@
 //! The first piece of a text: a line, or the lines of one record. A name may hold line feeds, so lines that begin as a record but
 //! are none are joined with the next ones, up to `RECORD_LINES` lines and `PIECE_BYTES` bytes.
-ghost use Rattle.std.specs.Prelude.{◌≡◌, ◌+◌, ◌-◌, ◌≤◌, ◌⊎◌, ◌++◌, List, ℕ, true, false, [], length, take, drop, IfSome, IfNone, position};
+ghost use Rattle.std.specs.Prelude.{◌≡◌, ◌+◌, ◌-◌, ◌≤◌, List, ℕ, true, false, [], length, IfSome, IfNone, position};
 ghost use Rattle.trace_core.specs.declared.item.TheConstants.{PIECE_BYTES};
 ghost use Rattle.trace_core.specs.Item.{meaning_of, Unread};
-ghost use Rattle.trace_core.specs.Piece.{is_line_feed, is_unread, begins_record, first_item};
-ghost use Rattle.trace_core.specs.Cutting.{IsLine, AreLines, IsJoining, IsJoined, IsFirstPiece, NeedsMore, Takes, IsRestOfLine, HasNoLineFeed, MayFollow};
+ghost use Rattle.trace_core.specs.Piece.{is_line_feed, is_unread, begins_record};
+ghost use Rattle.trace_core.specs.Cutting.{IsLine, AreLines, IsJoining, IsJoined, IsFirstPiece, NeedsMore, Takes, IsRestOfLine, HasNoLineFeed};
 
 use crate::header::header_of;
 use crate::item::{PIECE_BYTES, TraceItem, item_of};
