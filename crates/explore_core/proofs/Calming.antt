@@ -1,12 +1,11 @@
 -- A plan with room for its files is calm.
-use Rattle.std.proofs.Common.{◌≡◌, ℕ, zero, suc, ◌+◌, ◌<◌, ◌≤◌, Bool, true, false, refl, sym, ap, ◌∙◌, subst, List, [], ◌∷◌, ◌++◌, length, length-append, get_or, set, slice_get, replicate, Option, None, Some, unwrap_or, arith, if◌then◌else◌}
-use Rattle.std.specs.Prelude.{All, IfSome}
+use Rattle.std.proofs.Common.{◌≡◌, ℕ, zero, suc, ◌+◌, ◌<◌, ◌≤◌, Bool, true, false, refl, sym, ap, ◌∙◌, subst, List, [], ◌∷◌, ◌++◌, length, length-append, get_or, set, slice_get, replicate, Some, unwrap_or, arith, if◌then◌else◌}
+use Rattle.std.specs.Prelude.{All}
 use Rattle.std.specs.List.{sum_by}
 use Rattle.std.proofs.lemmas.List.{length-replicate, length-set}
 use Rattle.std.proofs.lemmas.List.Elements.{All-head, All-tail}
 use Rattle.std.proofs.lemmas.List.Sums.{sum_by-cons}
 use Rattle.std.proofs.lemmas.Option.{none-some, same_Some}
-use Rattle.command_core.specs.declared.answer.Answer.{Answer}
 use Rattle.command_core.specs.declared.command.Command.{Command}
 use Rattle.command_core.specs.declared.command.Command.TheVariants as command
 use Rattle.desk_core.specs.theorem.World.{World, MadeFile, after}
@@ -14,13 +13,12 @@ use Rattle.desk_core.specs.theorem.Answer.{answer_to, is_refused}
 use Rattle.desk_core.specs.theorem.History.{world_of}
 use Rattle.desk_core.specs.Sound.{IsSound}
 use Rattle.explore_core.specs.declared.plan.Step.{Step}
-use Rattle.explore_core.specs.Branch.{Branching}
-use Rattle.explore_core.specs.Room.{HasRoom, LeadForward, LeadsForward, files_by_plan, files_by_lines, files_by}
+use Rattle.explore_core.specs.Room.{HasRoom, LeadForward, files_by_plan, files_by_lines, files_by}
 use Rattle.explore_core.specs.Found.{CanBeExplored}
 use Rattle.explore_core.specs.Persistent.{IsCalm}
-use Rattle.explore_core.specs.Schedule.{Lines, Standing, Schedule, answer_now, history_with, history_along, beginning, is_taken, made_by, next_line, place_by, place_after, after_line, Leads}
+use Rattle.explore_core.specs.Schedule.{Lines, Standing, Schedule, answer_now, history_with, history_along, beginning, made_by, next_line, place_after, after_line, Leads}
 use Rattle.explore_core.proofs.Covering.{world-with, sound-along, sound-empty, sound-with}
-use Rattle.explore_core.proofs.Moving.{line-made}
+use Rattle.explore_core.proofs.Moving.{goes-forward, line-made}
 use Rattle.explore_core.proofs.Naming.{length-without_named}
 use Rattle.explore_core.proofs.Scheduling.{none-comes, no_watches-of}
 
@@ -99,17 +97,6 @@ client-passed (lines ∷ clients) (place ∷ made) zero next line same at ahead 
 client-passed (lines ∷ clients) (place ∷ made) (suc client) next line same at ahead =
     let rest = client-passed clients made client next line (omega (arith, same)) at ahead in
     omega (arith, rest)
-
-goes-forward : (line : Step) (place : ℕ) (given : Answer) → LeadsForward place line → place < place_after line place given
-goes-forward line place given forward = by line.branch forward
-  where
-    taken : (b : Branching) (r : Bool) → place < b.otherwise → place < (if r then place + 1 else b.otherwise)
-    taken b true ahead = omega arith
-    taken b false ahead = ahead
-
-    by : (o : Option Branching) → IfSome o (λ (b : Branching). place < b.otherwise) → place < place_by o place given
-    by None forward = omega arith
-    by (Some b) forward = taken b (is_taken b given) forward
 
 -- along a schedule
 

@@ -16,7 +16,7 @@ use Rattle.desk_core.proofs.Answering.{world_from-push}
 use Rattle.desk_core.proofs.Sound.{IsSound-history}
 use Rattle.explore_core.specs.declared.plan.Step.{Step}
 use Rattle.explore_core.specs.Alike.{AsksOnly, AreAlike, IsSameWatch, after_answer}
-use Rattle.explore_core.specs.Schedule.{Lines, Standing, answer_now, history_with, history_along, lines_of, made_by, next_line, can_be_made, place_after, after_line, made_line, after_one, IsLast, IsStuck}
+use Rattle.explore_core.specs.Schedule.{Lines, Standing, answer_now, history_with, history_along, lines_of, made_by, next_line, can_be_made, is_due, place_after, after_line, made_line, after_one, IsLast, IsStuck}
 use Rattle.explore_core.specs.Covering.{MayAsk, GoOnAlike}
 use Rattle.explore_core.proofs.Answering.{same_answer}
 use Rattle.explore_core.proofs.Staying.{alike-answered, IsSound-answered}
@@ -76,7 +76,9 @@ module _ {asked : List ℕ → Bool} {plan : Lines} (may : MayAsk asked plan) {s
   answer-same step asks = same_answer g.worlds step.command asks sound
 
   pub can-same : (step : Step) → AsksOnly asked step.command → can_be_made s step ≡ can_be_made t step
-  can-same step asks = ap (λ given. not (step.waits && is_refused given)) (answer-same step asks)
+  can-same step asks =
+      ap (λ made. is_due made step.after && not (step.waits && is_refused (answer_now s.history step.command))) g.made
+      ∙ ap (λ given. is_due t.made step.after && not (step.waits && is_refused given)) (answer-same step asks)
 
   line-alike : (client : ℕ) (step : Step) → AsksOnly asked step.command → GoOnAlike asked (after_line s client step) (after_line t client step)
   line-alike client step asks = record {

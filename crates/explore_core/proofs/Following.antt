@@ -1,11 +1,10 @@
 -- A chosen client goes first: from where its line leads to, the rest of the schedule gives the other answers.
-use Rattle.std.proofs.Common.{◌≡◌, ℕ, ◌+◌, Bool, true, false, not, ◌&&◌, refl, sym, ap, ◌∙◌, subst, List, [], ◌∷◌, ◌++◌, append_assoc, length, length-append, slice_get, None, Some, arith, if◌then◌else◌, inl, inr}
+use Rattle.std.proofs.Common.{◌≡◌, ℕ, ◌+◌, Bool, true, false, refl, sym, ap, ◌∙◌, subst, List, [], ◌∷◌, ◌++◌, append_assoc, length, length-append, slice_get, None, Some, arith, if◌then◌else◌, inl, inr}
 use Rattle.std.specs.Prelude.{◌⊎◌, All, Contains}
 use Rattle.std.proofs.lemmas.List.Elements.{All-append, All-cons, All-contains_itself, All-nil, All-weaker, Contains-append_left, Contains-append_right}
 use Rattle.std.proofs.lemmas.Option.{none-some}
 use Rattle.command_core.specs.declared.answer.Answer.{Answer}
 use Rattle.desk_core.specs.Sound.{IsSound}
-use Rattle.desk_core.specs.theorem.Answer.{is_refused}
 use Rattle.desk_core.specs.theorem.History.{world_of}
 use Rattle.explore_core.specs.Access.{RaceAt}
 use Rattle.explore_core.specs.Covering.{GoOnAlike, MayAsk}
@@ -108,7 +107,7 @@ module _ {asked : List ℕ → Bool} {bounds : Bounds} {plan : Lines} (may : May
     line : Step
     is : next_line plan now client ≡ Some line
     is_later : next_line plan mid client ≡ Some line
-    free : IsFree asked bounds plan now choice line
+    free : IsFree asked bounds plan now choice client line
     first : MayGoFirst asked plan client line now others mid
     place : made_by mid client ≡ made_by now client
     after : after_line mid client line ≡ next
@@ -170,7 +169,7 @@ module _ {asked : List ℕ → Bool} {bounds : Bounds} {plan : Lines} (may : May
       let line = p.goes.2 in
       let still = stand-still may calm p.bounded p.stops schedule last unchosen leads in
       let m = still.free client line p.goes.1 p.goes.3 p.goes.4 in
-      let can : can_be_made last line ≡ true = ap (λ given. not (line.waits && is_refused given)) m.answer ∙ p.goes.4.can in
+      let can : can_be_made last line ≡ true = m.can in
       let goes : after_one plan last client ≡ Some (after_line last client line) = ap (made_line last client) m.next ∙ ap (λ b. if b then Some (after_line last client line) else None) can in
       record {
         client = client;

@@ -1,20 +1,25 @@
 -- A line that is independent of the lines along a schedule may be made before them.
-use Rattle.std.proofs.Common.{◌≡◌, ◌≢◌, ℕ, Bool, true, false, not, ◌&&◌, suc, zero, refl, sym, ap, ◌∙◌, subst, List, [], ◌∷◌, ◌++◌, get_or, set, slice_get, Option, None, Some, unwrap_or, if◌then◌else◌}
-use Rattle.std.proofs.lemmas.Bool.{false≢true}
+use Rattle.std.proofs.Common.{◌≡◌, ◌≢◌, ℕ, ◌+◌, ◌<◌, ◌≤◌, arith, Bool, true, false, not, ◌&&◌, suc, zero, refl, sym, ap, ◌∙◌, subst, List, [], ◌∷◌, ◌++◌, get_or, set, slice_get, Option, None, Some, unwrap_or, if◌then◌else◌}
+use Rattle.std.specs.Prelude.{IfSome}
+use Rattle.std.proofs.lemmas.Bool.{and_from, and_parts, false≢true, lt-ltb, ltb-true}
 use Rattle.std.proofs.lemmas.List.{get_or-set_other}
 use Rattle.std.proofs.lemmas.Option.{same_Some}
+use Rattle.command_core.specs.declared.answer.Answer.{Answer}
 use Rattle.command_core.specs.declared.command.Command.{Command}
 use Rattle.command_core.specs.declared.command.Command.TheVariants as command
 use Rattle.desk_core.specs.theorem.World.{World}
 use Rattle.desk_core.specs.theorem.Answer.{answer_to, is_refused}
 use Rattle.desk_core.specs.theorem.History.{world_of}
 use Rattle.desk_core.specs.Sound.{IsSound}
+use Rattle.explore_core.specs.Branch.{Branching}
+use Rattle.explore_core.specs.declared.plan.Milestone.{Milestone}
 use Rattle.explore_core.specs.declared.plan.Step.{Step}
 use Rattle.explore_core.specs.Alike.{AreAlike, after_answer}
 use Rattle.explore_core.specs.Covering.{MayAsk, GoOnAlike}
 use Rattle.explore_core.specs.Independence.{Bounds, Commute, Passes}
 use Rattle.explore_core.specs.Moving.{answer_of, answers_of, IsPatient, AllGoBeside, MayGoFirst}
-use Rattle.explore_core.specs.Schedule.{Lines, Standing, Schedule, answer_now, history_with, lines_of, made_by, next_line, can_be_made, place_after, after_line, made_line, after_one, Leads}
+use Rattle.explore_core.specs.Room.{LeadsForward}
+use Rattle.explore_core.specs.Schedule.{Lines, Standing, Schedule, answer_now, history_with, is_due, is_taken, lines_of, made_by, next_line, can_be_made, place_by, place_after, after_line, made_line, after_one, Leads}
 use Rattle.explore_core.specs.Search.{standing_after}
 use Rattle.explore_core.proofs.Commuting.{commute, alike-itself}
 use Rattle.explore_core.proofs.Covering.{world-with, sound-with, sound-made, go-on-trans, next-same, asks-next, answer-same, one-alike}
@@ -47,6 +52,17 @@ line-made now client (Some step) next goes = by (can_be_made now step) refl goes
     by true can goes = record { line = step; is = refl; can = can; after = same_Some (after_line now client step) next goes }
     by false can goes = absurd (cc)
 
+-- what is known of a line that can be made
+
+abbrev accepted : Standing → Step → Bool
+accepted now line = not (line.waits && is_refused (answer_now now.history line.command))
+
+due-made : (now : Standing) (line : Step) → can_be_made now line ≡ true → is_due now.made line.after ≡ true
+due-made now line can = (and_parts (is_due now.made line.after) (accepted now line) can).0
+
+accepted-made : (now : Standing) (line : Step) → can_be_made now line ≡ true → accepted now line ≡ true
+accepted-made now line can = (and_parts (is_due now.made line.after) (accepted now line) can).1
+
 not-true : (b : Bool) → not b ≡ true → b ≡ false
 not-true true is = absurd (false≢true is)
 not-true false is = refl
@@ -56,6 +72,47 @@ passes-made : (w : World) (c : Command) (waits : Bool) → IsPatient c waits →
 passes-made w (command.Wait f) waits patient can =
     not-true (is_refused (answer_to w (command.Wait f))) (ap (λ b. not (b && is_refused (answer_to w (command.Wait f)))) (sym patient) ∙ can)
 passes-made w _ waits patient can = tt
+
+-- lines that lead forward: a line that is due stays so
+
+pub goes-forward : (line : Step) (place : ℕ) (given : Answer) → LeadsForward place line → place < place_after line place given
+goes-forward line place given forward = by line.branch forward
+  where
+    taken : (b : Branching) (r : Bool) → place < b.otherwise → place < (if r then place + 1 else b.otherwise)
+    taken b true ahead = omega arith
+    taken b false ahead = ahead
+
+    by : (o : Option Branching) → IfSome o (λ (b : Branching). place < b.otherwise) → place < place_by o place given
+    by None forward = omega arith
+    by (Some b) forward = taken b (is_taken b given) forward
+
+place-later : (made : List ℕ) (client place other : ℕ) → get_or made client 0 ≤ place → get_or made other 0 ≤ get_or (set made client place) other 0
+place-later [] client place other later = omega arith
+place-later (x ∷ made) zero place zero later = later
+place-later (x ∷ made) zero place (suc other) later = omega arith
+place-later (x ∷ made) (suc client) place zero later = omega arith
+place-later (x ∷ made) (suc client) place (suc other) later = place-later made client place other later
+
+due-later : (made : List ℕ) (client place : ℕ) (o : Option Milestone) → get_or made client 0 ≤ place → is_due made o ≡ true → is_due (set made client place) o ≡ true
+due-later made client place None later due = refl
+due-later made client place (Some m) later due =
+    let before = place-later made client place m.client later in
+    let past = ltb-true m.place (get_or made m.client 0) due in
+    lt-ltb m.place (get_or (set made client place) m.client 0) (omega (arith, before, past))
+
+due-after : (now : Standing) (client : ℕ) (line : Step) (o : Option Milestone) → LeadsForward (made_by now client) line → is_due now.made o ≡ true → is_due (after_line now client line).made o ≡ true
+due-after now client line o forward due =
+    let given = answer_now now.history line.command in
+    let ahead = goes-forward line (made_by now client) given forward in
+    due-later now.made client (place_after line (made_by now client) given) o (omega (arith, ahead)) due
+
+-- so it can be made after the line of another client too, if it gets the same answer
+can-after : (now : Standing) (client : ℕ) (line other : Step) → LeadsForward (made_by now client) line → answer_now (after_line now client line).history other.command ≡ answer_now now.history other.command
+    → can_be_made now other ≡ true → can_be_made (after_line now client line) other ≡ true
+can-after now client line other forward same can =
+    let later = after_line now client line in
+    and_from (is_due later.made other.after) (accepted later other) (due-after now client line other.after forward (due-made now other can))
+    (ap (λ given. not (other.waits && is_refused given)) same ∙ accepted-made now other can)
 
 -- alike standings answer alike along a schedule
 
@@ -150,9 +207,10 @@ swapped asked plan now client step other line next next' apart commutes =
 -- a line before all lines of a schedule
 
 module _ {asked : List ℕ → Bool} {plan : Lines} (may : MayAsk asked plan) (client : ℕ) (step : Step) (patient : IsPatient step.command step.waits) where
-  go-nowhere : (now : Standing) → next_line plan now client ≡ Some step → MayGoFirst asked plan client step now [] now
-  go-nowhere now next = record {
+  go-nowhere : (now : Standing) → next_line plan now client ≡ Some step → can_be_made now step ≡ true → MayGoFirst asked plan client step now [] now
+  go-nowhere now next can = record {
     next = next;
+    can = can;
     answer = refl;
     last = after_line now client step;
     leads = refl;
@@ -162,13 +220,13 @@ module _ {asked : List ℕ → Bool} {plan : Lines} (may : MayAsk asked plan) (c
 
   -- the client goes before the first other, and then before the rest
   go-before : (now : Standing) (other : ℕ) (line : Step) (others : Schedule) (later : Standing) → other ≢ client → can_be_made now line ≡ true → next_line plan now other ≡ Some line
-      → IsSound (world_of now.history) → AreSwapped asked plan now client step other line → MayGoFirst asked plan client step (after_line now other line) others later
+      → LeadsForward (made_by now client) step → IsSound (world_of now.history) → AreSwapped asked plan now client step other line → MayGoFirst asked plan client step (after_line now other line) others later
       → MayGoFirst asked plan client step now (other ∷ others) later
-  go-before now other line others later apart can next' sound s rest =
+  go-before now other line others later apart can next' forward sound s rest =
       let first = after_line now client step in
       let second = after_line now other line in
       let both = after_line first other line in
-      let can' : can_be_made first line ≡ true = ap (λ given. not (line.waits && is_refused given)) s.line_answer ∙ can in
+      let can' : can_be_made first line ≡ true = can-after now client step line forward s.line_answer can in
       let goes : after_one plan first other ≡ Some both = ap (made_line first other) s.line_next ∙ ap (λ b. if b then Some both else None) can' in
       let goes' : after_one plan now other ≡ Some second = ap (made_line now other) next' ∙ ap (λ b. if b then Some second else None) can in
       let kept = get_or-set_other now.made client other (place_after step (made_by now client) (answer_now now.history step.command)) 0 apart in
@@ -180,6 +238,7 @@ module _ {asked : List ℕ → Bool} {plan : Lines} (may : MayAsk asked plan) (c
       let a = leads-alike may others (after_line second client step) both rest.last (sound-with second.history step.command (sound-with now.history line.command sound)) s.alike rest.leads in
       record {
         next = rest.next;
+        can = rest.can;
         answer = rest.answer ∙ s.answer;
         last = a.last;
         leads = (both, goes, a.leads);
@@ -191,18 +250,19 @@ module _ {asked : List ℕ → Bool} {plan : Lines} (may : MayAsk asked plan) (c
         alike = go-on-trans rest.alike a.alike;
       }
 
-  pub go-first : (bounds : Bounds) (others : Schedule) (now later : Standing) → next_line plan now client ≡ Some step → can_be_made now step ≡ true → IsSound (world_of now.history)
+  pub go-first : (bounds : Bounds) (others : Schedule) (now later : Standing) → next_line plan now client ≡ Some step → can_be_made now step ≡ true → LeadsForward (made_by now client) step → IsSound (world_of now.history)
       → AllGoBeside asked bounds plan client step.command now others → Leads plan now others later → MayGoFirst asked plan client step now others later
-  go-first bounds [] now later next can sound beside leads = subst (λ (s : Standing). MayGoFirst asked plan client step now [] s) leads (go-nowhere now next)
-  go-first bounds (other ∷ others) now later next can sound beside leads =
+  go-first bounds [] now later next can forward sound beside leads = subst (λ (s : Standing). MayGoFirst asked plan client step now [] s) leads (go-nowhere now next can)
+  go-first bounds (other ∷ others) now later next can forward sound beside leads =
       let l = line-made now other (next_line plan now other) leads.0 leads.1 in
       let one = beside.0 in
-      let passes = passes-made (world_of now.history) step.command step.waits patient can in
-      let passes' = passes-made (world_of now.history) l.line.command l.line.waits (one.patient l.line l.is) l.can in
+      let passes = passes-made (world_of now.history) step.command step.waits patient (accepted-made now step can) in
+      let passes' = passes-made (world_of now.history) l.line.command l.line.waits (one.patient l.line l.is) (accepted-made now l.line l.can) in
       let s = swapped asked plan now client step other l.line next l.is one.apart
       (commute asked bounds (world_of now.history) step.command l.line.command one.roomy one.within (one.independent l.line l.is) passes passes') in
-      let rest = go-first bounds others (after_line now other l.line) later s.next (ap (λ given. not (step.waits && is_refused given)) s.answer ∙ can)
-      (sound-with now.history l.line.command sound)
+      let kept = get_or-set_other now.made other client (place_after l.line (made_by now other) (answer_now now.history l.line.command)) 0 (apart-from client other one.apart) in
+      let rest = go-first bounds others (after_line now other l.line) later s.next (can-after now other l.line step (one.forward l.line l.is) s.answer can)
+      (subst (λ place. LeadsForward place step) (sym kept) forward) (sound-with now.history l.line.command sound)
       (subst (λ (n : Standing). AllGoBeside asked bounds plan client step.command n others) (after-is plan now other leads.0 leads.1 ∙ sym l.after) beside.1)
       (subst (λ (n : Standing). Leads plan n others later) (sym l.after) leads.2) in
-      go-before now other l.line others later one.apart l.can l.is sound s rest
+      go-before now other l.line others later one.apart l.can l.is forward sound s rest

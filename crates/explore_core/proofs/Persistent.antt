@@ -1,11 +1,12 @@
 -- While the chosen clients stand still, no other passes its limit, and no chosen client's line changes.
 use Rattle.std.proofs.Common.{◌≡◌, ℕ, ◌+◌, ◌<◌, ◌≤◌, Bool, true, false, not, ◌&&◌, suc, zero, refl, sym, ap, ◌∙◌, subst, List, [], ◌∷◌, ◌++◌, length, is_some, get_or, set, slice_get, Option, None, Some, option_map, unwrap_or, arith, if◌then◌else◌, inl, inr}
 use Rattle.std.specs.Prelude.{◌⊎◌, All, Contains, IfSome}
-use Rattle.std.proofs.lemmas.Bool.{cases_Bool, cases_lt, false≢true}
+use Rattle.std.specs.Option.{IsSomeAnd}
+use Rattle.std.proofs.lemmas.Bool.{cases_Bool, cases_lt, false≢true, le-ltb}
 use Rattle.std.proofs.lemmas.List.{get_or-set_other}
 use Rattle.std.proofs.lemmas.Bool.Decides.{eqb_tells}
 use Rattle.std.proofs.lemmas.List.Elements.{All-contains, All-head, All-tail}
-use Rattle.std.proofs.lemmas.Option.{same_Some}
+use Rattle.std.proofs.lemmas.Option.{IfSome_then, same_Some}
 use Rattle.point_core.specs.declared.refusal.Refusal.TheVariants.{NoEntry, TimedOut}
 use Rattle.point_core.specs.Agreement.{all_reached}
 use Rattle.point_core.specs.Clocks.{reached_by}
@@ -26,11 +27,13 @@ use Rattle.desk_core.specs.theorem.World.{World, MadeFile, after, file_named, ha
 use Rattle.desk_core.proofs.Keeping.{put_set-made}
 use Rattle.explore_core.specs.Branch.{Branching}
 use Rattle.explore_core.specs.Covering.{MayAsk}
+use Rattle.explore_core.specs.declared.plan.Milestone.{Milestone}
 use Rattle.explore_core.specs.declared.plan.Step.{Step}
 use Rattle.explore_core.specs.Independence.{AreIndependent, Bounds, IsNarrow, IsWithin}
 use Rattle.explore_core.specs.Moving.{AllGoBeside, IsPatient}
-use Rattle.explore_core.specs.Persistent.{Choice, ChosenStandStill, IsAhead, changes_file, changes_timeline, IsCalm, IsPendingFor, IsHeld, KeepsWithin, StopsOthers, IsFree}
-use Rattle.explore_core.specs.Schedule.{Lines, Standing, Schedule, answer_now, is_taken, lines_of, made_by, next_line, can_be_made, place_by, place_after, after_line, made_line, after_one, Leads}
+use Rattle.explore_core.specs.Persistent.{Choice, ChosenStandStill, IsAhead, changes_file, changes_timeline, IsCalm, IsPendingFor, IsHeld, IsHeldByFile, KeepsWithin, StaysAhead, StopsOthers, IsFree}
+use Rattle.explore_core.specs.Room.{LeadsForward}
+use Rattle.explore_core.specs.Schedule.{Lines, Standing, Schedule, answer_now, is_due, is_taken, lines_of, made_by, next_line, can_be_made, place_by, place_after, after_line, made_line, after_one, Leads}
 use Rattle.explore_core.proofs.Covering.{world-with}
 use Rattle.explore_core.proofs.Flowing.{within-with}
 use Rattle.explore_core.proofs.Leaving.{own, apart, turned, clock-raised, clock-shut, file-made, file-closed, has-same, context-same, names-after}
@@ -130,11 +133,22 @@ module _ (plan : Lines) (now : Standing) (choice : Choice) (sound : IsSound (wor
     wait-refused : (c : Command) (file : List ℕ) → c ≡ command.Wait file → is_signalled theirs file ≡ false → is_refused (answer_to theirs c) ≡ true
     wait-refused c file is isnt = ap (λ d. is_refused (answer_to theirs d)) is ∙ refused-by (has_file theirs.files file) (is_signalled theirs file) isnt
 
-    -- a held line can't be made
-    stays-held : (line : Step) → IsHeld plan now choice line → can_be_made at line ≡ false
-    stays-held line h =
+    stays-refused : (line : Step) → IsHeldByFile plan now choice line → not (line.waits && is_refused (answer_to theirs line.command)) ≡ false
+    stays-refused line h =
         ap (λ b. not (b && is_refused (answer_to theirs line.command))) h.waits
         ∙ ap not (wait-refused line.command h.file h.is (unsignalled-by h.file (s.files h.file h.kept) h.unsignalled))
+
+    stays-before : (o : Option Milestone) → IsSomeAnd o (StaysAhead now choice) → is_due at.made o ≡ false
+    stays-before None h = absurd h
+    stays-before (Some m) h = le-ltb m.place (made_by at m.client) (elim (cases_Bool (choice.chosen m.client)) [
+      | inl chosen ↦ (let still = s.still m.client chosen in let before = h.before in omega (arith, still, before))
+      | inr other ↦ (let within = s.within m.client other in let limited = h.limited other in omega (arith, within, limited))
+    ])
+
+    -- a held line can't be made
+    stays-held : (line : Step) → IsHeld plan now choice line → can_be_made at line ≡ false
+    stays-held line (inl h) = ap (λ b. b && not (line.waits && is_refused (answer_to theirs line.command))) (stays-before line.after h)
+    stays-held line (inr h) = and_false (is_due at.made line.after) (not (line.waits && is_refused (answer_to theirs line.command))) (stays-refused line h)
 
   module _ (stops : StopsOthers plan now choice) where
     -- the line of a client that is not chosen is ahead
@@ -218,7 +232,7 @@ module _ (plan : Lines) (now : Standing) (choice : Choice) (sound : IsSound (wor
 
     -- along it a free line is independent of each line
     go-beside : (asked : List ℕ → Bool) (bounds : Bounds) → IsCalm plan now → KeepsWithin bounds plan now choice → (others done : Schedule) (at later : Standing) → Leads plan now done at → Stays plan now choice at
-        → IsWithin bounds (world_of at.history) → All (λ k. choice.chosen k ≡ false) others → Leads plan at others later → (client : ℕ) (line : Step) → choice.chosen client ≡ true → IsFree asked bounds plan now choice line
+        → IsWithin bounds (world_of at.history) → All (λ k. choice.chosen k ≡ false) others → Leads plan at others later → (client : ℕ) (line : Step) → choice.chosen client ≡ true → IsFree asked bounds plan now choice client line
         → AllGoBeside asked bounds plan client line.command at others
     go-beside asked bounds calm kept [] done at later came s within unchosen leads client line chosen free = tt
     go-beside asked bounds calm kept (other ∷ others) done at later came s within unchosen leads client line chosen free =
@@ -236,6 +250,8 @@ module _ (plan : Lines) (now : Standing) (choice : Choice) (sound : IsSound (wor
             within = within;
             independent = λ given is. subst (λ (t : Step). AreIndependent asked bounds line.command t.command) (same given is) (free.independent other (made_by at other) l.line ahead);
             patient = λ given is. subst (λ (t : Step). IsPatient t.command t.waits) (same given is) (stops.patient other (made_by at other) l.line ahead);
+            forward = λ given is.
+                subst (LeadsForward (made_by at other)) (same given is) (IfSome_then l.line.branch (stops.forward other (made_by at other) l.line ahead) (λ b between. between.0));
           },
           subst (λ (n : Standing). AllGoBeside asked bounds plan client line.command n others) (sym (after-is plan at other leads.0 leads.1)) rest,
         )
@@ -263,7 +279,7 @@ stand-still {asked} {bounds} {plan} {now} {choice} may calm kept stops others la
     let sound = (calm [] now refl).sound in
     record {
       free = λ client line chosen is free.
-          go-first may client line free.patient bounds others now later is free.can sound
+          go-first may client line free.patient bounds others now later is free.can free.forward sound
           (go-beside plan now choice sound stops asked bounds calm kept others [] now later refl (stays-first plan now choice sound stops) kept.pending unchosen leads client line chosen free) leads;
       still = λ client chosen. (stay-along plan now choice sound stops others now later (stays-first plan now choice sound stops) unchosen leads).still client chosen;
       further = λ client isnt.

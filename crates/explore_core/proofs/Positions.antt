@@ -1,21 +1,32 @@
 -- A position after a client went.
 use Rattle.std.proofs.Common.{◌≡◌, ℕ, Bool, true, false, not, ◌&&◌, sym, ap, ◌∙◌, subst, List, [], ◌∷◌, ◌++◌, Option, None, Some, unwrap_or, if◌then◌else◌, get_or, set}
-use Rattle.std.proofs.lemmas.Bool.{and_parts}
+use Rattle.std.proofs.lemmas.Bool.{and_from, and_parts}
 use Rattle.command_core.specs.declared.answer.Answer.{Answer}
 use Rattle.desk_core.specs.theorem.Answer.{is_refused}
 use Rattle.desk_core.specs.theorem.Desk.{HasHistory}
 use Rattle.explore_core.specs.declared.plan.Step.{Step}
 use Rattle.explore_core.specs.declared.position.Position.{Position}
-use Rattle.explore_core.specs.Schedule.{Lines, Standing, answer_now, history_with, made_by, next_line, place_after, after_line, made_line, after_one}
+use Rattle.explore_core.specs.Schedule.{Lines, Standing, answer_now, history_with, is_due, made_by, next_line, place_after, after_line, made_line, after_one}
 use Rattle.explore_core.specs.Search.{Answers, IsMade, IsAt, standing_after}
 
-module _ (plan : Lines) (now : Standing) (client : ℕ) (step : Step) (given : Answer) (old new : Position) (at : IsAt old now) (next : next_line plan now client ≡ Some step) (made : IsMade old.desk step.command given new.desk) where
+-- a line that is not due
+
+pub none-due : (plan : Lines) (now : Standing) (client : ℕ) (step : Step) → next_line plan now client ≡ Some step → is_due now.made step.after ≡ false → after_one plan now client ≡ None
+none-due plan now client step next due =
+    ap (made_line now client) next
+    ∙ ap (λ (b : Bool). if b && not (step.waits && is_refused (answer_now now.history step.command)) then Some (after_line now client step) else None) due
+
+-- a line that is due
+
+module _ (plan : Lines) (now : Standing) (client : ℕ) (step : Step) (given : Answer) (old new : Position) (at : IsAt old now) (next : next_line plan now client ≡ Some step)
+    (due : is_due now.made step.after ≡ true) (made : IsMade old.desk step.command given new.desk) where
   given-is : given ≡ answer_now now.history step.command
   given-is = (made now.history at.desk).0
 
   after-by : (held : Bool) → (step.waits && is_refused given) ≡ held → after_one plan now client ≡ (if not held then Some (after_line now client step) else None)
   after-by held is =
       ap (made_line now client) next
+      ∙ ap (λ (b : Bool). if b && not (step.waits && is_refused (answer_now now.history step.command)) then Some (after_line now client step) else None) due
       ∙ ap (λ (b : Bool). if not b then Some (after_line now client step) else None) (ap (λ (g : Answer). step.waits && is_refused g) (sym given-is) ∙ is)
 
   pub none-held : (step.waits && is_refused given) ≡ true → after_one plan now client ≡ None
@@ -26,7 +37,8 @@ module _ (plan : Lines) (now : Standing) (client : ℕ) (step : Step) (given : A
     at = here;
     step = step;
     next = next;
-    made = ap not (ap (λ (g : Answer). step.waits && is_refused g) (sym given-is) ∙ free);
+    made = and_from (is_due now.made step.after) (not (step.waits && is_refused (answer_now now.history step.command))) due
+        (ap not (ap (λ (g : Answer). step.waits && is_refused g) (sym given-is) ∙ free));
     answer = given-is;
   }
 

@@ -65,7 +65,7 @@ pub record IsStopped (bounds : Bounds) (plan : Lines) (now : Standing) (choice :
 -- the client is done, or its line is free to go or held
 abbrev pub IsFreeOrHeld : (List ℕ → Bool) → Bounds → Lines → Standing → Choice → ℕ → Type 0
 IsFreeOrHeld asked bounds plan now choice client = (line : Step) → next_line plan now client ≡ Some line →
-    IsFree asked bounds plan now choice line ⊎ IsHeld plan now choice line
+    IsFree asked bounds plan now choice client line ⊎ IsHeld plan now choice line
 
 -- what a persistent choice asks of each client
 pub record IsSettled (asked : List ℕ → Bool) (bounds : Bounds) (plan : Lines) (now : Standing) (choice : Choice)
@@ -76,7 +76,7 @@ pub record IsSettled (asked : List ℕ → Bool) (bounds : Bounds) (plan : Lines
 -- one of the chosen clients is free to go, and leaves no race
 abbrev pub OneGoes : (List ℕ → Bool) → Bounds → Lines → Standing → Choice → Type 0
 OneGoes asked bounds plan now choice = (client : ℕ) × (choice.chosen client ≡ true) × (line : Step)
-    × (next_line plan now client ≡ Some line) × IsFree asked bounds plan now choice line
+    × (next_line plan now client ≡ Some line) × IsFree asked bounds plan now choice client line
     × (leaves_no_race plan.accesses choice client now.made line ≡ true)
 
 -- The point is of a timeline that has not reached it, and no line ahead changes that timeline.

@@ -1,6 +1,7 @@
 -- Clients whose next lines may be made before the lines of all others.
 use Rattle.std.specs.Prelude.{◌≡◌, ◌⊎◌, ℕ, ◌<◌, ◌≤◌, ◌==◌, nat_lt, Bool, true, false, not, ◌&&◌, ◌||◌, List, get_or, Option, None, Some, IfSome, Contains, slice_get}
 use Rattle.std.specs.List.{list_all}
+use Rattle.std.specs.Option.{IsSomeAnd}
 use Rattle.point_core.specs.declared.entry.Entry.{Entry}
 use Rattle.point_core.specs.Named.{same_name}
 use Rattle.point_core.specs.Reach.{value_at}
@@ -12,10 +13,12 @@ use Rattle.desk_core.specs.theorem.World.{has_file, put_set}
 use Rattle.explore_core.specs.Access.{conflict, holds, is_inside}
 use Rattle.explore_core.specs.Branch.{Branching}
 use Rattle.explore_core.specs.declared.access.Access.{Access}
+use Rattle.explore_core.specs.declared.plan.Milestone.{Milestone}
 use Rattle.explore_core.specs.declared.plan.Step.{Step}
 use Rattle.explore_core.specs.Flow.{RespectsBounds}
 use Rattle.explore_core.specs.Independence.{AreIndependent, Bounds, IsNarrow, IsRoomy, IsWithin}
 use Rattle.explore_core.specs.Moving.{IsPatient, MayGoFirst}
+use Rattle.explore_core.specs.Room.{LeadsForward}
 use Rattle.explore_core.specs.Schedule.{Lines, Standing, Schedule, lines_of, made_by, next_line, can_be_made, after_one, Leads}
 
 -- Some clients are chosen to go next. While they stand still, no other comes further than its limit.
@@ -56,13 +59,22 @@ pub record IsPendingFor (plan : Lines) (now : Standing) (choice : Choice) (file 
       changes_timeline line.command timeline ≡ false
 
 -- The client waits for a file that is missing or pending, and stays so.
-pub record IsHeld (plan : Lines) (now : Standing) (choice : Choice) (line : Step) : Type 0 where
+pub record IsHeldByFile (plan : Lines) (now : Standing) (choice : Choice) (line : Step) : Type 0 where
   pub waits : line.waits ≡ true
   pub file : List ℕ
   pub is : line.command ≡ command.Wait file
   pub kept : (client place : ℕ) (ahead : Step) → IsAhead plan now choice client place ahead →
       changes_file ahead.command file ≡ false
   pub unsignalled : (has_file (world_of now.history).files file ≡ false) ⊎ IsPendingFor plan now choice file
+
+-- the milestone is not passed while the chosen clients stand still
+pub record StaysAhead (now : Standing) (choice : Choice) (milestone : Milestone) : Type 0 where
+  pub before : made_by now milestone.client ≤ milestone.place
+  pub limited : choice.chosen milestone.client ≡ false → choice.limit milestone.client ≤ milestone.place
+
+-- the line can't be made while the chosen clients stand still: it comes after such a milestone, or waits for such a file
+abbrev pub IsHeld : Lines → Standing → Choice → Step → Type 0
+IsHeld plan now choice line = IsSomeAnd line.after (StaysAhead now choice) ⊎ IsHeldByFile plan now choice line
 
 -- what is pending is within the bounds, and each line ahead respects them
 pub record KeepsWithin (bounds : Bounds) (plan : Lines) (now : Standing) (choice : Choice) : Type 0 where
@@ -79,11 +91,12 @@ pub record StopsOthers (plan : Lines) (now : Standing) (choice : Choice) : Type 
   pub narrow : (client place : ℕ) (line : Step) → IsAhead plan now choice client place line → IsNarrow line.command
   pub patient : (client place : ℕ) (line : Step) → IsAhead plan now choice client place line → IsPatient line.command line.waits
 
--- the line can be made, and is independent of all lines ahead
+-- the client's line can be made, leads forward, and is independent of all lines ahead
 pub record IsFree (asked : List ℕ → Bool) (bounds : Bounds) (plan : Lines) (now : Standing) (choice : Choice)
-    (line : Step) : Type 0 where
+    (client : ℕ) (line : Step) : Type 0 where
   pub can : can_be_made now line ≡ true
   pub patient : IsPatient line.command line.waits
+  pub forward : LeadsForward (made_by now client) line
   pub independent : (client place : ℕ) (ahead : Step) → IsAhead plan now choice client place ahead →
       AreIndependent asked bounds line.command ahead.command
 
@@ -116,9 +129,9 @@ pub record IsPersistent (asked : List ℕ → Bool) (bounds : Bounds) (plan : Li
   pub bounded : KeepsWithin bounds plan now choice
   pub stops : StopsOthers plan now choice
   pub chosen : (client : ℕ) (line : Step) → choice.chosen client ≡ true → next_line plan now client ≡ Some line →
-      IsFree asked bounds plan now choice line ⊎ IsHeld plan now choice line
+      IsFree asked bounds plan now choice client line ⊎ IsHeld plan now choice line
   pub goes : (client : ℕ) × (choice.chosen client ≡ true) × (line : Step) × (next_line plan now client ≡ Some line)
-      × IsFree asked bounds plan now choice line × (leaves_no_race plan.accesses choice client now.made line ≡ true)
+      × IsFree asked bounds plan now choice client line × (leaves_no_race plan.accesses choice client now.made line ≡ true)
 
 -- along every schedule from here, each world has room
 abbrev pub IsCalm : Lines → Standing → Type 0
@@ -129,7 +142,7 @@ IsCalm plan now = (schedule : Schedule) (later : Standing) → Leads plan now sc
 pub record ChosenStandStill (asked : List ℕ → Bool) (bounds : Bounds) (plan : Lines) (now : Standing) (choice : Choice)
     (others : Schedule) (later : Standing) : Type 0 where
   pub free : (client : ℕ) (line : Step) → choice.chosen client ≡ true → next_line plan now client ≡ Some line →
-      IsFree asked bounds plan now choice line → MayGoFirst asked plan client line now others later
+      IsFree asked bounds plan now choice client line → MayGoFirst asked plan client line now others later
   pub still : (client : ℕ) → choice.chosen client ≡ true → made_by later client ≡ made_by now client
   pub further : (client : ℕ) → choice.chosen client ≡ false →
       (made_by now client ≤ made_by later client) × (made_by later client ≤ choice.limit client)

@@ -1,11 +1,12 @@
 -- The schedules of a plan.
-use Rattle.std.specs.Prelude.{◌≡◌, ℕ, ◌+◌, Bool, true, not, ◌&&◌, if◌then◌else◌, List, [], ◌∷◌, length, replicate, get_or, set, slice_get, take, unwrap_or, Option, None, Some, IsSome}
+use Rattle.std.specs.Prelude.{◌≡◌, ℕ, ◌+◌, nat_lt, Bool, true, not, ◌&&◌, if◌then◌else◌, List, [], ◌∷◌, length, replicate, get_or, set, slice_get, take, unwrap_or, Option, None, Some, IsSome}
 use Rattle.std.specs.Str.{bytes_eq}
 use Rattle.command_core.specs.declared.command.Command.{Command}
 use Rattle.command_core.specs.declared.answer.Answer.{Answer}
 use Rattle.report_core.specs.Answer.{first_line_of}
 use Rattle.explore_core.specs.Branch.{Branching}
 use Rattle.explore_core.specs.declared.access.Access.{Access}
+use Rattle.explore_core.specs.declared.plan.Milestone.{Milestone}
 use Rattle.explore_core.specs.declared.plan.Step.{Step}
 use Rattle.desk_core.specs.theorem.Answer.{answer_to, is_refused}
 use Rattle.desk_core.specs.theorem.History.{world_of, history_after}
@@ -49,9 +50,18 @@ made_by now client = get_or now.made client 0
 abbrev pub next_line : Lines → Standing → ℕ → Option Step
 next_line plan now client = slice_get (lines_of plan client) (made_by now client)
 
--- a line that waits can be made once it would be accepted, any other at any time
+-- the milestone's client has made or skipped the line there
+abbrev pub is_past : List ℕ → Milestone → Bool
+is_past made milestone = nat_lt milestone.place (get_or made milestone.client 0)
+
+-- a line that comes after a milestone is due once the milestone is passed, any other at any time
+abbrev pub is_due : List ℕ → Option Milestone → Bool
+is_due made None = true
+is_due made (Some milestone) = is_past made milestone
+
+-- a line can be made once it is due, and a line that waits only if it would be accepted
 abbrev pub can_be_made : Standing → Step → Bool
-can_be_made now step = not (step.waits && is_refused (answer_now now.history step.command))
+can_be_made now step = is_due now.made step.after && not (step.waits && is_refused (answer_now now.history step.command))
 
 -- The client makes the lines of the branch: its line is the first of the answer's text. The text of a command's answer shows no number
 -- of a line, so any number will do.

@@ -12,8 +12,8 @@ ghost use Rattle.explore_core.specs.declared.plan.Step.{Step};
 ghost use Rattle.explore_core.specs.Moving.{IsPatient, AllGoBeside, MayGoFirst};
 ghost use Rattle.explore_core.specs.Found.{CanBeExplored};
 ghost use Rattle.explore_core.specs.Persistent.{Choice, ChosenStandStill, IsCalm, KeepsWithin, StopsOthers};
-ghost use Rattle.explore_core.specs.Room.{HasRoom};
-ghost use Rattle.explore_core.specs.Schedule.{Lines, Standing, Schedule, Leads, beginning, can_be_made, next_line};
+ghost use Rattle.explore_core.specs.Room.{HasRoom, LeadsForward};
+ghost use Rattle.explore_core.specs.Schedule.{Lines, Standing, Schedule, Leads, beginning, can_be_made, made_by, next_line};
 ghost use Rattle.explore_core.specs.Covering.{MayAsk};
 ghost use Rattle.explore_core.specs.Alike.{AsksOnly, AreAlike, after_answer, answers_along};
 ghost use Rattle.explore_core.specs.Independence.{AreIndependent, Bounds, Commute, IsRoomy, IsWithin, Passes};
@@ -52,7 +52,7 @@ pub fn an_independent_line_may_go_first()
     ensures { (asked : List ℕ → Bool) (bounds : Bounds) (plan : Lines) (client : ℕ) (step : Step) (others : Schedule)
         (now later : Standing) →
         MayAsk asked plan → IsSound (world_of now.history) → IsPatient step.command step.waits →
-        next_line plan now client ≡ Some step → can_be_made now step ≡ true →
+        next_line plan now client ≡ Some step → can_be_made now step ≡ true → LeadsForward (made_by now client) step →
         AllGoBeside asked bounds plan client step.command now others → Leads plan now others later →
         MayGoFirst asked plan client step now others later }
 {}

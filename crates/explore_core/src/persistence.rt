@@ -1,7 +1,8 @@
 //! Whether a choice of clients is persistent at a standing: whatever the other clients do before a chosen one goes, each chosen client
 //! that is free to go might have gone first. The search lets only chosen clients go where this says so, and all clients elsewhere.
-ghost use Rattle.std.specs.Prelude.{◌≡◌, ◌⊎◌, ◌<◌, ◌≤◌, ℕ, true, false, List, Contains, Some, IfSome, slice_get};
+ghost use Rattle.std.specs.Prelude.{◌≡◌, ◌⊎◌, ◌&&◌, ◌<◌, ◌≤◌, ℕ, true, false, not, List, Contains, Some, IfSome, slice_get};
 ghost use Rattle.std.specs.List.{list_all};
+ghost use Rattle.std.specs.Option.{IsSomeAnd};
 ghost use Rattle.point_core.specs.declared.entry.Point.{Point as Seen};
 ghost use Rattle.point_core.specs.Reach.{is_reached};
 ghost use Rattle.timeline_core.specs.Timeline.{reach_of};
@@ -14,7 +15,7 @@ ghost use Rattle.explore_core.specs.declared.plan.Step.{Step as Line};
 ghost use Rattle.explore_core.specs.Choice.{choice_of, AllLeave, ClientLeaves, IsFreeOrHeld, IsOrderly, IsOrderlyAt, IsSettled, IsStopped, Leaves, LeavesAt, OneGoes, StaysPending};
 ghost use Rattle.explore_core.specs.Flow.{bounds_of};
 ghost use Rattle.explore_core.specs.Moving.{IsPatient};
-ghost use Rattle.explore_core.specs.Persistent.{IsAhead, IsFree, IsHeld, IsPendingFor, IsPersistent, changes_file, changes_timeline};
+ghost use Rattle.explore_core.specs.Persistent.{IsAhead, IsFree, IsHeld, IsHeldByFile, IsPendingFor, IsPersistent, StaysAhead, changes_file, changes_timeline};
 ghost use Rattle.explore_core.specs.Schedule.{Standing, answer_now, can_be_made, lines_of};
 ghost use Rattle.explore_core.specs.Search.{AreAsked, IsAt, has_name, is_asked};
 
@@ -23,9 +24,10 @@ use crate::choice::Choice;
 use crate::flow::Flow;
 use crate::independence::{are_independent, is_narrow};
 use crate::look::is_name;
-use crate::plan::{Plan, Step};
+use crate::plan::{Milestone, Plan, Step};
 use crate::position::{Position, line_at};
 use crate::progress::place_of;
+use crate::room::leads_forward;
 use command_core::Command;
 use desk_core::Desk;
 use point_core::{Name, Point};
@@ -102,7 +104,8 @@ fn is_free_or_held(
     let Some(line) = line_at(plan, client, place) else {
         return true;
     };
-    is_held(plan, asked, position, choice, line) || is_free(plan, asked, position, choice, line)
+    is_held(plan, asked, position, choice, line)
+        || is_free(plan, asked, position, choice, client, line)
 }
 
 /// Whether one of the chosen clients is free to go, and leaves no race.
@@ -129,7 +132,7 @@ fn goes(plan: &Plan, asked: &[Name], position: &Position, choice: &Choice, clien
     let Some(line) = line_at(plan, client, place) else {
         return false;
     };
-    is_free(plan, asked, position, choice, line)
+    is_free(plan, asked, position, choice, client, line)
         && leaves_no_race(
             plan.accesses.as_slice(),
             choice,
@@ -139,24 +142,39 @@ fn goes(plan: &Plan, asked: &[Name], position: &Position, choice: &Choice, clien
         )
 }
 
-/// Whether the line can be made, and is independent of all lines that may be made before it.
-fn is_free(plan: &Plan, asked: &[Name], position: &Position, choice: &Choice, line: &Step) -> bool
+/// Whether the client's line can be made, leads forward, and is independent of all lines that may be made before it.
+fn is_free(
+    plan: &Plan,
+    asked: &[Name],
+    position: &Position,
+    choice: &Choice,
+    client: usize,
+    line: &Step,
+) -> bool
     ensures { result ≡ true → (now : Standing) → IsAt position.now now →
-        IsFree (has_name asked.now) (bounds_of choice.now.flow) plan.now now (choice_of choice.now) line.now }
+        IsFree (has_name asked.now) (bounds_of choice.now.flow) plan.now now (choice_of choice.now) client line.now }
 {
-    can_go(&position.desk, line)
-        && all_leave(
-            plan,
-            asked,
-            position.made.as_slice(),
-            choice,
-            &Matter::Line(line.command),
-        )
+    if !can_go(position, line) {
+        return false;
+    }
+    let made = position.made.as_slice();
+    leads_forward(line, place_of(made, client))
+        && all_leave(plan, asked, made, choice, &Matter::Line(line.command))
 }
 
-/// Whether the line can be made. Says no where a client waits with another command than `wait`, since only the command itself tells.
-pub(crate) fn can_go(desk: &Desk, line: &Step) -> bool
-    ensures can { result ≡ true → (now : Standing) → HasHistory desk.now now.history → can_be_made now line.now ≡ true }
+/// Whether the line can be made. Says no where `passes` does.
+pub(crate) fn can_go(position: &Position, line: &Step) -> bool
+    ensures can { result ≡ true → (now : Standing) → IsAt position.now now → can_be_made now line.now ≡ true }
+    ensures patient { result ≡ true → IsPatient line.now.command line.now.waits }
+{
+    line.is_due(position.made.as_slice()) && passes(&position.desk, line)
+}
+
+/// Whether the line is made at once, or would be accepted. Says no where a client waits with another command than `wait`, since only
+/// the command itself tells.
+fn passes(desk: &Desk, line: &Step) -> bool
+    ensures can { result ≡ true → (history : List Made) → HasHistory desk.now history →
+        not (line.now.waits && is_refused (answer_now history line.now.command)) ≡ true }
     ensures patient { result ≡ true → IsPatient line.now.command line.now.waits }
 {
     match &line.command {
@@ -165,7 +183,7 @@ pub(crate) fn can_go(desk: &Desk, line: &Step) -> bool
     }
 }
 
-/// Whether the line is a `wait` that waits for a file that is missing or pending, and stays so before a chosen client goes.
+/// Whether the line can't be made before a chosen client goes.
 pub(crate) fn is_held(
     plan: &Plan,
     asked: &[Name],
@@ -175,6 +193,43 @@ pub(crate) fn is_held(
 ) -> bool
     ensures { result ≡ true → (now : Standing) → IsAt position.now now →
         IsHeld plan.now now (choice_of choice.now) line.now }
+{
+    is_held_by_place(position.made.as_slice(), choice, line)
+        || is_held_by_file(plan, asked, position, choice, line)
+}
+
+/// Whether the line comes after a milestone that is not passed before a chosen client goes.
+pub(crate) fn is_held_by_place(made: &[usize], choice: &Choice, line: &Step) -> bool
+    ensures { result ≡ true → (now : Standing) → made.now ≡ now.made →
+        IsSomeAnd line.now.after (StaysAhead now (choice_of choice.now)) }
+{
+    match &line.after {
+        Some(milestone) => stays_ahead(made, choice, milestone),
+        None => false,
+    }
+}
+
+/// Whether the milestone is not passed before a chosen client goes: its client is chosen, or stops above it or at it.
+fn stays_ahead(made: &[usize], choice: &Choice, milestone: &Milestone) -> bool
+    ensures { result ≡ true → (now : Standing) → made.now ≡ now.made →
+        StaysAhead now (choice_of choice.now) milestone.now }
+{
+    if milestone.is_past(made) {
+        return false;
+    }
+    choice.is_chosen(milestone.client) || choice.limit(milestone.client) <= milestone.place
+}
+
+/// Whether the line is a `wait` that waits for a file that is missing or pending, and stays so before a chosen client goes.
+fn is_held_by_file(
+    plan: &Plan,
+    asked: &[Name],
+    position: &Position,
+    choice: &Choice,
+    line: &Step,
+) -> bool
+    ensures { result ≡ true → (now : Standing) → IsAt position.now now →
+        IsHeldByFile plan.now now (choice_of choice.now) line.now }
 {
     let Command::Wait(file) = line.command else {
         return false;
@@ -274,7 +329,7 @@ pub(crate) fn is_reached(desk: &Desk, point: &Point) -> bool
     desk.point_status(*point).is_signalled()
 }
 
-/// Whether the client, which is not chosen, is stopped by its limit before a chosen one goes: there it waits, or is done.
+/// Whether the client, which is not chosen, is stopped by its limit before a chosen one goes: there it is held, or is done.
 fn is_stopped(
     plan: &Plan,
     asked: &[Name],
@@ -294,7 +349,7 @@ fn is_stopped(
         && waits_at(plan, asked, position, choice, client, limit)
 }
 
-/// Whether the client is done at this place, or waits there and stays held.
+/// Whether the client is done at this place, or held there.
 fn waits_at(
     plan: &Plan,
     asked: &[Name],

@@ -1,13 +1,15 @@
 //! `Plan`: the lines of each client, and the commands before and after them. Some lines are in a branch, which the client makes only
-//! after one answer to the line above it. `explore_report` makes a plan from a script, and `explore` decides it.
+//! after one answer to the line above it, and some come after a line of another client. `explore_report` makes a plan from a script, and
+//! `explore` decides it.
 ghost use Rattle.std.specs.Prelude.{◌≡◌, ◌+◌, Vec, IfOk, OnOk, slice_get};
 ghost use Rattle.std.specs.Global.{Global};
 ghost use Rattle.std.specs.List.{list_any};
 ghost use Rattle.explore_core.specs.declared.plan.Step.{Step as Line};
-ghost use Rattle.explore_core.specs.Schedule.{is_taken, place_after};
+ghost use Rattle.explore_core.specs.Schedule.{is_due, is_past, is_taken, place_after};
 ghost use Rattle.explore_core.specs.Search.{asked_file, asks_for, client_asks, AreAsked, Adds};
 
 use crate::access::Access;
+use crate::progress::place_of;
 use command_core::{Answer, Command};
 use point_core::Name;
 use report_core::first_line;
@@ -18,12 +20,11 @@ use std::marker::Model;
 #[derive(Drop)]
 pub struct Step {
     pub command: Command,
-    /// Whether the client waits with the line until it would be accepted. Any other line is made at once, whatever its
-    /// answer is.
+    /// Whether the client waits with the line until it would be accepted. Any other line is made whatever its answer is.
     pub waits: bool,
     /// The branch that begins directly below the line.
     pub branch: Option<Branch>,
-    /// The line of another client that comes before: the client makes this line only once the other is past that one.
+    /// The client doesn't make the line before this is passed.
     pub after: Option<Milestone>,
     /// Whether the line is one step with the client's line above it: no other client goes between them.
     pub joined: bool,
@@ -33,10 +34,11 @@ pub struct Step {
     pub turn: usize,
 }
 
-/// A line of a client: others may have to let it pass.
+/// A line of a client. It is passed once the client has made it, or has skipped it with the branch that it is in.
 #[derive(Clone, Copy)]
 pub struct Milestone {
     pub client: usize,
+    /// The place of the line among the client's lines.
     pub place: usize,
 }
 
@@ -104,6 +106,16 @@ impl Model for Plan {
 }
 
 impl Step {
+    /// Whether the line comes after no milestone, or after a passed one, where each client has made or skipped that many lines.
+    pub(crate) fn is_due(&self, made: &[usize]) -> bool
+        ensures { result ≡ is_due made.now self.now.after }
+    {
+        match &self.after {
+            Some(milestone) => milestone.is_past(made),
+            None => true,
+        }
+    }
+
     /// The place of the client's next line, once this line, at that place, has got that answer.
     ///
     /// Fails only at the greatest place, which no line has.
@@ -117,6 +129,15 @@ impl Step {
             return Ok(branch.otherwise);
         }
         next_place(place)
+    }
+}
+
+impl Milestone {
+    /// Whether it is passed where each client has made or skipped that many lines.
+    pub(crate) fn is_past(&self, made: &[usize]) -> bool
+        ensures { result ≡ is_past made.now self.now }
+    {
+        self.place < place_of(made, self.client)
     }
 }
 

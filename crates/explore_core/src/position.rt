@@ -66,7 +66,8 @@ impl Position {
         Ok(())
     }
 
-    /// The client makes its line at this place, and gets this answer, unless it has to wait with the line.
+    /// The client makes its line at this place, and gets this answer, unless it has to wait with the line. A line that is not due is not
+    /// tried on the desk.
     pub(crate) fn go(
         &mut self,
         client: usize,
@@ -76,6 +77,9 @@ impl Position {
         ensures made { IfOk result (λ made. (plan : Lines) (now : Standing) → IsAt self.old now →
             made_by now client ≡ place → next_line plan now client ≡ Some step.now → IsTurn plan now client place made self.new) }
     {
+        if !step.is_due(self.made.as_slice()) {
+            return Ok(None);
+        }
         let answer = make(&mut self.desk, step.command)?;
         if is_held(step, &answer) {
             drop(answer);

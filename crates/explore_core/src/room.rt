@@ -51,7 +51,7 @@ fn lines_lead_forward(lines: &[Step]) -> bool
 }
 
 /// Whether a client goes from the line at that place to a line below.
-fn leads_forward(line: &Step, place: usize) -> bool
+pub(crate) fn leads_forward(line: &Step, place: usize) -> bool
     ensures { result ≡ true → LeadsForward place line.now }
 {
     match &line.branch {

@@ -210,7 +210,7 @@ impl Trial {
         let Command::Wait(file) = &line.command else {
             return self.add_all(plan, asked, position, &Matter::Line(line.command));
         };
-        if can_go(&position.desk, line) {
+        if can_go(position, line) {
             return self.add_all(plan, asked, position, &Matter::Line(line.command));
         }
         let has_added = self.add_all(plan, asked, position, &Matter::File(*file));
@@ -315,7 +315,7 @@ fn can_client_go(plan: &Plan, position: &Position, client: usize) -> bool {
     let Some(line) = next_line(plan, position, client) else {
         return false;
     };
-    can_go(&position.desk, line)
+    can_go(position, line)
 }
 
 /// The timeline of the point, if the point is pending.
