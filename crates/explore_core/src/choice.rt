@@ -13,7 +13,7 @@ use std::alloc::{AllocError, Global};
 pub(crate) struct Choice {
     /// Whether each client is chosen.
     pub(crate) chosen: Vec<bool>,
-    /// For each client, the place of the line that stops it while the chosen clients stand still: a `wait`, or the end.
+    /// For each client, the place of the line that stops it while the chosen clients stand still: one with which it waits, or the end.
     pub(crate) limits: Vec<usize>,
     /// What may be pending while the chosen clients stand still.
     pub(crate) flow: Flow,

@@ -5,7 +5,7 @@ use crate::access::Access;
 use crate::choice::Choice;
 use crate::flow::Flow;
 use crate::look::has_name;
-use crate::persistence::{Matter, can_go, client_leaves, is_held, is_reached};
+use crate::persistence::{Matter, can_go, client_leaves, is_held, is_held_by_place, is_reached};
 use crate::plan::{Plan, Step};
 use crate::position::{Position, line_at};
 use crate::progress::place_of;
@@ -95,7 +95,7 @@ impl Trial {
         self.timelines.clear();
         self.choice.stop_all(position.made.as_slice())?;
         for _ in 0..usize::MAX {
-            if !self.move_each(plan, &position.desk)? {
+            if !self.move_each(plan, position)? {
                 return Ok(());
             }
         }
@@ -103,17 +103,22 @@ impl Trial {
     }
 
     /// Moves each limit on, as far as what others may change allows so far. Returns whether one has moved.
-    fn move_each(&mut self, plan: &Plan, desk: &Desk) -> Result<bool, AllocError> {
+    fn move_each(&mut self, plan: &Plan, position: &Position) -> Result<bool, AllocError> {
         let mut has_moved = false;
         for client in 0..plan.clients.len() {
-            if !self.choice.is_chosen(client) && self.move_limit(plan, desk, client)? {
+            if !self.choice.is_chosen(client) && self.move_limit(plan, position, client)? {
                 has_moved = true;
             }
         }
         Ok(has_moved)
     }
 
-    fn move_limit(&mut self, plan: &Plan, desk: &Desk, client: usize) -> Result<bool, AllocError> {
+    fn move_limit(
+        &mut self,
+        plan: &Plan,
+        position: &Position,
+        client: usize,
+    ) -> Result<bool, AllocError> {
         let from = self.choice.limit(client);
         let mut limit = from;
         let Some(lines) = plan.clients.get(client) else {
@@ -122,7 +127,7 @@ impl Trial {
         for place in from..lines.len() {
             let line = &lines[place];
             // A client may skip a branch, and a `wait` in it.
-            if place >= limit && self.stops(desk, line) {
+            if place >= limit && self.stops(position, line) {
                 break;
             }
             self.pass(&line.command)?;
@@ -133,7 +138,12 @@ impl Trial {
     }
 
     /// Whether a client waits with the line for as long as the chosen ones stand still.
-    fn stops(&self, desk: &Desk, line: &Step) -> bool {
+    fn stops(&self, position: &Position, line: &Step) -> bool {
+        is_held_by_place(position.made.as_slice(), &self.choice, line)
+            || self.stops_for_file(&position.desk, line)
+    }
+
+    fn stops_for_file(&self, desk: &Desk, line: &Step) -> bool {
         let Command::Wait(file) = &line.command else {
             return false;
         };
@@ -193,7 +203,7 @@ impl Trial {
         has_added
     }
 
-    /// Chooses the clients that may disturb this one: change what its line does, or free it where it waits.
+    /// Chooses the clients that may disturb this one: change what its line does, or let it go where it waits.
     fn add_disturbing_of(
         &mut self,
         plan: &Plan,
@@ -207,6 +217,9 @@ impl Trial {
         if is_held(plan, asked, position, &self.choice, line) {
             return false;
         }
+        if !line.is_due(position.made.as_slice()) {
+            return self.add_awaited(line);
+        }
         let Command::Wait(file) = &line.command else {
             return self.add_all(plan, asked, position, &Matter::Line(line.command));
         };
@@ -218,6 +231,15 @@ impl Trial {
             return has_added;
         };
         self.add_all(plan, asked, position, &Matter::Timeline(timeline)) || has_added
+    }
+
+    /// Chooses the client that may pass the milestone for which the line waits.
+    fn add_awaited(&mut self, line: &Step) -> bool {
+        let Some(milestone) = &line.after else {
+            return false;
+        };
+        self.choice.choose(milestone.client);
+        true
     }
 
     /// Chooses the clients whose races are missed if this one ends an access before they go. Returns whether there are any.
