@@ -46,8 +46,8 @@ pub fn independent_commands_commute()
         IsRoomy w → IsWithin bounds w → AreIndependent asked bounds c d → Passes w c → Passes w d → Commute asked w c d }
 {}
 
-/// A line that can be made, and is independent of the lines that other clients make along a schedule, may be made before them: each
-/// line is answered as it was, and the standings at the end are alike.
+/// A line that can be made, and is independent of the lines that other clients make along a schedule, may be made before them, if no
+/// client goes back by one of these lines: each line is answered as it was, and the standings at the end are alike.
 pub fn an_independent_line_may_go_first()
     ensures { (asked : List ℕ → Bool) (bounds : Bounds) (plan : Lines) (client : ℕ) (step : Step) (others : Schedule)
         (now later : Standing) →
