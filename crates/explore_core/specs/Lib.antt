@@ -4,6 +4,7 @@ pub mod Branch
 pub mod Choice
 pub mod Choosing
 pub mod Covering
+pub mod Expects
 pub mod Flow
 pub mod Found
 pub mod Independence
@@ -11,6 +12,7 @@ pub mod Levels
 pub mod Looks
 pub mod Moving
 pub mod Persistent
+pub mod Right
 pub mod Room
 pub mod Schedule
 pub mod Search

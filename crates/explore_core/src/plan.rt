@@ -9,6 +9,7 @@ ghost use Rattle.explore_core.specs.Schedule.{is_due, is_past, is_taken, place_a
 ghost use Rattle.explore_core.specs.Search.{asked_file, asks_for, client_asks, AreAsked, Adds};
 
 use crate::access::Access;
+use crate::expects::Expects;
 use crate::progress::place_of;
 use command_core::{Answer, Command};
 use point_core::Name;
@@ -28,7 +29,7 @@ pub struct Step {
     pub after: Option<Milestone>,
     /// Whether the line is one step with the client's line above it: no other client goes between them.
     pub joined: bool,
-    /// After which answers a schedule goes on.
+    /// Which answers are expected of the line: a schedule ends at any other.
     pub expects: Expects,
     /// The line's place in the order that shown schedules keep near to, such as that of a recorded run.
     pub turn: usize,
@@ -40,26 +41,6 @@ pub struct Milestone {
     pub client: usize,
     /// The place of the line among the client's lines.
     pub place: usize,
-}
-
-/// After which answers of a line a schedule goes on. It ends at any other.
-#[derive(Drop)]
-pub enum Expects {
-    /// After any answer.
-    Any,
-    /// After any but a refusal.
-    Accepted,
-    /// After one of these.
-    Texts(Vec<RightAnswer>),
-}
-
-/// An answer that is expected of a line.
-#[derive(Drop)]
-pub struct RightAnswer {
-    /// The text, each line with its line feed.
-    pub text: Vec<u8>,
-    /// Whether the text is only the first line of the answer.
-    pub begins: bool,
 }
 
 /// Lines below a line, which the client makes only if that line got one answer, and else skips.
