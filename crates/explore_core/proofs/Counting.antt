@@ -4,7 +4,7 @@ use Rattle.std.specs.Prelude.{All, SomeIff, Vec}
 use Rattle.std.specs.Global.{Global}
 use Rattle.std.specs.List.{AllPairs}
 use Rattle.std.proofs.lemmas.List.{length-map, get_or-map}
-use Rattle.std.proofs.lemmas.List.Elements.{All-nil, All-cons, All-head, All-tail, All-append, All-weaker, All-contains, All-contains_itself, Contains-append_left, Contains-append_right}
+use Rattle.std.proofs.lemmas.List.Elements.{All-nil, All-cons, All-head, All-tail, All-append, All-contains, Contains-append_left, Contains-append_right}
 use Rattle.std.proofs.lemmas.Option.{same_Some, none-some}
 use Rattle.command_core.specs.declared.answer.Answer.{Answer}
 use Rattle.desk_core.specs.Sound.{IsSound}
@@ -14,17 +14,18 @@ use Rattle.explore_core.specs.declared.state.State.{State}
 use Rattle.explore_core.specs.Access.{RaceAt}
 use Rattle.explore_core.specs.Covering.{GoOnAlike, HasAlike, MayAsk}
 use Rattle.explore_core.specs.Found.{CanBeExplored, IsAll, IsOther, IsOtherRace, IsReachable, Suffice, stuck_of}
-use Rattle.explore_core.specs.Levels.{FollowsAll, IsComplete, IsCovered, IsKnown, IsKnownOr, IsFinished, IsVisited, LeadsOn}
-use Rattle.explore_core.specs.Moving.{LineAnswer, answer_of, answers_of}
-use Rattle.explore_core.specs.Schedule.{Lines, Standing, Schedule, after_line, answer_now, beginning, next_line, ComesTo, IsAnswered, IsLast, Leads}
+use Rattle.explore_core.specs.Levels.{FollowsAll, Gives, IsComplete, IsCovered, IsKnown, IsFinished, IsVisited, LeadsOn}
+use Rattle.explore_core.specs.Moving.{LineAnswer}
+use Rattle.explore_core.specs.Schedule.{Lines, Standing, Schedule, beginning, next_line, ComesTo, Counts, IsAnswered, IsLast, Leads}
 use Rattle.explore_core.specs.Search.{is_asked, standing_of, standing_at, standings_of, HasRaces, Grows, IsFollowed, IsState, IsEmptyFound, IsRight, counted}
 use Rattle.explore_core.proofs.Asking.{may-ask}
-use Rattle.explore_core.proofs.Following.{FirstGoes, IsOneOf, answers-append, chosen-goes, client-goes}
+use Rattle.explore_core.proofs.Blocks.{counts-alike, gives-alike}
+use Rattle.explore_core.proofs.Following.{FirstGoes, chosen-goes, client-goes}
 use Rattle.explore_core.proofs.Covering.{go-on-trans, last-alike, sound-made, stuck-alike}
-use Rattle.explore_core.proofs.Finding.{after-answers, none-next}
+use Rattle.explore_core.proofs.Finding.{none-next}
 use Rattle.explore_core.proofs.Levels.{HasEnds-alike, IsTrue-empty, go-on-refl, length-none}
 use Rattle.explore_core.proofs.Moving.{leads-alike}
-use Rattle.explore_core.proofs.Scheduling.{Leads-push, sound-comes}
+use Rattle.explore_core.proofs.Scheduling.{sound-comes, sound-leads}
 use Rattle.explore_core.proofs.Trying.{IsAll-same, IsTrue-same}
 
 -- what is found
@@ -71,15 +72,14 @@ IsCovered-first plan found state empty is = record {
   reached = All-nil (IsReachable plan);
   covers = λ schedule now comes.
       let same : beginning plan ≡ standing_at plan state = ap (standing_of plan) (sym (length-none state.schedule.items is.deep)) in
-      let all = answers_of plan (standing_at plan state) schedule in
       inr (record {
         state = state;
         there = (0, omega arith, refl);
         rest = schedule;
         later = now;
-        leads = subst (λ (s : Standing). Leads plan s schedule now) same comes;
-        answers = subst (λ (s : Standing). All (IsKnownOr plan found [] all) (answers_of plan s schedule)) (sym same)
-            (All-weaker (Contains all) (IsKnownOr plan found [] all) (λ a there. inr there) all (All-contains_itself all));
+        leads = subst (λ (s : Standing). Leads plan s schedule now) same comes.leads;
+        counts = subst (λ (s : Standing). Counts plan s schedule) same comes.counts;
+        answers = λ a gives. inr gives;
         races = λ one other race. inr race;
         last = λ end. (omega arith, go-on-refl (is_asked plan) now);
       });
@@ -99,15 +99,30 @@ module _ {plan : Lines} {old new : Found} {depth : ℕ} {states next : List Stat
   abbrev Known : LineAnswer → Type 0
   Known = IsKnown plan new visited
 
-  abbrev KnownOr : List LineAnswer → LineAnswer → Type 0
-  KnownOr = IsKnownOr plan new visited
-
   known-more : (a : LineAnswer) → IsKnown plan old covered.visited a → Known a
   known-more a k =
       let t = k.there in
       record {
-        there = record { now = t.now; there = Contains-append_left covered.visited (standings_of plan states) t.now t.there; at = t.at; step = t.step; next = t.next; made = t.made; answer = t.answer };
+        there = record { now = t.now; there = Contains-append_left covered.visited (standings_of plan states) t.now t.there; may = t.may; at = t.at; step = t.step; next = t.next; made = t.made; answer = t.answer };
         listed = grows.given a.client a.place a.answer k.listed;
+      }
+
+  -- what a client that is followed is answered at a visited state
+  known-here : (state : State) → Contains states state → (a : LineAnswer) → IsFollowed plan new next (standing_at plan state) a.client → Gives plan (standing_at plan state) a → Known a
+  known-here state there a followed gives =
+      let given = gives.given in
+      record {
+        there = record {
+          now = standing_at plan state;
+          there = Contains-append_right covered.visited (standings_of plan states) (standing_at plan state) (Contains-standing plan states state there);
+          may = gives.may;
+          at = given.at;
+          step = given.step;
+          next = given.next;
+          made = given.made;
+          answer = given.answer;
+        };
+        listed = followed.listed gives.may a.place a.answer given;
       }
 
   soon-next : (shown : List ℕ) → stuck_of new ≡ Some shown → length shown ≤ depth
@@ -115,7 +130,7 @@ module _ {plan : Lines} {old new : Found} {depth : ℕ} {states next : List Stat
 
   finished-more : (schedule : Schedule) (now : Standing) → IsFinished plan old covered.visited schedule now → IsFinished plan new visited schedule now
   finished-more schedule now s = record {
-    answers = All-weaker (IsKnown plan old covered.visited) Known known-more (answers_of plan (beginning plan) schedule) s.answers;
+    answers = λ a gives. known-more a (s.answers a gives);
     last = λ end. has-more (is_asked plan) covered.visited (standings_of plan states) now (s.last end);
     ended = λ place answer e. grows.ended (length plan.clients) place answer (s.ended place answer e);
     races = λ other one race. grows.races one other (s.races other one race);
@@ -131,14 +146,13 @@ module _ {plan : Lines} {old new : Found} {depth : ℕ} {states next : List Stat
       let here : from ≡ g.later = subst (λ (r : Schedule). Leads plan from r g.later) (sym none) g.leads in
       let alike : IsLast plan now → GoOnAlike (is_asked plan) now from = λ end. subst (GoOnAlike (is_asked plan) now) (sym here) (g.last end).1 in
       record {
-        answers = All-weaker (IsKnownOr plan old covered.visited (answers_of plan from g.rest)) Known
-            (λ a k. elim k [
-              | inl known ↦ known-more a known
-              | inr later ↦ (let none-left : Contains [] a = subst (λ (r : Schedule). Contains (answers_of plan from r) a) (sym none) later in absurd (omega (arith, none-left.1)))
-            ]) (answers_of plan (beginning plan) schedule) g.answers;
+        answers = λ a gives. elim (g.answers a gives) [
+          | inl known ↦ known-more a known
+          | inr later ↦ known-here g.state g.there a (f.followed a.client) (subst (λ (s : Standing). Gives plan s a) (sym here) later)
+        ];
         last = λ end. (from, Contains-append_right covered.visited (standings_of plan states) from (Contains-standing plan states g.state g.there), alike end);
         ended = λ place answer e.
-            let end : IsLast plan now = λ client. none-next plan now client (e.done client) in
+            let end : IsLast plan now = λ client may. none-next plan now client (e.done client) in
             HasEnds-alike new may (alike end) sound f.ended place answer e;
         races = λ other one race. elim (g.races one other race) [
           | inl listed ↦ grows.races one other listed
@@ -159,39 +173,23 @@ module _ {plan : Lines} {old new : Found} {depth : ℕ} {states next : List Stat
       let sound-from = sound-comes plan g.state.schedule.items from (All-contains (IsState plan depth) states g.state covered.are g.there).comes in
       let sound-start : IsSound (world_of f.start.history) = sound-made from f.client (next_line plan from f.client) f.start f.goes sound-from in
       let one = followed f.client f.one in
-      let has = one.kept f.start f.goes in
+      let has = one.kept f.on f.start f.goes in
       let there = standing_at plan has.0 in
       let r = leads-alike may f.rest f.start there f.to sound-start has.2 f.leads in
-      let given : LineAnswer = record { client = f.client; place = f.place; answer = f.answer } in
-      let known : Known given = record {
-        there = record {
-          now = from;
-          there = Contains-append_right covered.visited (standings_of plan states) from (Contains-standing plan states g.state g.there);
-          at = f.given.at;
-          step = f.given.step;
-          next = f.given.next;
-          made = f.given.made;
-          answer = f.given.answer;
-        };
-        listed = one.listed f.place f.answer f.given;
-      } in
-      let behind = answers_of plan there f.rest in
-      let all = All-weaker (IsOneOf given (answers_of plan f.start f.rest)) (KnownOr behind)
-      (λ a k. elim k [
-        | inl is ↦ inl (subst Known is known)
-        | inr other ↦ inr (subst (λ answers. Contains answers a) (sym r.answers) other)
-      ]) (answers_of plan from g.rest) f.answers in
       record {
         state = has.0;
         there = has.1;
         rest = f.rest;
         later = r.last;
         leads = r.leads;
-        answers = All-weaker (IsKnownOr plan old covered.visited (answers_of plan from g.rest)) (KnownOr behind)
-            (λ a k. elim k [
-              | inl known ↦ inl (known-more a known)
-              | inr later ↦ All-contains (KnownOr behind) (answers_of plan from g.rest) a all later
-            ]) (answers_of plan (beginning plan) schedule) g.answers;
+        counts = counts-alike plan f.rest f.start there f.to r.last has.2 r.answers f.leads r.leads f.counts;
+        answers = λ a gives. elim (g.answers a gives) [
+          | inl known ↦ inl (known-more a known)
+          | inr later ↦ elim (f.answers a later) [
+            | inl here ↦ inl (known-here g.state g.there a (followed a.client here.0) here.1)
+            | inr behind ↦ inr (gives-alike may r.alike (sound-leads plan f.start f.rest f.to f.leads sound-start) a behind)
+          ]
+        ];
         races = λ one other race. elim (g.races one other race) [
           | inl listed ↦ inl (grows.races one other listed)
           | inr later ↦ elim (f.races one other later) [
@@ -214,7 +212,8 @@ module _ {plan : Lines} {old new : Found} {depth : ℕ} {states next : List Stat
   on-all schedule now comes g has f (client ∷ rest) is =
       let from = standing_at plan g.state in
       let leads = subst (λ (r : Schedule). Leads plan from r g.later) (sym is) g.leads in
-      let first = client-goes plan from client rest g.later (go-on-refl (is_asked plan) g.later) leads in
+      let counts = subst (λ (r : Schedule). Counts plan from r) (sym is) g.counts in
+      let first = client-goes plan from client rest g.later (go-on-refl (is_asked plan) g.later) leads counts in
       inr (goes-on schedule now comes g (λ k. true) has (λ k is. f.followed k)
       (subst (λ (r : Schedule). FirstGoes (is_asked plan) plan (λ k. true) from r g.later) is first))
 
@@ -228,7 +227,7 @@ module _ {plan : Lines} {old new : Found} {depth : ℕ} {states next : List Stat
           | inr some ↦ (
               let from = standing_at plan g.state in
               let sound = sound-comes plan g.state.schedule.items from (All-contains (IsState plan depth) states g.state covered.are g.there).comes in
-              inr (goes-on schedule now comes g some.choice.chosen visit.races some.followed (chosen-goes may from some.choice some.persistent some.calm sound g.rest g.later g.leads)))
+              inr (goes-on schedule now comes g some.choice.chosen visit.races some.followed (chosen-goes may from some.choice some.persistent some.calm sound some.prompt some.outside some.onward g.rest g.later g.leads g.counts)))
         ])
   ]
 
@@ -286,22 +285,12 @@ module _ {plan : Lines} {found : Found} {depth : ℕ} (covered : IsCovered plan 
     | inr g ↦ (let low = g.there.1 in absurd (omega (arith, low)))
   ]
 
-  -- the answer is the last along the schedule with one more client
+  -- the answer is given where the schedule leads
   known : (schedule : Schedule) (client place : ℕ) (answer : Answer) → IsAnswered plan schedule client place answer
       → IsKnown plan found covered.visited (record { client = client; place = place; answer = answer })
   known schedule client place answer a =
-      let goes = after-answers {plan = plan} {now = a.now} {place = place} {given = answer} (record { at = a.at; step = a.step; next = a.next; made = a.made; answer = a.answer }) in
-      let later = after_line a.now client a.step in
-      let s = finished (schedule ++ client ∷ []) later (Leads-push plan (beginning plan) schedule a.now client later a.comes goes) in
-      let one : LineAnswer = record { client = client; place = place; answer = answer } in
-      let last : answers_of plan a.now (client ∷ []) ≡ one ∷ [] =
-      ap (λ o. answer_of a.now client o ++ []) a.next
-      ∙ ap (λ p. record { client = client; place = p; answer = answer_now a.now.history a.step.command } ∷ []) a.at
-      ∙ ap (λ given. record { client = client; place = place; answer = given } ∷ []) (sym a.answer) in
-      let all : answers_of plan (beginning plan) (schedule ++ client ∷ []) ≡ answers_of plan (beginning plan) schedule ++ one ∷ [] =
-      answers-append plan schedule (client ∷ []) (beginning plan) a.now a.comes ∙ ap (λ more. answers_of plan (beginning plan) schedule ++ more) last in
-      All-contains (IsKnown plan found covered.visited) (answers_of plan (beginning plan) schedule ++ one ∷ []) one (subst (All (IsKnown plan found covered.visited)) all s.answers)
-      (Contains-append_right (answers_of plan (beginning plan) schedule) (one ∷ []) one (0, omega arith, refl))
+      (finished schedule a.now a.comes).answers (record { client = client; place = place; answer = answer })
+      (record { may = a.may; given = record { at = a.at; step = a.step; next = a.next; made = a.made; answer = a.answer } })
 
   pub IsAll-covered : IsAll plan found
   IsAll-covered = record {

@@ -16,7 +16,7 @@ use Rattle.desk_core.proofs.Answering.{world_from-push}
 use Rattle.desk_core.proofs.Sound.{IsSound-history}
 use Rattle.explore_core.specs.declared.plan.Step.{Step}
 use Rattle.explore_core.specs.Alike.{AsksOnly, AreAlike, IsSameWatch, after_answer}
-use Rattle.explore_core.specs.Schedule.{Lines, Standing, answer_now, history_with, history_along, lines_of, made_by, next_line, can_be_made, is_due, place_after, after_line, made_line, after_one, IsLast, IsStuck}
+use Rattle.explore_core.specs.Schedule.{Lines, Standing, answer_now, history_with, history_along, lines_of, made_by, next_line, can_be_made, is_due, place_after, after_line, made_line, after_one, IsLast, IsStuck, MayGo}
 use Rattle.explore_core.specs.Covering.{MayAsk, GoOnAlike}
 use Rattle.explore_core.proofs.Answering.{same_answer}
 use Rattle.explore_core.proofs.Staying.{alike-answered, IsSound-answered}
@@ -125,7 +125,9 @@ module _ {asked : List ℕ → Bool} {plan : Lines} (may : MayAsk asked plan) {s
 
   -- in both no client can go, or in neither
   pub last-alike : IsLast plan s → IsLast plan t
-  last-alike nobody client = ap (made_line t client) (sym (next-same client)) ∙ none-made client (next_line plan s client) refl (nobody client)
+  last-alike nobody client may =
+      ap (made_line t client) (sym (next-same client))
+      ∙ none-made client (next_line plan s client) refl (nobody client (subst (λ (made : List ℕ). MayGo plan made client) (sym g.made) may))
 
   -- both are stuck, or neither
   pub stuck-alike : IsStuck plan s → IsStuck plan t

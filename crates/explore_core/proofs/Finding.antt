@@ -1,5 +1,5 @@
 -- What a visit finds: answers, states, and a schedule that gets stuck.
-use Rattle.std.proofs.Common.{◌≡◌, ◌⊎◌, ℕ, Bool, true, false, zero, suc, ◌+◌, ◌<◌, ◌≤◌, refl, sym, ap, ◌∙◌, subst, List, [], ◌∷◌, ◌++◌, length, take, Option, None, Some, option_map, unwrap_or, if◌then◌else◌, slice_get, get_or, arith, inl, inr, Contains}
+use Rattle.std.proofs.Common.{◌≡◌, ◌⊎◌, ℕ, Bool, true, false, zero, suc, ◌+◌, ◌<◌, ◌≤◌, refl, sym, ap, ◌∙◌, subst, List, [], ◌∷◌, ◌++◌, length, take, Option, None, Some, option_map, unwrap_or, slice_get, get_or, arith, inl, inr, Contains}
 use Rattle.std.specs.Prelude.{All, IsSome, Vec}
 use Rattle.std.specs.Global.{Global}
 use Rattle.std.specs.List.{AllPairs}
@@ -19,15 +19,15 @@ use Rattle.explore_core.specs.declared.state.State.{State}
 use Rattle.explore_core.specs.declared.tour.Move.{Move}
 use Rattle.explore_core.specs.declared.tour.Move.TheVariants as move
 use Rattle.explore_core.specs.Found.{CanBeExplored, IsOther, Lists, stuck_of}
-use Rattle.explore_core.specs.Schedule.{Lines, Standing, Schedule, answer_now, history_along, beginning, lines_of, next_line, made_by, after_line, made_line, after_one, ComesTo, IsStuck, IsAnswered, IsEndAnswered}
-use Rattle.explore_core.specs.Search.{Seen, LevelState, is_asked, standing_of, standing_at, states_of, Answers, HasLike, Grows, Extends, IsState, IsSeen, Keeps, Records, IsGiven, IsFollowed, IsTried, AreTried, IsMove, AreMoves, together, HasEnds, EndsAre, IsEnd, AreEndsListed}
+use Rattle.explore_core.specs.Schedule.{Lines, Standing, Schedule, answer_now, history_along, beginning, lines_of, next_line, made_by, made_line, after_one, ComesTo, GoesOn, IsStuck, IsAnswered, IsEndAnswered, MayGo}
+use Rattle.explore_core.specs.Search.{Seen, LevelState, is_asked, standing_of, standing_at, states_of, Answers, HasLike, Grows, Extends, IsState, IsSeen, Keeps, Records, IsGiven, IsFollowed, IsOnward, IsTried, AreTried, IsMove, AreMoves, Makes, is_alone, together, HasEnds, EndsAre, IsEnd, AreEndsListed}
 use Rattle.explore_core.specs.Choice.{choice_of}
 use Rattle.explore_core.specs.Choosing.{IsChoiceAt, IsReady}
 use Rattle.explore_core.specs.Flow.{bounds_of}
 use Rattle.explore_core.specs.Levels.{IsLeft}
 use Rattle.explore_core.proofs.Following.{calm-later}
 use Rattle.explore_core.proofs.Levels.{go-on-refl, IsFollowed-grows}
-use Rattle.explore_core.proofs.Scheduling.{Leads-is, Leads-push}
+use Rattle.explore_core.proofs.Scheduling.{Leads-is, after-answers, comes-push}
 use Rattle.explore_core.proofs.Showing.{same-state}
 
 -- the elements of a list, one after another
@@ -144,31 +144,35 @@ HasLike-kept {plan} {depth} {old} {new} {seen} can all keeps is = elim keeps [
 pub none-next : (plan : Lines) (now : Standing) (client : ℕ) → next_line plan now client ≡ None → after_one plan now client ≡ None
 none-next plan now client none = ap (made_line now client) none
 
-pub after-answers : {plan : Lines} {now : Standing} {client place : ℕ} {given : Answer} (a : Answers plan now client place given) → after_one plan now client ≡ Some (after_line now client a.step)
-after-answers {plan} {now} {client} a = ap (made_line now client) a.next ∙ ap (λ b. if b then Some (after_line now client a.step) else None) a.made
-
 -- where the schedule comes to with one more client
-pub comes-more : (plan : Lines) (schedule : Schedule) (client : ℕ) (to : Standing) → ComesTo plan schedule (standing_of plan schedule) → after_one plan (standing_of plan schedule) client ≡ Some to
+pub comes-more : (plan : Lines) (schedule : Schedule) (client : ℕ) (to : Standing) → ComesTo plan schedule (standing_of plan schedule) → GoesOn plan (standing_of plan schedule) client → after_one plan (standing_of plan schedule) client ≡ Some to
     → (to ≡ standing_of plan (schedule ++ client ∷ [])) × ComesTo plan (schedule ++ client ∷ []) (standing_of plan (schedule ++ client ∷ []))
-comes-more plan schedule client to comes goes =
-    let leads = Leads-push plan (beginning plan) schedule (standing_of plan schedule) client to comes goes in
-    let is = Leads-is plan (beginning plan) (schedule ++ client ∷ []) to leads in
-    (is, subst (ComesTo plan (schedule ++ client ∷ [])) is leads)
+comes-more plan schedule client to comes on goes =
+    let more = comes-push plan schedule (standing_of plan schedule) client to comes on goes in
+    let is = Leads-is plan (beginning plan) (schedule ++ client ∷ []) to more.leads in
+    (is, subst (ComesTo plan (schedule ++ client ∷ [])) is more)
 
 pub IsFollowed-none : (plan : Lines) (found : Found) (next : List State) (now : Standing) (client : ℕ) → after_one plan now client ≡ None → IsFollowed plan found next now client
 IsFollowed-none plan found next now client none = record {
-  listed = λ place answer a. absurd (none-some _ (sym none ∙ after-answers a));
-  kept = λ later goes. absurd (none-some later (sym none ∙ goes));
+  listed = λ may place answer a. absurd (none-some _ (sym none ∙ after-answers a));
+  kept = λ on later goes. absurd (none-some later (sym none ∙ goes));
+}
+
+-- a client that may not go
+pub IsFollowed-held : (plan : Lines) (found : Found) (next : List State) (now : Standing) (client : ℕ) → (MayGo plan now.made client → ⊥) → IsFollowed plan found next now client
+IsFollowed-held plan found next now client held = record {
+  listed = λ may place answer a. absurd (held may);
+  kept = λ on later goes. absurd (held on.may);
 }
 
 pub IsFollowed-made : (plan : Lines) (found : Found) (next : List State) (now : Standing) (client place : ℕ) (given : Answer) (after : Standing)
-    → Answers plan now client place given → after_one plan now client ≡ Some after → Lists found.given.items client place given → HasLike plan next after → IsFollowed plan found next now client
+    → Answers plan now client place given → after_one plan now client ≡ Some after → Lists found.given.items client place given → (GoesOn plan now client → HasLike plan next after) → IsFollowed plan found next now client
 IsFollowed-made plan found next now client place given after a goes lists has = record {
-  listed = λ place' answer' b.
+  listed = λ may place' answer' b.
       let step : a.step ≡ b.step = same_Some a.step b.step (sym a.next ∙ b.next) in
       let same : given ≡ answer' = a.answer ∙ ap (λ (s : Step). answer_now now.history s.command) step ∙ sym b.answer in
       subst (λ p. Lists found.given.items client p answer') (sym a.at ∙ b.at) (subst (λ g. Lists found.given.items client place g) same lists);
-  kept = λ later is. subst (HasLike plan next) (same_Some after later (sym goes ∙ is)) has;
+  kept = λ on later is. subst (HasLike plan next) (same_Some after later (sym goes ∙ is)) (has on);
 }
 
 -- what the first clients do
@@ -186,19 +190,25 @@ below client n few = elim (cases_lt client n) [
 ]
 
 module _ (plan : Lines) (now : Standing) (n : ℕ) where
-  nobody : ((client : ℕ) → client < n → after_one plan now client ≡ None) → after_one plan now n ≡ None → (client : ℕ) → client < n + 1 → after_one plan now client ≡ None
+  abbrev Waits : ℕ → Type 0
+  Waits client = MayGo plan now.made client → after_one plan now client ≡ None
+
+  nobody : ((client : ℕ) → client < n → Waits client) → Waits n → (client : ℕ) → client < n + 1 → Waits client
   nobody before last client few = elim (below client n few) [
     | inl less ↦ before client less
-    | inr is ↦ subst (λ c. after_one plan now c ≡ None) (sym is) last
+    | inr is ↦ subst Waits (sym is) last
   ]
 
   moves-push : (moves one : Move) → AreMoves plan now n moves → IsMove plan now n one → AreMoves plan now (n + 1) (together moves one)
   moves-push move.Goes one are is = are
-  moves-push move.Waits move.Goes are is = (n, is.0, is.1)
-  moves-push move.Waits move.Done are is = (nobody are.0 (none-next plan now n is), are.1, are.2)
+  moves-push move.Alone one are is = are
+  moves-push move.Waits move.Goes are is = (n, is.0)
+  moves-push move.Waits move.Alone are is = (n, is)
+  moves-push move.Waits move.Done are is = (nobody are.0 (λ may. none-next plan now n is), are.1, are.2)
   moves-push move.Waits move.Waits are is = (nobody are.0 is.0, are.1, are.2)
-  moves-push move.Done move.Goes are is = (n, is.0, is.1)
-  moves-push move.Done move.Waits are is = (nobody (λ client few. none-next plan now client (are client few)) is.0, n, is.1)
+  moves-push move.Done move.Goes are is = (n, is.0)
+  moves-push move.Done move.Alone are is = (n, is)
+  moves-push move.Done move.Waits are is = (nobody (λ client few may. none-next plan now client (are client few)) is.0, n, is.1)
   moves-push move.Done move.Done are is = λ client few. elim (below client n few) [
     | inl less ↦ are client less
     | inr same ↦ subst (λ c. next_line plan now c ≡ None) (sym same) is
@@ -247,8 +257,8 @@ module _ (plan : Lines) (found : Found) (next : List State) (state : State) wher
 
   pub stuck-waits : AreTried plan found next state (length plan.clients) move.Waits → IsStuck plan here
   stuck-waits tried = record {
-    nobody = λ client. elim (cases_lt client (length plan.clients)) [
-      | inl less ↦ tried.are.0 client less
+    nobody = λ client may. elim (cases_lt client (length plan.clients)) [
+      | inl less ↦ tried.are.0 client less may
       | inr not_less ↦ none-next plan here client (no-next plan here client (omega (arith, not_less)))
     ];
     waiting = (tried.are.1, tried.are.2);
@@ -260,12 +270,19 @@ module _ (plan : Lines) (found : Found) (next : List State) (state : State) wher
     | inr not_less ↦ no-next plan here client (omega (arith, not_less))
   ]
 
-  pub IsLeft-goes : AreTried plan found next state (length plan.clients) move.Goes → IsLeft plan found next state
-  IsLeft-goes tried = inl (record {
+  -- one of the clients makes its line
+  one-goes : {moves : Move} → AreTried plan found next state (length plan.clients) moves → (client : ℕ) → Makes plan here client → IsLeft plan found next state
+  one-goes tried client makes = inl (record {
     followed = followed-all tried;
-    ended = λ place answer e. absurd (some-next tried.are.0 tried.are.1 tried.are.2 (e.done tried.are.0));
-    stuck = λ stuck. absurd (none-some tried.are.1 (sym (stuck.nobody tried.are.0) ∙ tried.are.2));
+    ended = λ place answer e. absurd (some-next client makes.1 makes.2 (e.done client));
+    stuck = λ stuck. absurd (none-some makes.1 (sym (stuck.nobody client makes.0) ∙ makes.2));
   })
+
+  pub IsLeft-goes : AreTried plan found next state (length plan.clients) move.Goes → IsLeft plan found next state
+  IsLeft-goes tried = one-goes tried tried.are.0 tried.are.1
+
+  pub IsLeft-alone : AreTried plan found next state (length plan.clients) move.Alone → IsLeft plan found next state
+  IsLeft-alone tried = one-goes tried tried.are.0 tried.are.1
 
 module _ {plan : Lines} {depth deeper : ℕ} {old new : Found} {next more : LevelState} (state : State) (a : Grows plan depth old new × Extends plan deeper next more) where
   abbrev there : Standing
@@ -319,14 +336,50 @@ chosen-all plan {found} {next} now n chosen all before client is = elim (cases_l
   | inr not_less ↦ IsFollowed-none plan found next now client (none-next plan now client (no-next plan now client (omega (arith, not_less, all))))
 ]
 
+-- the first of them, and others may go after each
+
+pub onward-push : {plan : Lines} {found : Found} {next : List State} {state : State} (n : ℕ) (chosen : ℕ → Bool) (one : Move) → ((client : ℕ) → client < n → chosen client ≡ true → IsOnward plan (standing_at plan state) client)
+    → IsTried plan found next state n one → is_alone one ≡ false → (client : ℕ) → client < n + 1 → chosen client ≡ true → IsOnward plan (standing_at plan state) client
+onward-push {plan} {state = state} n chosen one before tried isnt client few is = elim (below client n few) [
+  | inl less ↦ before client less is
+  | inr same ↦ subst (IsOnward plan (standing_at plan state)) (sym same) (by one tried.is isnt)
+]
+  where
+    now : Standing
+    now = standing_at plan state
+
+    by : (one : Move) → IsMove plan now n one → is_alone one ≡ false → IsOnward plan now n
+    by move.Goes is isnt = is.1
+    by move.Alone is isnt = absurd (false≢true (sym isnt))
+    by move.Waits is isnt = λ may later goes. absurd (none-some later (sym (is.0 may) ∙ goes))
+    by move.Done is isnt = λ may later goes. absurd (none-some later (sym (none-next plan now n is) ∙ goes))
+
+pub onward-skip : {plan : Lines} (now : Standing) (n : ℕ) (chosen : ℕ → Bool) → ((client : ℕ) → client < n → chosen client ≡ true → IsOnward plan now client) → chosen n ≡ false
+    → (client : ℕ) → client < n + 1 → chosen client ≡ true → IsOnward plan now client
+onward-skip now n chosen before isnt client few is = elim (below client n few) [
+  | inl less ↦ before client less is
+  | inr same ↦ absurd (false≢true (sym isnt ∙ ap chosen (sym same) ∙ is))
+]
+
+pub onward-all : (plan : Lines) (now : Standing) (n : ℕ) (chosen : ℕ → Bool) → length plan.clients ≤ n
+    → ((client : ℕ) → client < n → chosen client ≡ true → IsOnward plan now client) → (client : ℕ) → chosen client ≡ true → IsOnward plan now client
+onward-all plan now n chosen all before client is = elim (cases_lt client n) [
+  | inl less ↦ before client less is
+  | inr not_less ↦ λ may later goes. absurd (none-some later (sym (none-next plan now client (no-next plan now client (omega (arith, not_less, all)))) ∙ goes))
+]
+
 pub IsLeft-chosen : {plan : Lines} {depth : ℕ} {found : Found} {next : List State} {chooser : Chooser} {kept : Choice} (state : State) → IsState plan depth state → IsReady plan chooser
-    → IsChoiceAt plan chooser (standing_at plan state) kept → ((client : ℕ) → (choice_of kept).chosen client ≡ true → IsFollowed plan found next (standing_at plan state) client) → IsLeft plan found next state
-IsLeft-chosen {plan} {chooser = chooser} {kept = kept} state is ready chosen followed = inr (record {
+    → IsChoiceAt plan chooser (standing_at plan state) kept → ((client : ℕ) → (choice_of kept).chosen client ≡ true → IsFollowed plan found next (standing_at plan state) client)
+    → ((client : ℕ) → (choice_of kept).chosen client ≡ true → IsOnward plan (standing_at plan state) client) → IsLeft plan found next state
+IsLeft-chosen {plan} {chooser = chooser} {kept = kept} state is ready chosen followed onward = inr (record {
   bounds = bounds_of kept.flow;
-  calm = calm-later plan state.schedule.items (standing_at plan state) (ready chosen.chooses) is.comes;
+  calm = calm-later plan state.schedule.items (standing_at plan state) (ready.calm chosen.chooses) is.comes;
+  prompt = ready.prompt chosen.chooses;
+  outside = chosen.outside;
   choice = choice_of kept;
   persistent = chosen.persistent;
   followed = followed;
+  onward = onward;
 })
 
 -- a schedule that gets stuck is shown

@@ -142,8 +142,8 @@ HasRaces-grows now g has = λ other one race. g.races one other (has other one r
 pub IsFollowed-grows : {plan : Lines} {depth deeper : ℕ} {old new : Found} {next more : LevelState} (now : Standing) (client : ℕ) → Grows plan depth old new → Extends plan deeper next more
     → IsFollowed plan old (states_of next.seen) now client → IsFollowed plan new (states_of more.seen) now client
 IsFollowed-grows now client g x f = record {
-  listed = λ place answer a. g.given client place answer (f.listed place answer a);
-  kept = λ later goes. x.alike later (f.kept later goes);
+  listed = λ may place answer a. g.given client place answer (f.listed may place answer a);
+  kept = λ on later goes. x.alike later (f.kept on later goes);
 }
 
 IsLeft-grows : {plan : Lines} {depth deeper : ℕ} {old new : Found} {next more : LevelState} (state : State) → Grows plan depth old new → Extends plan deeper next more
@@ -157,9 +157,12 @@ IsLeft-grows {plan} state g x v = elim v [
   | inr some ↦ inr (record {
     bounds = some.bounds;
     calm = some.calm;
+    prompt = some.prompt;
+    outside = some.outside;
     choice = some.choice;
     persistent = some.persistent;
     followed = λ client chosen. IsFollowed-grows (standing_at plan state) client g x (some.followed client chosen);
+    onward = some.onward;
   })
 ]
 

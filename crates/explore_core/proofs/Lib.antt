@@ -24,6 +24,7 @@ pub mod Commuting
 pub mod Moving
 pub mod Persistent
 pub mod Racing
+pub mod Blocks
 pub mod Following
 pub mod Bounding
 pub mod Flowing

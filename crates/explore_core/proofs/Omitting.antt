@@ -24,11 +24,12 @@ pub shown-after : (plan : Lines) (schedule : Schedule) (to : Standing) (s : Show
 shown-after plan schedule to (shown.Answer client place answer) comes a = record {
   now = to;
   comes = comes;
-  at = a.at;
-  step = a.step;
-  next = a.next;
-  made = a.made;
-  answer = a.answer;
+  may = a.0;
+  at = a.1.at;
+  step = a.1.step;
+  next = a.1.next;
+  made = a.1.made;
+  answer = a.1.answer;
 }
 shown-after plan schedule to (shown.Race one other) comes both = record { now = to; comes = comes; both = both }
 

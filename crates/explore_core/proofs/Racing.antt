@@ -16,7 +16,7 @@ use Rattle.explore_core.specs.Schedule.{Lines, Standing, is_taken, made_by, plac
 use Rattle.explore_core.proofs.Persistent.{set-either}
 use Rattle.explore_core.proofs.Showing.{or-cases}
 
-all-at : {X : Type 0} (p : X → Bool) (xs : List X) (k : ℕ) (x : X) → list_all p xs ≡ true → slice_get xs k ≡ Some x → p x ≡ true
+pub all-at : {X : Type 0} (p : X → Bool) (xs : List X) (k : ℕ) (x : X) → list_all p xs ≡ true → slice_get xs k ≡ Some x → p x ≡ true
 all-at p [] k x all at = absurd (none-some x at)
 all-at p (y ∷ xs) zero x all at = subst (λ z. p z ≡ true) (same_Some y x at) (and_parts (p y) (list_all p xs) all).0
 all-at p (y ∷ xs) (suc k) x all at = all-at p xs k x (and_parts (p y) (list_all p xs) all).1 at

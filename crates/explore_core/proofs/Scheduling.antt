@@ -1,9 +1,9 @@
 -- Where schedules lead.
-use Rattle.std.proofs.Common.{◌≡◌, ℕ, Bool, true, false, refl, sym, ap, ◌∙◌, subst, List, [], ◌∷◌, ◌++◌, take, drop, Option, None, Some, unwrap_or, if◌then◌else◌}
+use Rattle.std.proofs.Common.{◌≡◌, ℕ, Bool, true, false, refl, sym, ap, ◌∙◌, subst, List, [], ◌∷◌, ◌++◌, Option, None, Some, unwrap_or, if◌then◌else◌}
 use Rattle.std.specs.Prelude.{All}
 use Rattle.std.proofs.lemmas.List.Elements.{All-nil, All-head, All-tail, All-push}
-use Rattle.std.proofs.lemmas.List.{take-append-drop}
 use Rattle.std.proofs.lemmas.Option.{same_Some}
+use Rattle.command_core.specs.declared.answer.Answer.{Answer}
 use Rattle.command_core.specs.declared.command.Command.{Command}
 use Rattle.command_core.specs.declared.command.Command.TheVariants as command
 use Rattle.desk_core.specs.theorem.World.{World, empty_world, after}
@@ -12,8 +12,8 @@ use Rattle.desk_core.specs.theorem.History.{world_from, world_of}
 use Rattle.desk_core.specs.Sound.{IsSound}
 use Rattle.explore_core.specs.declared.plan.Step.{Step}
 use Rattle.explore_core.specs.Found.{CanBeExplored, RegistersNone}
-use Rattle.explore_core.specs.Schedule.{Lines, Standing, Schedule, answer_now, history_with, history_along, beginning, next_line, made_by, can_be_made, after_line, made_line, after_one, Leads, ComesTo}
-use Rattle.explore_core.specs.Search.{standing_after, standing_along}
+use Rattle.explore_core.specs.Schedule.{Lines, Standing, Schedule, answer_now, history_with, history_along, beginning, next_line, made_by, can_be_made, after_line, made_line, after_one, Leads, Counts, ComesTo, GoesOn}
+use Rattle.explore_core.specs.Search.{Answers, standing_after, standing_along}
 use Rattle.explore_core.proofs.Covering.{sound-made, sound-along, sound-empty}
 
 -- one more command
@@ -43,11 +43,40 @@ Leads-split plan from (first ∷ schedule) rest to leads =
     let split = Leads-split plan leads.0 schedule rest to leads.2 in
     (split.0, (leads.0, leads.1, split.1), split.2)
 
--- a schedule that is longer comes by a shorter one
-pub comes-before : (plan : Lines) (schedule : Schedule) (now : Standing) (n : ℕ) → ComesTo plan schedule now → (mid : Standing) × ComesTo plan (take n schedule) mid
-comes-before plan schedule now n comes =
-    let split = Leads-split plan (beginning plan) (take n schedule) (drop n schedule) now (subst (λ (s : Schedule). ComesTo plan s now) (sym (take-append-drop n schedule)) comes) in
-    (split.0, split.1)
+-- schedules that count
+
+Counts-first : (plan : Lines) (from : Standing) (client : ℕ) (next : Standing) (schedule : Schedule) → GoesOn plan from client → after_one plan from client ≡ Some next → Counts plan next schedule → Counts plan from (client ∷ schedule)
+Counts-first plan from client next schedule on goes counts =
+    (on, λ later is. subst (λ (s : Standing). Counts plan s schedule) (same_Some next later (sym goes ∙ is)) counts)
+
+Counts-push : (plan : Lines) (from : Standing) (schedule : Schedule) (mid : Standing) (client : ℕ) → Leads plan from schedule mid → Counts plan from schedule → GoesOn plan mid client → Counts plan from (schedule ++ client ∷ [])
+Counts-push plan from [] mid client leads counts on = (subst (λ (s : Standing). GoesOn plan s client) (sym leads) on, λ next is. tt)
+Counts-push plan from (first ∷ schedule) mid client leads counts on =
+    Counts-first plan from first leads.0 (schedule ++ client ∷ []) counts.0 leads.1 (Counts-push plan leads.0 schedule mid client leads.2 (counts.1 leads.0 leads.1) on)
+
+pub Counts-split : (plan : Lines) (from : Standing) (schedule rest : Schedule) (mid : Standing) → Leads plan from schedule mid → Counts plan from (schedule ++ rest) → Counts plan from schedule × Counts plan mid rest
+Counts-split plan from [] rest mid leads counts = (tt, subst (λ (s : Standing). Counts plan s rest) leads counts)
+Counts-split plan from (first ∷ schedule) rest mid leads counts =
+    let split = Counts-split plan leads.0 schedule rest mid leads.2 (counts.1 leads.0 leads.1) in
+    (Counts-first plan from first leads.0 schedule counts.0 leads.1 split.0, split.1)
+
+pub Counts-append : (plan : Lines) (from : Standing) (schedule rest : Schedule) (mid : Standing) → Leads plan from schedule mid → Counts plan from schedule → Counts plan mid rest → Counts plan from (schedule ++ rest)
+Counts-append plan from [] rest mid leads counts more = subst (λ (s : Standing). Counts plan s rest) (sym leads) more
+Counts-append plan from (first ∷ schedule) rest mid leads counts more =
+    Counts-first plan from first leads.0 (schedule ++ rest) counts.0 leads.1 (Counts-append plan leads.0 schedule rest mid leads.2 (counts.1 leads.0 leads.1) more)
+
+pub comes-none : (plan : Lines) → ComesTo plan [] (beginning plan)
+comes-none plan = record { leads = refl; counts = tt }
+
+pub comes-push : (plan : Lines) (schedule : Schedule) (now : Standing) (client : ℕ) (to : Standing) → ComesTo plan schedule now → GoesOn plan now client → after_one plan now client ≡ Some to → ComesTo plan (schedule ++ client ∷ []) to
+comes-push plan schedule now client to comes on goes = record {
+  leads = Leads-push plan (beginning plan) schedule now client to comes.leads goes;
+  counts = Counts-push plan (beginning plan) schedule now client comes.leads comes.counts on;
+}
+
+-- a client's line that is answered
+pub after-answers : {plan : Lines} {now : Standing} {client place : ℕ} {given : Answer} (a : Answers plan now client place given) → after_one plan now client ≡ Some (after_line now client a.step)
+after-answers {plan} {now} {client} a = ap (made_line now client) a.next ∙ ap (λ b. if b then Some (after_line now client a.step) else None) a.made
 
 -- each schedule leads to a sound world
 
@@ -57,7 +86,7 @@ sound-leads plan from (client ∷ schedule) to leads sound =
     sound-leads plan leads.0 schedule to leads.2 (sound-made from client (next_line plan from client) leads.0 leads.1 sound)
 
 pub sound-comes : (plan : Lines) (schedule : Schedule) (now : Standing) → ComesTo plan schedule now → IsSound (world_of now.history)
-sound-comes plan schedule now comes = sound-leads plan (beginning plan) schedule now comes (sound-along [] plan.first sound-empty)
+sound-comes plan schedule now comes = sound-leads plan (beginning plan) schedule now comes.leads (sound-along [] plan.first sound-empty)
 
 -- no schedule registers a watch
 
@@ -85,8 +114,8 @@ none-leads plan can from [] to leads all = subst (λ (s : Standing). All Registe
 none-leads plan can from (client ∷ schedule) to leads all =
     none-leads plan can leads.0 schedule to leads.2 (none-line from client (next_line plan from client) leads.0 (can.lines client (made_by from client)) leads.1 all)
 
-pub none-comes : (plan : Lines) → CanBeExplored plan → (schedule : Schedule) (now : Standing) → ComesTo plan schedule now → All RegistersNone now.history
-none-comes plan can schedule now comes = none-leads plan can (beginning plan) schedule now comes (none-along [] plan.first (All-nil RegistersNone) can.first)
+pub none-comes : (plan : Lines) → CanBeExplored plan → (schedule : Schedule) (now : Standing) → Leads plan (beginning plan) schedule now → All RegistersNone now.history
+none-comes plan can schedule now leads = none-leads plan can (beginning plan) schedule now leads (none-along [] plan.first (All-nil RegistersNone) can.first)
 
 -- so no watch is ever pending
 

@@ -440,8 +440,8 @@ module _ {asked : List ℕ → Bool} {a b : Look} {d e : DeskState} (one : Shows
 pub same-state : {plan : Lines} {depth deeper : ℕ} → CanBeExplored plan → (a b : Seen) → IsSeen plan depth a → IsSeen plan deeper b → AreSameSeen a b
     → GoOnAlike (is_asked plan) (standing_at plan a.state) (standing_at plan b.state)
 same-state {plan} can a b one two same =
-    let none = no_watches-of (standing_at plan a.state).history (none-comes plan can a.state.schedule.items (standing_at plan a.state) one.state.comes) in
-    let none' = no_watches-of (standing_at plan b.state).history (none-comes plan can b.state.schedule.items (standing_at plan b.state) two.state.comes) in
+    let none = no_watches-of (standing_at plan a.state).history (none-comes plan can a.state.schedule.items (standing_at plan a.state) one.state.comes.leads) in
+    let none' = no_watches-of (standing_at plan b.state).history (none-comes plan can b.state.schedule.items (standing_at plan b.state) two.state.comes.leads) in
     let h = one.history.holds in
     let k = two.history.holds in
     let empty : one.desk.watches.pending ≡ [] = no-watches _ one.desk.watches.pending (subst (AllZip (IsWatchOf (λ (x : MadeWatch). x.cookie) (λ (x : MadeWatch). x.put) (reach_of (world_of (standing_at plan a.state).history).timelines)) one.desk.watches.pending) none.watches h.watches) in

@@ -3,6 +3,7 @@ use Rattle.std.proofs.Common.{◌≡◌, ℕ, ◌+◌, ◌<◌, ◌≤◌, true,
 use Rattle.std.specs.Prelude.{All, IsSome, Vec}
 use Rattle.std.specs.Global.{Global}
 use Rattle.std.proofs.lemmas.Bool.{false≢true}
+use Rattle.std.proofs.lemmas.Option.{same_Some}
 use Rattle.std.proofs.lemmas.List.{take_more, length-map}
 use Rattle.std.proofs.lemmas.List.Elements.{All-nil}
 use Rattle.command_core.specs.declared.answer.Answer.{Answer}
@@ -14,18 +15,19 @@ use Rattle.explore_core.specs.declared.state.State.{State}
 use Rattle.explore_core.specs.declared.tour.Move.{Move}
 use Rattle.explore_core.specs.declared.tour.Move.TheVariants as move
 use Rattle.explore_core.specs.Found.{CanBeExplored, IsTrue, IsAll, Lists}
-use Rattle.explore_core.specs.Schedule.{Lines, Standing, Schedule, history_with, history_along, lines_of, made_by, next_line, after_line, after_one, ComesTo, IsAnswered}
-use Rattle.explore_core.specs.Search.{Look, Seen, Shows, AreAsked, has_name, is_asked, standing_of, standing_at, states_of, standing_after, Answers, Grows, IsAt, IsReached, IsState, IsSeen, IsTried, AreTried, AreMoves, Keeps, Records}
+use Rattle.explore_core.specs.Expects.{is_expected}
+use Rattle.explore_core.specs.Schedule.{Lines, Standing, Schedule, answer_now, history_with, history_along, lines_of, made_by, next_line, after_one, is_in_block, ComesTo, GoesOn, IsAnswered, IsExpected, MayGo}
+use Rattle.explore_core.specs.Search.{Look, Seen, Shows, AreAsked, has_name, is_asked, standing_of, standing_at, states_of, standing_after, Answers, Grows, HasLike, IsAt, IsReached, IsState, IsSeen, IsTried, AreTried, AreMoves, Keeps, Records}
 use Rattle.explore_core.proofs.Asking.{Shows-same}
-use Rattle.explore_core.proofs.Scheduling.{history_along-push}
-use Rattle.explore_core.proofs.Finding.{Grows-given, HasLike-kept, IsFollowed-none, IsFollowed-made, none-next, after-answers, comes-more}
+use Rattle.explore_core.proofs.Scheduling.{after-answers, comes-none, history_along-push}
+use Rattle.explore_core.proofs.Finding.{Grows-given, HasLike-kept, IsFollowed-none, IsFollowed-made, IsFollowed-held, none-next, comes-more}
 
 -- the first state, and a level without any
 
 pub first-state : (plan : Lines) (state : State) → state.schedule.items ≡ [] → state.made.items ≡ replicate (length plan.clients) 0 → IsState plan 0 state
 first-state plan state none made = record {
   deep = ap length none;
-  comes = subst (λ (s : Schedule). ComesTo plan s (standing_of plan s)) (sym none) refl;
+  comes = subst (λ (s : Schedule). ComesTo plan s (standing_of plan s)) (sym none) (comes-none plan);
   made = made ∙ ap (λ (s : Schedule). (standing_of plan s).made) (sym none);
 }
 
@@ -52,20 +54,19 @@ seen-after {plan} asked {schedule} {state} {look} {position} are more made shows
 
 -- what a client does
 
-pub reached-made : (plan : Lines) (schedule : Schedule) {client place : ℕ} {given : Answer} {seen : Seen} {position : Position}
-    → ComesTo plan schedule (standing_of plan schedule) → Answers plan (standing_of plan schedule) client place given
+pub reached-made : (plan : Lines) (schedule : Schedule) {client : ℕ} {seen : Seen} {position : Position}
+    → ComesTo plan schedule (standing_of plan schedule) → GoesOn plan (standing_of plan schedule) client
+    → after_one plan (standing_of plan schedule) client ≡ Some (standing_after plan (standing_of plan schedule) client)
     → IsAt position (standing_after plan (standing_of plan schedule) client) → seen.state.schedule.items ≡ schedule ++ client ∷ []
     → (ComesTo plan (schedule ++ client ∷ []) (standing_of plan (schedule ++ client ∷ [])) → IsAt position (standing_of plan (schedule ++ client ∷ []))
     → IsSeen plan (length (schedule ++ client ∷ [])) seen)
     → IsReached plan schedule client seen
-reached-made plan schedule {client} {place} {given} {seen} {position} comes a at kept make =
+reached-made plan schedule {client} {seen} {position} comes on goes at kept make =
     let now = standing_of plan schedule in
     let more : Schedule = schedule ++ client ∷ [] in
-    let goes = after-answers a in
-    let next = comes-more plan schedule client (after_line now client a.step) comes goes in
-    let to : standing_after plan now client ≡ standing_of plan more = ap (λ (o : Option Standing). unwrap_or o now) goes ∙ next.0 in
+    let next = comes-more plan schedule client (standing_after plan now client) comes on goes in
     let size : length more ≡ length schedule + 1 = length-append schedule (client ∷ []) in
-    (goes ∙ ap Some (next.0 ∙ ap (standing_of plan) (sym kept)), subst (λ n. IsSeen plan n seen) size (make next.1 (subst (IsAt position) to at)))
+    (goes ∙ ap Some (next.0 ∙ ap (standing_of plan) (sym kept)), subst (λ n. IsSeen plan n seen) size (make next.1 (subst (IsAt position) next.0 at)))
 
 pub next-here : (plan : Lines) (state : State) (client : ℕ) {place : ℕ} {made : List ℕ} {next : Option Step} → made ≡ (standing_at plan state).made → place ≡ get_or made client 0
     → slice_get (lines_of plan client) place ≡ next → (made_by (standing_at plan state) client ≡ place) × (next_line plan (standing_at plan state) client ≡ next)
@@ -75,52 +76,86 @@ next-here plan state client {place = place} made at is =
 
 -- what is listed and kept of it
 
-module _ {plan : Lines} {state : State} {schedule : Schedule} {client : ℕ} (is : schedule ≡ state.schedule.items) where
-  pub tried-done : (found : Found) (next : List State) → next_line plan (standing_of plan schedule) client ≡ None → IsTried plan found next state client move.Done
-  tried-done found next r =
-      let now = standing_at plan state in
-      let none : next_line plan now client ≡ None = subst (λ (s : Schedule). next_line plan (standing_of plan s) client ≡ None) is r in
-      record { followed = IsFollowed-none plan found next now client (none-next plan now client none); is = none }
+module _ {plan : Lines} {state : State} {client : ℕ} where
+  pub tried-done : (found : Found) (next : List State) → next_line plan (standing_at plan state) client ≡ None → IsTried plan found next state client move.Done
+  tried-done found next none = record { followed = IsFollowed-none plan found next (standing_at plan state) client (none-next plan (standing_at plan state) client none); is = none }
 
-  pub tried-waits : (found : Found) (next : List State) → after_one plan (standing_of plan schedule) client ≡ None → IsSome (next_line plan (standing_of plan schedule) client)
+  pub tried-waits : (found : Found) (next : List State) → after_one plan (standing_at plan state) client ≡ None → IsSome (next_line plan (standing_at plan state) client)
       → IsTried plan found next state client move.Waits
-  tried-waits found next held some =
-      let now = standing_at plan state in
-      let none : after_one plan now client ≡ None = subst (λ (s : Schedule). after_one plan (standing_of plan s) client ≡ None) is held in
-      record {
-        followed = IsFollowed-none plan found next now client none;
-        is = (none, subst (λ (s : Schedule). IsSome (next_line plan (standing_of plan s) client)) is some);
+  tried-waits found next held some = record { followed = IsFollowed-none plan found next (standing_at plan state) client held; is = (λ may. held, some) }
+
+  -- another client is inside a block
+  pub tried-held : (found : Found) (next : List State) → (MayGo plan (standing_at plan state).made client → ⊥) → IsSome (next_line plan (standing_at plan state) client)
+      → IsTried plan found next state client move.Waits
+  tried-held found next held some = record { followed = IsFollowed-held plan found next (standing_at plan state) client held; is = (λ may. absurd (held may), some) }
+
+module _ (plan : Lines) (state : State) {client place : ℕ} {given : Answer} (a : Answers plan (standing_at plan state) client place given) where
+  pub made-goes : after_one plan (standing_at plan state) client ≡ Some (standing_after plan (standing_at plan state) client)
+  made-goes = after-answers a ∙ ap Some (ap (λ (o : Option Standing). unwrap_or o (standing_at plan state)) (sym (after-answers a)))
+
+  module _ (line : Step) (is : next_line plan (standing_at plan state) client ≡ Some line) where
+    -- the answer of that line
+    given-is : answer_now (standing_at plan state).history line.command ≡ given
+    given-is = ap (λ (s : Step). answer_now (standing_at plan state).history s.command) (same_Some line a.step (sym is ∙ a.next)) ∙ sym a.answer
+
+    pub expected-here : is_expected given line.expects ≡ true → IsExpected plan (standing_at plan state) client
+    expected-here is_right = λ step next.
+        subst (λ (s : Step). is_expected (answer_now (standing_at plan state).history s.command) s.expects ≡ true) (same_Some line step (sym is ∙ next)) (ap (λ g. is_expected g line.expects) given-is ∙ is_right)
+
+    -- no schedule goes on after the line
+    pub tried-ended : (found : Found) (next : List State) → MayGo plan (standing_at plan state).made client → Lists found.given.items client place given → is_expected given line.expects ≡ false → IsTried plan found next state client move.Alone
+    tried-ended found next may lists isnt = record {
+      followed = IsFollowed-made plan found next (standing_at plan state) client place given (standing_after plan (standing_at plan state) client) a made-goes lists
+          (λ on. absurd (false≢true (sym isnt ∙ sym (ap (λ g. is_expected g line.expects) given-is) ∙ on.expected line is)));
+      is = (may, standing_after plan (standing_at plan state) client, made-goes);
+    }
+
+    module _ (found : Found) (next : List State) (may : MayGo plan (standing_at plan state).made client) (lists : Lists found.given.items client place given) (has : HasLike plan next (standing_after plan (standing_at plan state) client)) where
+      -- a client that is inside a block after its line
+      pub tried-inside : IsTried plan found next state client move.Alone
+      tried-inside = record {
+        followed = IsFollowed-made plan found next (standing_at plan state) client place given (standing_after plan (standing_at plan state) client) a made-goes lists (λ on. has);
+        is = (may, standing_after plan (standing_at plan state) client, made-goes);
       }
 
-  module _ {depth place : ℕ} {given : Answer} (from : IsState plan depth state) (a : Answers plan (standing_of plan schedule) client place given) where
-    comes-here : ComesTo plan schedule (standing_of plan schedule)
-    comes-here = subst (λ (s : Schedule). ComesTo plan s (standing_of plan s)) (sym is) from.comes
+      pub tried-made : is_expected given line.expects ≡ true → is_in_block plan (standing_after plan (standing_at plan state) client).made client ≡ false → IsTried plan found next state client move.Goes
+      tried-made is_right outside = record {
+        followed = IsFollowed-made plan found next (standing_at plan state) client place given (standing_after plan (standing_at plan state) client) a made-goes lists (λ on. has);
+        is = (
+          (may, standing_after plan (standing_at plan state) client, made-goes),
+          λ may later goes. record {
+            expected = expected-here is_right;
+            outside = subst (λ (s : Standing). is_in_block plan s.made client ≡ false) (same_Some (standing_after plan (standing_at plan state) client) later (sym made-goes ∙ goes)) outside;
+          },
+        );
+      }
 
-    pub Grows-answered : (old new : Found) → Records old.given.items new.given.items client place given schedule → new.ended ≡ old.ended → new.races ≡ old.races → new.stuck ≡ old.stuck → new.states ≡ old.states → new.covered ≡ old.covered → Grows plan depth old new
-    Grows-answered old new records ended races stuck states covered =
-        let answered : IsAnswered plan schedule client place given =
-        record { now = standing_of plan schedule; comes = comes-here; at = a.at; step = a.step; next = a.next; made = a.made; answer = a.answer } in
-        Grows-given plan depth old new client place given schedule records answered ended races stuck states covered
+module _ {plan : Lines} {state : State} {schedule : Schedule} {client : ℕ} (is : schedule ≡ state.schedule.items) where
+  pub Grows-answered : {depth place : ℕ} {given : Answer} → IsState plan depth state → MayGo plan (standing_at plan state).made client → Answers plan (standing_at plan state) client place given
+      → (old new : Found) → Records old.given.items new.given.items client place given schedule → new.ended ≡ old.ended → new.races ≡ old.races → new.stuck ≡ old.stuck → new.states ≡ old.states → new.covered ≡ old.covered → Grows plan depth old new
+  Grows-answered {depth} {place} {given} from may a old new records ended races stuck states covered =
+      let answered : IsAnswered plan state.schedule.items client place given =
+      record { now = standing_at plan state; comes = from.comes; may = may; at = a.at; step = a.step; next = a.next; made = a.made; answer = a.answer } in
+      Grows-given plan depth old new client place given schedule records (subst (λ (s : Schedule). IsAnswered plan s client place given) (sym is) answered) ended races stuck states covered
 
-    pub later-reached : {later : Seen} {position : Position} → IsAt position (standing_after plan (standing_of plan schedule) client) → later.state.schedule.items ≡ schedule ++ client ∷ []
+  module _ {depth : ℕ} (from : IsState plan depth state) (on : GoesOn plan (standing_at plan state) client) (goes : after_one plan (standing_at plan state) client ≡ Some (standing_after plan (standing_at plan state) client)) where
+    pub later-reached : {later : Seen} {position : Position} → IsAt position (standing_after plan (standing_at plan state) client) → later.state.schedule.items ≡ schedule ++ client ∷ []
         → (ComesTo plan (schedule ++ client ∷ []) (standing_of plan (schedule ++ client ∷ [])) → IsAt position (standing_of plan (schedule ++ client ∷ []))
         → IsSeen plan (length (schedule ++ client ∷ [])) later)
-        → IsReached plan schedule client later
-    later-reached at kept make = reached-made plan schedule comes-here a at kept make
+        → IsReached plan state.schedule.items client later
+    later-reached {later} {position} at kept make =
+        subst (λ (s : Schedule). later.state.schedule.items ≡ s ++ client ∷ []
+        → (ComesTo plan (s ++ client ∷ []) (standing_of plan (s ++ client ∷ [])) → IsAt position (standing_of plan (s ++ client ∷ [])) → IsSeen plan (length (s ++ client ∷ [])) later)
+        → IsReached plan state.schedule.items client later) (sym is) (reached-made plan state.schedule.items from.comes on goes at) kept make
 
-    module _ {later : Seen} (r : IsReached plan schedule client later) where
+    module _ {later : Seen} (r : IsReached plan state.schedule.items client later) where
       pub later-seen : IsSeen plan (depth + 1) later
-      later-seen = subst (λ n. IsSeen plan (n + 1) later) (ap length is ∙ from.deep) r.1
+      later-seen = subst (λ n. IsSeen plan (n + 1) later) from.deep r.1
 
-      pub tried-made : {found : Found} {old new : List Seen} → CanBeExplored plan → All (IsSeen plan (depth + 1)) old → Lists found.given.items client place given → Keeps old later new
-          → IsTried plan found (states_of new) state client move.Goes
-      tried-made {found} {old} {new} can all lists keeps =
-          let goes = (subst (λ (s : Schedule). IsReached plan s client later) is r).0 in
-          let answers = subst (λ (s : Schedule). Answers plan (standing_of plan s) client place given) is a in
-          record {
-            followed = IsFollowed-made plan found (states_of new) (standing_at plan state) client place given (standing_at plan later.state) answers goes lists (HasLike-kept can all keeps later-seen);
-            is = (standing_at plan later.state, goes);
-          }
+      pub later-kept : {old new : List Seen} → CanBeExplored plan → All (IsSeen plan (depth + 1)) old → Keeps old later new → HasLike plan (states_of new) (standing_after plan (standing_at plan state) client)
+      later-kept {old} {new} can all keeps =
+          let to = same_Some (standing_after plan (standing_at plan state) client) (standing_at plan later.state) (sym goes ∙ r.0) in
+          subst (HasLike plan (states_of new)) (sym to) (HasLike-kept can all keeps later-seen)
 
 -- of some clients, the first of them
 
@@ -128,6 +163,7 @@ fewer : (plan : Lines) (now : Standing) (n m : ℕ) (moves : Move) → m ≤ n �
 fewer plan now n m move.Done less are = λ client few. are client (omega (arith, few, less))
 fewer plan now n m move.Waits less are = (λ client few. are.0 client (omega (arith, few, less)), are.1, are.2)
 fewer plan now n m move.Goes less are = are
+fewer plan now n m move.Alone less are = are
 
 pub AreTried-fewer : {plan : Lines} {found : Found} {next : List State} {state : State} {n m : ℕ} {moves : Move} → m ≤ n → AreTried plan found next state n moves → AreTried plan found next state m moves
 AreTried-fewer {plan} {found} {next} {state} {n} {m} {moves} less tried = record {

@@ -16,7 +16,7 @@ use Rattle.explore_core.specs.Alike.{after_answer}
 use Rattle.explore_core.specs.Schedule.{Lines, Standing, answer_now, history_with, made_by, next_line, place_after, after_line, after_one}
 use Rattle.explore_core.specs.Search.{Answers, IsAt, keeps_world, stays, standing_after}
 use Rattle.explore_core.proofs.Covering.{world-with}
-use Rattle.explore_core.proofs.Finding.{after-answers}
+use Rattle.explore_core.proofs.Scheduling.{after-answers}
 
 -- a command that only asks, or is refused, leaves the world
 

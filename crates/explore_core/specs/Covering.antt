@@ -4,7 +4,7 @@ use Rattle.command_core.specs.declared.answer.Answer.{Answer}
 use Rattle.desk_core.specs.theorem.History.{world_of}
 use Rattle.explore_core.specs.declared.plan.Step.{Step}
 use Rattle.explore_core.specs.Alike.{AsksOnly, AreAlike}
-use Rattle.explore_core.specs.Schedule.{Lines, Standing, lines_of, next_line, made_by, can_be_made, answer_now}
+use Rattle.explore_core.specs.Schedule.{Lines, Standing, lines_of, next_line, made_by, can_be_made, answer_now, MayGo}
 
 -- the lines of clients, and the commands at the end, ask what a file lists only of these files, and ask for no report
 pub record MayAsk (asked : List ℕ → Bool) (plan : Lines) : Type 0 where
@@ -20,10 +20,11 @@ pub record GoOnAlike (asked : List ℕ → Bool) (now other : Standing) : Type 0
 abbrev pub HasAlike : (List ℕ → Bool) → List Standing → Standing → Type 0
 HasAlike asked kept now = (other : Standing) × Contains kept other × GoOnAlike asked now other
 
--- at a kept standing the client makes its line at this place, and gets this answer
+-- at a kept standing the client may go, makes its line at this place, and gets this answer
 pub record AnswersThere (plan : Lines) (kept : List Standing) (client place : ℕ) (given : Answer) : Type 0 where
   pub now : Standing
   pub there : Contains kept now
+  pub may : MayGo plan now.made client
   pub at : made_by now client ≡ place
   pub step : Step
   pub next : next_line plan now client ≡ Some step

@@ -1,5 +1,6 @@
 pub mod Access
 pub mod Alike
+pub mod Blocks
 pub mod Branch
 pub mod Choice
 pub mod Choosing

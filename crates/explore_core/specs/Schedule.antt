@@ -1,10 +1,11 @@
 -- The schedules of a plan.
-use Rattle.std.specs.Prelude.{◌≡◌, ℕ, ◌+◌, nat_lt, Bool, true, not, ◌&&◌, if◌then◌else◌, List, [], ◌∷◌, length, replicate, get_or, set, slice_get, take, unwrap_or, Option, None, Some, IsSome}
+use Rattle.std.specs.Prelude.{◌≡◌, ℕ, ◌+◌, nat_lt, Bool, true, not, ◌&&◌, if◌then◌else◌, List, [], ◌∷◌, length, replicate, get_or, set, slice_get, take, unwrap_or, Option, None, Some, IsSome, ◌≢◌, false, ⊤}
 use Rattle.std.specs.Str.{bytes_eq}
 use Rattle.command_core.specs.declared.command.Command.{Command}
 use Rattle.command_core.specs.declared.answer.Answer.{Answer}
 use Rattle.report_core.specs.Answer.{first_line_of}
 use Rattle.explore_core.specs.Branch.{Branching}
+use Rattle.explore_core.specs.Expects.{is_expected}
 use Rattle.explore_core.specs.declared.access.Access.{Access}
 use Rattle.explore_core.specs.declared.plan.Milestone.{Milestone}
 use Rattle.explore_core.specs.declared.plan.Step.{Step}
@@ -99,23 +100,52 @@ abbrev pub Leads : Lines → Standing → Schedule → Standing → Type 0
 Leads plan from [] to = from ≡ to
 Leads plan from (client ∷ clients) to = (next : Standing) × (after_one plan from client ≡ Some next) × Leads plan next clients to
 
--- from the beginning of the plan, the schedule leads to that standing
-abbrev pub ComesTo : Lines → Schedule → Standing → Type 0
-ComesTo plan schedule to = Leads plan (beginning plan) schedule to
+-- the line is one step with the client's line above it
+abbrev pub is_joined : Option Step → Bool
+is_joined None = false
+is_joined (Some step) = step.joined
 
--- no client can make its next line
+-- the client is inside a block: its next line is one step with the line above it
+abbrev pub is_in_block : Lines → List ℕ → ℕ → Bool
+is_in_block plan made client = is_joined (slice_get (lines_of plan client) (get_or made client 0))
+
+-- no other client is inside a block
+abbrev pub MayGo : Lines → List ℕ → ℕ → Type 0
+MayGo plan made client = (other : ℕ) → other ≢ client → is_in_block plan made other ≡ false
+
+-- the answer of the client's next line is expected
+abbrev pub IsExpected : Lines → Standing → ℕ → Type 0
+IsExpected plan now client = (step : Step) → next_line plan now client ≡ Some step → is_expected (answer_now now.history step.command) step.expects ≡ true
+
+-- the client may go, and a schedule goes on after its line
+pub record GoesOn (plan : Lines) (now : Standing) (client : ℕ) : Type 0 where
+  pub may : MayGo plan now.made client
+  pub expected : IsExpected plan now client
+
+-- the schedule goes on after each of its lines
+abbrev pub Counts : Lines → Standing → Schedule → Type 0
+Counts plan now [] = ⊤
+Counts plan now (client ∷ clients) = GoesOn plan now client × ((next : Standing) → after_one plan now client ≡ Some next → Counts plan next clients)
+
+-- from the beginning of the plan, the schedule leads to that standing: each client may go, and the answers are expected
+pub record ComesTo (plan : Lines) (schedule : Schedule) (to : Standing) : Type 0 where
+  pub leads : Leads plan (beginning plan) schedule to
+  pub counts : Counts plan (beginning plan) schedule
+
+-- no client that may go can make its next line
 abbrev pub IsLast : Lines → Standing → Type 0
-IsLast plan now = (client : ℕ) → after_one plan now client ≡ None
+IsLast plan now = (client : ℕ) → MayGo plan now.made client → after_one plan now client ≡ None
 
--- no client can make its next line, though one of them is not done
+-- no client that may go can make its next line, though one of them is not done
 pub record IsStuck (plan : Lines) (now : Standing) : Type 0 where
-  pub nobody : (client : ℕ) → after_one plan now client ≡ None
+  pub nobody : (client : ℕ) → MayGo plan now.made client → after_one plan now client ≡ None
   pub waiting : (client : ℕ) × IsSome (next_line plan now client)
 
--- after the schedule the client makes its line at this place, and gets this answer
+-- After the schedule the client makes its line at this place, and gets this answer. Whether a schedule goes on after it is another matter.
 pub record IsAnswered (plan : Lines) (schedule : Schedule) (client place : ℕ) (given : Answer) : Type 0 where
   pub now : Standing
   pub comes : ComesTo plan schedule now
+  pub may : MayGo plan now.made client
   pub at : made_by now client ≡ place
   pub step : Step
   pub next : next_line plan now client ≡ Some step

@@ -32,7 +32,7 @@ use Rattle.explore_core.specs.declared.found.Race.{Race}
 use Rattle.explore_core.specs.Access.{RaceAt}
 use Rattle.explore_core.specs.Covering.{GoOnAlike}
 use Rattle.explore_core.specs.Found.{IsTrue, IsOther, ListsOnce, ListsRace, IsShortest, Lists, stuck_of}
-use Rattle.explore_core.specs.Schedule.{Lines, Standing, Schedule, answer_now, history_with, history_along, beginning, made_by, next_line, can_be_made, after_one, ComesTo}
+use Rattle.explore_core.specs.Schedule.{Lines, Standing, Schedule, answer_now, history_with, history_along, beginning, made_by, next_line, can_be_made, after_one, is_in_block, ComesTo, GoesOn, IsExpected, MayGo}
 
 -- the standing after the client's next line, or the same standing if it can't make one
 abbrev pub standing_after : Lines → Standing → ℕ → Standing
@@ -330,16 +330,30 @@ IsReached plan schedule client seen =
     (after_one plan (standing_of plan schedule) client ≡ Some (standing_at plan seen.state))
     × IsSeen plan (length schedule + 1) seen
 
--- the client is done, waits, or makes its line
+-- after the client's line, which leads to that standing, other clients may go
+pub record LetsOthers (plan : Lines) (now : Standing) (client : ℕ) (later : Standing) : Type 0 where
+  pub expected : IsExpected plan now client
+  pub outside : is_in_block plan later.made client ≡ false
+
+-- if the client makes its line, other clients may go after it
+abbrev pub IsOnward : Lines → Standing → ℕ → Type 0
+IsOnward plan now client = MayGo plan now.made client → (later : Standing) → after_one plan now client ≡ Some later → LetsOthers plan now client later
+
+-- the client may go, and makes its line
+abbrev pub Makes : Lines → Standing → ℕ → Type 0
+Makes plan now client = MayGo plan now.made client × (later : Standing) × (after_one plan now client ≡ Some later)
+
+-- the client is done, waits, or makes its line, after which others may go or not
 abbrev pub IsMove : Lines → Standing → ℕ → Move → Type 0
 IsMove plan now client move.Done = next_line plan now client ≡ None
-IsMove plan now client move.Waits = (after_one plan now client ≡ None) × IsSome (next_line plan now client)
-IsMove plan now client move.Goes = (later : Standing) × (after_one plan now client ≡ Some later)
+IsMove plan now client move.Waits = (MayGo plan now.made client → after_one plan now client ≡ None) × IsSome (next_line plan now client)
+IsMove plan now client move.Goes = Makes plan now client × IsOnward plan now client
+IsMove plan now client move.Alone = Makes plan now client
 
--- the client's answer at the state is listed, and the state that it leads to is kept
+-- If the client may go from the standing, its answer is listed. If a schedule goes on after it, the state that it leads to is kept.
 pub record IsFollowed (plan : Lines) (found : Found) (next : List State) (now : Standing) (client : ℕ) : Type 0 where
-  pub listed : (place : ℕ) (answer : Answer) → Answers plan now client place answer → Lists found.given.items client place answer
-  pub kept : (later : Standing) → after_one plan now client ≡ Some later → HasLike plan next later
+  pub listed : MayGo plan now.made client → (place : ℕ) (answer : Answer) → Answers plan now client place answer → Lists found.given.items client place answer
+  pub kept : GoesOn plan now client → (later : Standing) → after_one plan now client ≡ Some later → HasLike plan next later
 
 pub record IsTried (plan : Lines) (found : Found) (next : List State) (state : State) (client : ℕ) (move : Move) : Type 0 where
   pub followed : IsFollowed plan found next (standing_at plan state) client
@@ -349,8 +363,9 @@ pub record IsTried (plan : Lines) (found : Found) (next : List State) (state : S
 abbrev pub AreMoves : Lines → Standing → ℕ → Move → Type 0
 AreMoves plan now clients move.Done = (client : ℕ) → client < clients → next_line plan now client ≡ None
 AreMoves plan now clients move.Waits =
-    ((client : ℕ) → client < clients → after_one plan now client ≡ None) × (client : ℕ) × IsSome (next_line plan now client)
-AreMoves plan now clients move.Goes = (client : ℕ) × (later : Standing) × (after_one plan now client ≡ Some later)
+    ((client : ℕ) → client < clients → MayGo plan now.made client → after_one plan now client ≡ None) × (client : ℕ) × IsSome (next_line plan now client)
+AreMoves plan now clients move.Goes = (client : ℕ) × Makes plan now client
+AreMoves plan now clients move.Alone = (client : ℕ) × Makes plan now client
 
 pub record AreTried (plan : Lines) (found : Found) (next : List State) (state : State) (clients : ℕ) (moves : Move) : Type 0 where
   pub followed : (client : ℕ) → client < clients → IsFollowed plan found next (standing_at plan state) client
@@ -359,10 +374,19 @@ pub record AreTried (plan : Lines) (found : Found) (next : List State) (state : 
 -- what some clients do, and one more client
 abbrev pub together : Move → Move → Move
 together move.Goes one = move.Goes
+together move.Alone one = move.Goes
 together move.Waits move.Goes = move.Goes
+together move.Waits move.Alone = move.Goes
 together move.Waits move.Done = move.Waits
 together move.Waits move.Waits = move.Waits
 together move.Done one = one
+
+-- no other client goes after the client
+abbrev pub is_alone : Move → Bool
+is_alone move.Alone = true
+is_alone move.Goes = false
+is_alone move.Waits = false
+is_alone move.Done = false
 
 -- the answers of the first commands at the end are listed
 abbrev pub AreEndsListed : Lines → List Command → List Given → ℕ → Type 0

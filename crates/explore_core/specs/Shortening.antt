@@ -8,20 +8,20 @@ use Rattle.explore_core.specs.declared.shortening.Shown.{Shown}
 use Rattle.explore_core.specs.declared.shortening.Shown.TheVariants as shown
 use Rattle.explore_core.specs.Access.{RaceAt, IsRace}
 use Rattle.explore_core.specs.Moving.{LineAnswer}
-use Rattle.explore_core.specs.Schedule.{Lines, Standing, Schedule, after_one, Leads, IsAnswered}
+use Rattle.explore_core.specs.Schedule.{Lines, Standing, Schedule, after_one, ComesTo, GoesOn, IsAnswered, MayGo}
 use Rattle.explore_core.specs.Search.{Answers, IsAt}
 
--- the client can make its next line, and the desk is at the standing after it
+-- a schedule goes on after the client's next line, and the desk is at the standing after it
 abbrev pub GoesTo : Lines → Standing → ℕ → Position → Type 0
-GoesTo plan now client position = (later : Standing) × (after_one plan now client ≡ Some later) × IsAt position later
+GoesTo plan now client position = GoesOn plan now client × (later : Standing) × (after_one plan now client ≡ Some later) × IsAt position later
 
--- the clients can go in the order of the schedule, and the desk is at the standing that it leads to
-abbrev pub GoesAlong : Lines → Standing → Schedule → Position → Type 0
-GoesAlong plan from schedule position = (to : Standing) × Leads plan from schedule to × IsAt position to
+-- the desk is at the standing that the schedule comes to
+abbrev pub GoesAlong : Lines → Schedule → Position → Type 0
+GoesAlong plan schedule position = (to : Standing) × ComesTo plan schedule to × IsAt position to
 
 -- at the standing the line gets the answer, or the accesses are a race
 abbrev pub Happens : Lines → Standing → Shown → Type 0
-Happens plan now (shown.Answer client place answer) = Answers plan now client place answer.now
+Happens plan now (shown.Answer client place answer) = MayGo plan now.made client × Answers plan now client place answer.now
 Happens plan now (shown.Race one other) = RaceAt plan now.made one other
 
 -- the line gets the answer after the schedule, or the accesses are a race there

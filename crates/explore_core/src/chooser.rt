@@ -1,13 +1,14 @@
 //! `Chooser`: which clients go at a state. Where a few clients are enough to know where every schedule leads, only these go. It asks
 //! `choose` for a choice, which is followed only if `is_persistent` finds it so. The search has one for a plan.
 //!
-//! Invariant, of a chooser that is ready for the plan: if it chooses, the plan is calm.
+//! Invariant, of a chooser that is ready for the plan: if it chooses, the plan is calm, and no client waits inside a block.
 ghost use Rattle.std.specs.Prelude.{◌≡◌, true, IfOk};
 ghost use Rattle.explore_core.specs.Choosing.{IsReady, IsChoiceAt};
 ghost use Rattle.explore_core.specs.Found.{CanBeExplored};
 ghost use Rattle.explore_core.specs.Schedule.{Standing};
 ghost use Rattle.explore_core.specs.Search.{AreAsked, IsAt};
 
+use crate::block::{are_outside, never_waits};
 use crate::choice::Choice;
 use crate::persistence::is_persistent;
 use crate::plan::Plan;
@@ -37,11 +38,12 @@ impl Chooser {
         requires explorable { CanBeExplored plan.now }
         ensures ready { IsReady plan.now result }
     {
-        let chooses = orders.are_enough() && is_calm(plan);
+        let chooses = orders.are_enough() && is_calm(plan) && never_waits(plan);
         Chooser { chooses }
     }
 
-    /// Chooses clients at the state where the position is. Whether no other needs to go there.
+    /// Chooses clients at the state where the position is. Whether no other needs to go there, if others may go behind their lines. It
+    /// chooses none where a client is inside a block: only that one may go.
     pub(crate) fn choose(
         &self,
         alloc: Global,
@@ -54,7 +56,7 @@ impl Chooser {
         ensures enough { IfOk result (λ enough. enough ≡ true → (now : Standing) → IsAt position.now now →
             IsChoiceAt plan.now self.now now choice.new) }
     {
-        if !self.chooses {
+        if !self.chooses || !are_outside(plan, position.made.as_slice()) {
             return Ok(false);
         }
         choose(alloc, plan, asked, position, choice)?;

@@ -6,6 +6,7 @@
 #![tactic(auto)]
 
 mod access;
+mod block;
 mod choice;
 mod chooser;
 mod expects;

@@ -27,9 +27,10 @@ pub struct Step {
     pub branch: Option<Branch>,
     /// The client doesn't make the line before this is passed.
     pub after: Option<Milestone>,
-    /// Whether the line is one step with the client's line above it: no other client goes between them.
+    /// Whether the line is one step with the client's line above it: no other client goes between them. Such lines are a block. A plan
+    /// in which a client waits inside a block is explored without a choice of clients.
     pub joined: bool,
-    /// Which answers are expected of the line: a schedule ends at any other.
+    /// Which answers are expected of the line: a schedule ends at any other, which is listed still.
     pub expects: Expects,
     /// The line's place in the order that shown schedules keep near to, such as that of a recorded run.
     pub turn: usize,

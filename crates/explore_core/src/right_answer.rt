@@ -1,8 +1,12 @@
 //! `RightAnswers`: the answers that are expected of a line, by their texts. `Expects` has them.
-ghost use Rattle.std.specs.Prelude.{◌≡◌};
+ghost use Rattle.std.specs.Prelude.{◌≡◌, IfOk};
 ghost use Rattle.std.specs.List.{list_any};
+ghost use Rattle.report_core.specs.Answer.{text_of};
 ghost use Rattle.explore_core.specs.Right.{is_right};
 
+use command_core::Answer;
+use report_core::print;
+use std::alloc::{AllocError, Global};
 use std::marker::Model;
 
 /// The answers that are expected of a line.
@@ -38,6 +42,17 @@ impl Model for RightAnswer {
 }
 
 impl RightAnswers {
+    /// Whether the answer is one of these.
+    pub(crate) fn include(&self, alloc: Global, answer: &Answer) -> Result<bool, AllocError>
+        ensures include { IfOk result (λ yes. yes ≡ list_any (is_right (text_of 0 answer.now)) self.now) }
+    {
+        let mut text = Vec::new(alloc);
+        let Ok(()) = print(0, answer, &mut text) else {
+            return Err(AllocError);
+        };
+        Ok(self.have(text.as_slice()))
+    }
+
     /// Whether that is the text of one of the answers.
     pub(crate) fn have(&self, text: &[u8]) -> bool
         ensures have { result ≡ list_any (is_right text.now) self.now }

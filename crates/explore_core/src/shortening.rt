@@ -2,10 +2,12 @@
 //! thousands of answers, and a report shows few of their schedules: `explore_report` shortens these.
 ghost use Rattle.std.specs.Prelude.{◌≡◌, ◌≤◌, [], true, false, length, IfOk, OnOk};
 ghost use Rattle.explore_core.specs.Access.{RaceAt};
-ghost use Rattle.explore_core.specs.Schedule.{Standing, beginning};
+ghost use Rattle.explore_core.specs.declared.shortening.Turn.TheVariants.{Goes, Stays};
+ghost use Rattle.explore_core.specs.Schedule.{MayGo, Standing};
 ghost use Rattle.explore_core.specs.Search.{Answers, IsAt};
 ghost use Rattle.explore_core.specs.Shortening.{GoesAlong, GoesTo, Happens, IsTrueAnswer, IsTrueRace, IsShownAfter, line_of, pair_of};
 
+use crate::block::may_go;
 use crate::found::{Given, Race};
 use crate::listing::is_same_answer;
 use crate::plan::Plan;
@@ -22,6 +24,17 @@ enum Shown<'a> {
     Answer(usize, usize, &'a Answer),
     /// The two accesses are a race.
     Race(usize, usize),
+}
+
+/// What a client does in a schedule that is run again.
+#[derive(Clone, Copy)]
+enum Turn {
+    /// It makes its next line.
+    Goes,
+    /// It makes none.
+    Stays,
+    /// It makes a line after which no schedule goes on.
+    Ends,
 }
 
 impl Given {
@@ -152,50 +165,64 @@ fn is_shown_without(
     ensures shown { IfOk result (λ yes. yes ≡ true → IsShownAfter plan.now shown.now gone.new.items) }
     ensures shorter { OnOk result (length gone.new.items ≤ length schedule.now) }
 {
-    go_along(plan, cut, position, schedule, gone)?;
+    if !go_along(plan, cut, position, schedule, gone)? {
+        return Ok(false);
+    }
     happens(plan, shown, position)
 }
 
 /// The clients make their next lines in the order of the schedule, from the beginning, but for those that are left out or can't be made.
-/// Those that have gone are listed.
+/// Those that have gone are listed. Whether the schedule goes on up to its end.
 fn go_along(
     plan: &Plan,
     cut: Cut,
     position: &mut Position,
     schedule: &[usize],
     gone: &mut Vec<usize>,
-) -> Result<(), AllocError>
+) -> Result<bool, AllocError>
     requires none { gone.old.items ≡ [] }
-    ensures along { OnOk result (GoesAlong plan.now (beginning plan.now) gone.new.items position.new) }
+    ensures along { IfOk result (λ on. on ≡ true → GoesAlong plan.now gone.new.items position.new) }
     ensures shorter { OnOk result (length gone.new.items ≤ length schedule.now) }
 {
     position.restart(plan, &[])?;
     for client in schedule {
-        if go_one(plan, cut, position, *client)? {
-            gone.push(*client)?;
+        match go_one(plan, cut, position, *client, *gone.allocator())? {
+            Turn::Goes => gone.push(*client)?,
+            Turn::Stays => {}
+            Turn::Ends => return Ok(false),
         }
     }
-    Ok(())
+    Ok(true)
 }
 
-/// The client makes its next line, unless that is left out or can't be made; whether it does.
-fn go_one(plan: &Plan, cut: Cut, position: &mut Position, client: usize) -> Result<bool, AllocError>
-    ensures after { IfOk result (λ goes. goes ≡ true → (now : Standing) →
+/// The client makes its next line, unless that is left out or can't be made.
+fn go_one(
+    plan: &Plan,
+    cut: Cut,
+    position: &mut Position,
+    client: usize,
+    alloc: Global,
+) -> Result<Turn, AllocError>
+    ensures after { IfOk result (λ turn. turn ≡ Goes → (now : Standing) →
         IsAt position.old now → GoesTo plan.now now client position.new) }
-    ensures stays { IfOk result (λ goes. goes ≡ false → (now : Standing) → IsAt position.old now → IsAt position.new now) }
+    ensures stays { IfOk result (λ turn. turn ≡ Stays → (now : Standing) → IsAt position.old now → IsAt position.new now) }
 {
     let place = place_of(position.made.as_slice(), client);
-    if cut.leaves_out(client, place) {
-        return Ok(false);
+    if cut.leaves_out(client, place) || !may_go(plan, position.made.as_slice(), client) {
+        return Ok(Turn::Stays);
     }
     let Some(step) = line_at(plan, client, place) else {
-        return Ok(false);
+        return Ok(Turn::Stays);
     };
     let Some(answer) = position.go(client, place, step)? else {
-        return Ok(false);
+        return Ok(Turn::Stays);
     };
+    let is_expected = step.expects.include(alloc, &answer);
     drop(answer);
-    Ok(true)
+    if is_expected? {
+        return Ok(Turn::Goes);
+    }
+    Ok(Turn::Ends)
 }
 
 /// Whether it happens at the position. A line whose answer it is, is made.
@@ -216,10 +243,12 @@ fn gets(
     place: usize,
     answer: &Answer,
 ) -> Result<bool, AllocError>
+    ensures may { IfOk result (λ gets. gets ≡ true → (now : Standing) → IsAt position.old now → MayGo plan.now now.made client) }
     ensures answers { IfOk result (λ gets. gets ≡ true → (now : Standing) →
         IsAt position.old now → Answers plan.now now client place answer.now) }
 {
-    if place_of(position.made.as_slice(), client) != place {
+    let made = position.made.as_slice();
+    if place_of(made, client) != place || !may_go(plan, made, client) {
         return Ok(false);
     }
     let Some(step) = line_at(plan, client, place) else {

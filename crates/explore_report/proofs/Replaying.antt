@@ -61,7 +61,7 @@ along-history plan from (client ∷ schedule) =
     ∙ along-history plan next schedule
 
 comes-standing : (plan : Lines) (schedule : Schedule) (now : Standing) → ComesTo plan schedule now → standing_to plan schedule ≡ now
-comes-standing plan schedule now comes = leads-standing plan (beginning plan) schedule now comes
+comes-standing plan schedule now comes = leads-standing plan (beginning plan) schedule now comes.leads
 
 comes-history : (plan : Lines) (schedule : Schedule) (now : Standing) → ComesTo plan schedule now → history_along [] (commands_to plan schedule) ≡ now.history
 comes-history plan schedule now comes =

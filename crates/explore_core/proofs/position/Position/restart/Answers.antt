@@ -14,5 +14,5 @@ returns c = record {
       c.in_ok-go_along.ensures.along (beginning plan) (standing_of plan c.args.schedule.now) (record {
         desk = subst (λ cs. HasHistory c.make_all.new.desk (history_along [] cs)) first (c.in_ok-make_all.ensures.along [] c.clear.ensures.empty);
         made = c.in_ok-clear_made.ensures.none ∙ ap (λ n. replicate n 0) clients;
-      }) c.requires.comes;
+      }) c.requires.comes.leads;
 }

@@ -1,7 +1,7 @@
 use Rattle.std.proofs.Common.{length, subst}
 use Rattle.explore_core.specs.Search.{AreTried, states_of}
 use Rattle.explore_core.proofs.Levels.{Advances-trans}
-use Rattle.explore_core.proofs.Finding.{IsLeft-goes, IsLeft-waits, IsLeft-done, stuck-waits, done-all}
+use Rattle.explore_core.proofs.Finding.{IsLeft-alone, IsLeft-goes, IsLeft-waits, IsLeft-done, stuck-waits, done-all}
 use Rattle.explore_core.proofs.tour.Tour.follow_all.Goals as goal
 
 pub returns-in-Goes-clause-left : goal.returns-in-Goes-clause-left
@@ -11,6 +11,14 @@ returns-in-Goes-clause-left c =
     let next = states_of tour.next.seen in
     let state = c.args.state.now in
     IsLeft-goes plan tour.found next state (subst (AreTried plan tour.found next state (length plan.clients)) c.in-Goes.is c.in_ok-try_each.ensures.tried)
+
+pub returns-in-Alone-clause-left : goal.returns-in-Alone-clause-left
+returns-in-Alone-clause-left c =
+    let plan = c.args.setup.now.plan.now in
+    let tour = c.try_each.new.self in
+    let next = states_of tour.next.seen in
+    let state = c.args.state.now in
+    IsLeft-alone plan tour.found next state (subst (AreTried plan tour.found next state (length plan.clients)) c.in-Alone.is c.in_ok-try_each.ensures.tried)
 
 pub show_stuck-requires-clause-stuck : goal.show_stuck-requires-clause-stuck
 show_stuck-requires-clause-stuck c =

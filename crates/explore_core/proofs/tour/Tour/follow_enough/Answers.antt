@@ -1,7 +1,7 @@
 use Rattle.std.proofs.Common.{sym, ap, ◌∙◌, subst}
 use Rattle.explore_core.specs.Schedule.{Schedule, ComesTo}
 use Rattle.explore_core.specs.Search.{IsAt, has_name, standing_at, standing_of}
-use Rattle.explore_core.proofs.Levels.{Advances-refl}
+use Rattle.explore_core.proofs.Levels.{Advances-refl, Advances-trans}
 use Rattle.explore_core.proofs.Finding.{IsLeft-chosen}
 use Rattle.explore_core.proofs.tour.Tour.follow_enough.Goals as goal
 
@@ -29,9 +29,14 @@ follow_all-requires-clause-at c = λ fresh.
     let plan = c.args.setup.now.plan.now in
     subst (λ (s : Schedule). IsAt c.come_back.new.self.position (standing_of plan s)) c.as_slice.ensures.value (c.in_ok-come_back.ensures.at (c.leave.ensures (standing_of plan c.as_slice.result.now)))
 
-pub returns-then-is_enough-clause-left : goal.returns-then-is_enough-clause-left
-returns-then-is_enough-clause-left c =
+pub returns-then-branch-clause-left : goal.returns-then-branch-clause-left
+returns-then-branch-clause-left c =
     let plan = c.args.setup.now.plan.now in
     let state = c.args.state.now in
     let at = subst (λ (s : Schedule). IsAt c.come_back.new.self.position (standing_of plan s)) c.as_slice.ensures.value (c.in_ok-come_back.ensures.at (c.leave.ensures (standing_of plan c.as_slice.result.now))) in
-    IsLeft-chosen {chooser = c.args.setup.now.chooser} state c.requires.state c.requires.setup.ready (c.in_ok-is_enough.ensures.enough c.if-is_enough.true (standing_at plan state) at) c.in_ok-follow_chosen.ensures.followed
+    let enough = c.in_ok-follow_chosen.ensures in
+    IsLeft-chosen {chooser = c.args.setup.now.chooser} state c.requires.state c.requires.setup.ready (c.in_ok-is_enough.ensures.enough c.if-not-is_enough.false (standing_at plan state) at)
+    (enough.followed c.if-branch.true) (enough.onward c.if-branch.true)
+
+pub returns-clause-advances : goal.returns-clause-advances
+returns-clause-advances c = Advances-trans c.follow_chosen.ensures.advances c.follow_all-2.ensures.advances
