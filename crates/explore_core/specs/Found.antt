@@ -84,8 +84,8 @@ Lists given client place answer =
 abbrev pub ListsRace : List Race → ℕ → ℕ → Type 0
 ListsRace races one other = (r : Race) × Contains races r × (r.one ≡ one) × (r.other ≡ other)
 
--- Nothing else happens in any schedule: each answer of each line is listed, and each race. If a schedule gets stuck, one is shown, and none gets
--- stuck sooner.
+-- Nothing else happens in any schedule: each answer of each line is listed, and each race. If a schedule gets stuck, one is shown, and
+-- none gets stuck sooner.
 pub record IsAll (plan : Lines) (found : Found) : Type 0 where
   pub given : (schedule : Schedule) (client place : ℕ) (answer : Answer)
       → IsAnswered plan schedule client place answer → Lists found.given.items client place answer

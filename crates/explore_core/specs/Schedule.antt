@@ -115,7 +115,8 @@ MayGo plan made client = (other : ℕ) → other ≢ client → is_in_block plan
 
 -- the answer of the client's next line is expected
 abbrev pub IsExpected : Lines → Standing → ℕ → Type 0
-IsExpected plan now client = (step : Step) → next_line plan now client ≡ Some step → is_expected (answer_now now.history step.command) step.expects ≡ true
+IsExpected plan now client = (step : Step) →
+    next_line plan now client ≡ Some step → is_expected (answer_now now.history step.command) step.expects ≡ true
 
 -- the client may go, and a schedule goes on after its line
 pub record GoesOn (plan : Lines) (now : Standing) (client : ℕ) : Type 0 where
@@ -125,7 +126,8 @@ pub record GoesOn (plan : Lines) (now : Standing) (client : ℕ) : Type 0 where
 -- the schedule goes on after each of its lines
 abbrev pub Counts : Lines → Standing → Schedule → Type 0
 Counts plan now [] = ⊤
-Counts plan now (client ∷ clients) = GoesOn plan now client × ((next : Standing) → after_one plan now client ≡ Some next → Counts plan next clients)
+Counts plan now (client ∷ clients) =
+    GoesOn plan now client × ((next : Standing) → after_one plan now client ≡ Some next → Counts plan next clients)
 
 -- from the beginning of the plan, the schedule leads to that standing: each client may go, and the answers are expected
 pub record ComesTo (plan : Lines) (schedule : Schedule) (to : Standing) : Type 0 where

@@ -337,7 +337,8 @@ pub record LetsOthers (plan : Lines) (now : Standing) (client : ℕ) (later : St
 
 -- if the client makes its line, other clients may go after it
 abbrev pub IsOnward : Lines → Standing → ℕ → Type 0
-IsOnward plan now client = MayGo plan now.made client → (later : Standing) → after_one plan now client ≡ Some later → LetsOthers plan now client later
+IsOnward plan now client =
+    MayGo plan now.made client → (later : Standing) → after_one plan now client ≡ Some later → LetsOthers plan now client later
 
 -- the client may go, and makes its line
 abbrev pub Makes : Lines → Standing → ℕ → Type 0
@@ -352,7 +353,8 @@ IsMove plan now client move.Alone = Makes plan now client
 
 -- If the client may go from the standing, its answer is listed. If a schedule goes on after it, the state that it leads to is kept.
 pub record IsFollowed (plan : Lines) (found : Found) (next : List State) (now : Standing) (client : ℕ) : Type 0 where
-  pub listed : MayGo plan now.made client → (place : ℕ) (answer : Answer) → Answers plan now client place answer → Lists found.given.items client place answer
+  pub listed : MayGo plan now.made client → (place : ℕ) (answer : Answer) →
+      Answers plan now client place answer → Lists found.given.items client place answer
   pub kept : GoesOn plan now client → (later : Standing) → after_one plan now client ≡ Some later → HasLike plan next later
 
 pub record IsTried (plan : Lines) (found : Found) (next : List State) (state : State) (client : ℕ) (move : Move) : Type 0 where
@@ -363,7 +365,8 @@ pub record IsTried (plan : Lines) (found : Found) (next : List State) (state : S
 abbrev pub AreMoves : Lines → Standing → ℕ → Move → Type 0
 AreMoves plan now clients move.Done = (client : ℕ) → client < clients → next_line plan now client ≡ None
 AreMoves plan now clients move.Waits =
-    ((client : ℕ) → client < clients → MayGo plan now.made client → after_one plan now client ≡ None) × (client : ℕ) × IsSome (next_line plan now client)
+    ((client : ℕ) → client < clients → MayGo plan now.made client → after_one plan now client ≡ None)
+    × (client : ℕ) × IsSome (next_line plan now client)
 AreMoves plan now clients move.Goes = (client : ℕ) × Makes plan now client
 AreMoves plan now clients move.Alone = (client : ℕ) × Makes plan now client
 

@@ -13,7 +13,8 @@ use Rattle.explore_core.specs.Search.{Answers, IsAt}
 
 -- a schedule goes on after the client's next line, and the desk is at the standing after it
 abbrev pub GoesTo : Lines → Standing → ℕ → Position → Type 0
-GoesTo plan now client position = GoesOn plan now client × (later : Standing) × (after_one plan now client ≡ Some later) × IsAt position later
+GoesTo plan now client position =
+    GoesOn plan now client × (later : Standing) × (after_one plan now client ≡ Some later) × IsAt position later
 
 -- the desk is at the standing that the schedule comes to
 abbrev pub GoesAlong : Lines → Schedule → Position → Type 0
