@@ -235,7 +235,7 @@ no-lines plan client past = ap (λ o. unwrap_or o []) (past-get plan.clients cli
     past-get (x ∷ xs) zero past = absurd (omega (arith, past))
     past-get (x ∷ xs) (suc k) past = past-get xs k (omega (arith, past))
 
-no-next : (plan : Lines) (now : Standing) (client : ℕ) → length plan.clients ≤ client → next_line plan now client ≡ None
+pub no-next : (plan : Lines) (now : Standing) (client : ℕ) → length plan.clients ≤ client → next_line plan now client ≡ None
 no-next plan now client past = ap (λ lines. slice_get lines (made_by now client)) (no-lines plan client past)
 
 some-none : (o : Option Step) → IsSome o → o ≡ None → ⊥

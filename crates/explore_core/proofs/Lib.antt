@@ -32,3 +32,4 @@ pub mod Calming
 pub mod Holding
 pub mod Settling
 pub mod Omitting
+pub mod Overtaking

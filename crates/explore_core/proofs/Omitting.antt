@@ -1,5 +1,5 @@
--- Schedules from which lines are left out: what is shown after one, and what stays of what was found.
-use Rattle.std.proofs.Common.{◌≡◌, ℕ, ◌+◌, ◌<◌, refl, sym, ap, ◌∙◌, subst, List, [], ◌∷◌, ◌++◌, length, length-append, map, set, get_or, Vec, option_map, arith}
+-- What stays of what was found once its schedules are shortened.
+use Rattle.std.proofs.Common.{◌≡◌, ℕ, ◌<◌, refl, sym, ap, ◌∙◌, subst, List, length, map, set, get_or, Vec, option_map, arith}
 use Rattle.std.specs.Prelude.{Contains}
 use Rattle.std.specs.Global.{Global}
 use Rattle.std.specs.List.{AllPairs}
@@ -9,29 +9,10 @@ use Rattle.explore_core.specs.declared.found.Found.{Found}
 use Rattle.explore_core.specs.declared.found.Given.{Given}
 use Rattle.explore_core.specs.declared.found.Race.{Race}
 use Rattle.explore_core.specs.Found.{IsTrue, IsOther, IsOtherRace, ListsOnce, IsShortest, HasVisited, IsAll, stuck_of}
-use Rattle.explore_core.specs.declared.shortening.Shown.{Shown}
-use Rattle.explore_core.specs.declared.shortening.Shown.TheVariants as shown
 use Rattle.explore_core.specs.Moving.{LineAnswer}
-use Rattle.explore_core.specs.Schedule.{Lines, Standing, Schedule, ComesTo}
-use Rattle.explore_core.specs.Shortening.{AccessPair, AreShortened, Happens, IsShortened, IsShownAfter, line_of, pair_of}
+use Rattle.explore_core.specs.Schedule.{Lines}
+use Rattle.explore_core.specs.Shortening.{AccessPair, AreShortened, IsShortened, line_of, pair_of}
 use Rattle.explore_core.proofs.Showing.{Contains-map, Contains-unmap}
-
-pub pushed-length : (old new : List ℕ) (x : ℕ) → new ≡ old ++ x ∷ [] → length new ≡ length old + 1
-pushed-length old new x is = ap length is ∙ length-append old (x ∷ [])
-
-pub shown-after : (plan : Lines) (schedule : Schedule) (to : Standing) (s : Shown)
-    → ComesTo plan schedule to → Happens plan to s → IsShownAfter plan s schedule
-shown-after plan schedule to (shown.Answer client place answer) comes a = record {
-  now = to;
-  comes = comes;
-  may = a.0;
-  at = a.1.at;
-  step = a.1.step;
-  next = a.1.next;
-  made = a.1.made;
-  answer = a.1.answer;
-}
-shown-after plan schedule to (shown.Race one other) comes both = record { now = to; comes = comes; both = both }
 
 -- lists whose elements are for the same
 

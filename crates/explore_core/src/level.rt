@@ -184,7 +184,7 @@ fn has(
     are_same(state.made.as_slice(), other.made.as_slice()) && places.is_same(others)
 }
 
-fn are_same(made: &[usize], others: &[usize]) -> bool
+pub(crate) fn are_same(made: &[usize], others: &[usize]) -> bool
     ensures { result ≡ true → made.now ≡ others.now }
 {
     made == others

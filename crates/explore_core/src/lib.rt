@@ -6,6 +6,7 @@
 #![tactic(auto)]
 
 mod access;
+mod best;
 mod block;
 mod choice;
 mod chooser;
@@ -19,21 +20,26 @@ mod level;
 mod list;
 mod listing;
 mod look;
+mod nearing;
 mod parts;
 mod persistence;
 mod plan;
 mod position;
 mod progress;
 mod races;
+mod rerun;
 mod right_answer;
 mod room;
 mod search;
 mod setup;
 mod shortening;
+mod shown;
 mod state;
+mod stretch;
 mod table;
 mod tour;
 mod trial;
+mod turns;
 mod visit;
 
 pub use access::Access;
@@ -42,6 +48,7 @@ pub use expects::Expects;
 pub use explorer::{STATES, explore};
 pub use found::{Found, Given, Race};
 pub use list::SCHEDULED_CLIENTS;
+pub use nearing::bring_stuck_near;
 pub use plan::{Branch, Milestone, Plan, Step};
 pub use position::{line_at, make};
 pub use progress::{clear_made, count_to, place_of};
