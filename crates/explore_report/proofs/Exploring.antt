@@ -21,7 +21,7 @@ use Rattle.explore_report.specs.declared.cause.TheConstants.{PLAN_CLIENTS}
 use Rattle.explore_report.specs.declared.context.Above.{Above}
 use Rattle.explore_report.specs.declared.context.Above.TheVariants as above
 use Rattle.explore_report.specs.declared.context.Context.{Context}
-use Rattle.explore_report.specs.Mistake.{IsPlaced, cause_of, client_below, command_cause, section_cause, unless_awaited}
+use Rattle.explore_report.specs.Mistake.{IsPlaced, cause_of, client_below, command_cause, section_cause, unless_noted}
 use Rattle.explore_report.specs.Plan.{clients_at, clients_in, commands_at, commands_in, lines_begun, plan_of, step_of, steps_at, steps_from, steps_in}
 use Rattle.explore_report.specs.Rows.{command_in, command_said}
 
@@ -115,32 +115,34 @@ commands_stand s rows all =
 abbrev quiet_step : Step → Type 0
 quiet_step step = IsQuiet step.command
 
-listed_step : (lines : List (List ℕ)) (place : ℕ) (o : Option Command) (row : Row) (below : List Row) → ((c : Command) → o ≡ Some c → IsQuiet c)
-    → All quiet_step (option_to_list (option_map (step_of lines place row below) o))
-listed_step lines place None row below each = All-nil quiet_step
-listed_step lines place (Some c) row below each = All-cons quiet_step (step_of lines place row below c) [] (each c refl) (All-nil quiet_step)
+listed_step : (lines : List (List ℕ)) (rows : List Row) (place : ℕ) (o : Option Command) (row : Row) (below : List Row) → ((c : Command) → o ≡ Some c → IsQuiet c)
+    → All quiet_step (option_to_list (option_map (step_of lines rows place row below) o))
+listed_step lines rows place None row below each = All-nil quiet_step
+listed_step lines rows place (Some c) row below each = All-cons quiet_step (step_of lines rows place row below c) [] (each c refl) (All-nil quiet_step)
 
-steps_quiet : (lines : List (List ℕ)) (k place : ℕ) (rows : List Row) → All IsPlaced rows → All quiet_step (steps_from lines (section.Client k) place rows)
-steps_quiet lines k place [] all = All-nil quiet_step
-steps_quiet lines k place (row ∷ below) all =
+steps_quiet : (lines : List (List ℕ)) (all_rows : List Row) (k place : ℕ) (rows : List Row) → All IsPlaced rows
+    → All quiet_step (steps_from lines all_rows (section.Client k) place rows)
+steps_quiet lines all_rows k place [] all = All-nil quiet_step
+steps_quiet lines all_rows k place (row ∷ below) all =
     let s = section.Client k in
-    let own = steps_at lines s place row below in
+    let own = steps_at lines all_rows s place row below in
     let placed = All-head IsPlaced row below all in
-    All-append quiet_step own (steps_from lines s (place + length own) below)
-    (listed_step lines place (command_in s row) row below (λ c is. row_stands s row c placed is))
-    (steps_quiet lines k (place + length own) below (All-tail IsPlaced row below all))
+    All-append quiet_step own (steps_from lines all_rows s (place + length own) below)
+    (listed_step lines all_rows place (command_in s row) row below (λ c is. row_stands s row c placed is))
+    (steps_quiet lines all_rows k (place + length own) below (All-tail IsPlaced row below all))
 
 -- the section that a placed client begins is a client's
 next_of : (b : Bool) (n : ℕ) → (k : ℕ) × ((if b then section.Client (n + 1) else section.Client n) ≡ section.Client k)
 next_of true n = (n + 1, refl)
 next_of false n = (n, refl)
 
-next_is_client : (a : Above) (inside : Bool) (s : Section) → unless_awaited a (if inside then Some cause.NotEnded else client_below s) ≡ None
+next_is_client : (a : Above) (inside : Bool) (s : Section) → unless_noted a (if inside then Some cause.NotEnded else client_below s) ≡ None
     → (k : ℕ) × (next_client s ≡ section.Client k)
 next_is_client a inside section.First is = (0, refl)
 next_is_client a inside (section.Client n) is = next_of (nat_lt n PLAN_CLIENTS) n
 next_is_client above.Await inside section.Last is = absurd (none-some cause.AwaitsNothing (sym is))
 next_is_client above.Once inside section.Last is = absurd (none-some cause.ChecksNothing (sym is))
+next_is_client above.Note inside section.Last is = absurd (none-some cause.NotesNothing (sym is))
 next_is_client _ true section.Last is = absurd (none-some cause.NotEnded (sym is))
 next_is_client _ false section.Last is = absurd (none-some cause.ClientBelowFinally (sym is))
 
@@ -149,7 +151,7 @@ begun_quiet : (lines : List (List ℕ)) (rows : List Row) → All IsPlaced rows 
 begun_quiet lines rows all at (mark.Client name) placed =
     let next = next_is_client at.above (nat_lt 0 at.depth) at.section placed in
     All-cons (All quiet_step) (steps_in lines (next_client at.section) rows) []
-    (subst (λ s. All quiet_step (steps_in lines s rows)) (sym next.1) (steps_quiet lines next.0 0 rows all)) (All-nil (All quiet_step))
+    (subst (λ s. All quiet_step (steps_in lines s rows)) (sym next.1) (steps_quiet lines rows next.0 0 rows all)) (All-nil (All quiet_step))
 begun_quiet lines rows all at _ placed = All-nil (All quiet_step)
 
 clients_quiet : (lines : List (List ℕ)) (rows : List Row) → All IsPlaced rows → All (All quiet_step) (clients_in lines rows)

@@ -1,6 +1,5 @@
 mod Expectations
 mod Exploring
-mod Marks
 mod Mistakes
 mod Places
 mod Readings

@@ -1,6 +1,7 @@
--- The context of a plan's line: its section, what is directly above it, and how many branches it is in.
-use Rattle.std.specs.Prelude.{ℕ, ◌+◌, ◌-◌, ◌==◌, nat_lt, Bool, true, false, if◌then◌else◌}
+-- The context of a plan's line: its section, what is directly above it, how many branches it is in, and what notes say of it.
+use Rattle.std.specs.Prelude.{ℕ, ◌+◌, ◌-◌, ◌==◌, nat_lt, Bool, true, false, if◌then◌else◌, List, Option, None, Some}
 use Rattle.explore_report.specs.declared.cause.TheConstants.{PLAN_CLIENTS, PLAN_LINES}
+use Rattle.explore_report.specs.declared.context.Above.{Above}
 use Rattle.explore_report.specs.declared.context.Above.TheVariants as above
 use Rattle.explore_report.specs.declared.context.Context.{Context}
 use Rattle.explore_report.specs.declared.context.Section.{Section}
@@ -8,9 +9,13 @@ use Rattle.explore_report.specs.declared.context.Section.TheVariants as section
 use Rattle.explore_report.specs.declared.mark.Mark.{Mark}
 use Rattle.explore_report.specs.declared.mark.Mark.TheVariants as mark
 
--- nothing is above the first line
+-- nothing is above the first line of a section
+abbrev pub begun : Section → Context
+begun s = record { section = s; above = above.Nothing; depth = 0; follows = None; turn = None }
+
+-- the first line of a plan
 abbrev pub start : Context
-start = record { section = section.First; above = above.Nothing; depth = 0 }
+start = begun section.First
 
 -- the section that a client begins; clients past the limit are all of one number
 abbrev pub next_client : Section → Section
@@ -22,20 +27,41 @@ next_client section.Last = section.Last
 abbrev pub one_more : ℕ → ℕ
 one_more depth = if nat_lt depth PLAN_LINES then depth + 1 else depth
 
+-- a line with that directly above it, in that many branches, of which no note says more
+abbrev pub branched : Context → Above → ℕ → Context
+branched at a depth = record { section = at.section; above = a; depth = depth; follows = None; turn = None }
+
+-- a line with that directly above it, of which no note says more
+abbrev pub below : Context → Above → Context
+below at a = branched at a at.depth
+
+-- a line of which the notes above say this
+abbrev pub noted : Context → Above → Option (List ℕ) → Option ℕ → Context
+noted at a follows turn = record { section = at.section; above = a; depth = at.depth; follows = follows; turn = turn }
+
+-- what is directly above the line below a note on it: an `#await` or `#once` stays that
+abbrev pub with_note : Above → Above
+with_note above.Await = above.Await
+with_note above.Once = above.Once
+with_note _ = above.Note
+
 -- the context of the line below one that says this
 abbrev pub after : Context → Mark → Context
-after at (mark.Client name) = record { section = next_client at.section; above = above.Nothing; depth = 0 }
-after at mark.Finally = record { section = section.Last; above = above.Nothing; depth = 0 }
-after at mark.Await = record { section = at.section; above = above.Await; depth = at.depth }
-after at mark.Once = record { section = at.section; above = above.Once; depth = at.depth }
-after at mark.If = record { section = at.section; above = above.If; depth = one_more at.depth }
-after at mark.Else = record { section = at.section; above = above.Nothing; depth = at.depth }
-after at (mark.Access v name) = record { section = at.section; above = above.Nothing; depth = at.depth }
-after at mark.End = record { section = at.section; above = above.Nothing; depth = at.depth - 1 }
-after at mark.Expected = record { section = at.section; above = above.Command; depth = at.depth }
-after at mark.OrExpected = record { section = at.section; above = above.Command; depth = at.depth }
-after at (mark.Command command) = record { section = at.section; above = above.Command; depth = at.depth }
-after at (mark.Wrong why) = record { section = at.section; above = above.Command; depth = at.depth }
+after at (mark.Client name) = begun (next_client at.section)
+after at mark.Finally = begun section.Last
+after at mark.Await = noted at above.Await at.follows at.turn
+after at mark.Once = noted at above.Once at.follows at.turn
+after at (mark.Named name) = noted at (with_note at.above) at.follows at.turn
+after at (mark.After name) = noted at (with_note at.above) (Some name) at.turn
+after at (mark.Turn number) = noted at (with_note at.above) at.follows (Some number)
+after at mark.If = branched at above.If (one_more at.depth)
+after at mark.Else = below at above.Nothing
+after at (mark.Access v name) = below at above.Nothing
+after at mark.End = branched at above.Nothing (at.depth - 1)
+after at mark.Expected = below at above.Command
+after at mark.OrExpected = below at above.Command
+after at (mark.Command command) = below at above.Command
+after at (mark.Wrong why) = below at above.Command
 
 abbrev pub is_client : ℕ → Section → Bool
 is_client client section.First = false

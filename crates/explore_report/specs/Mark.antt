@@ -1,5 +1,5 @@
 -- What a line says to the reader of a plan.
-use Rattle.std.specs.Prelude.{ℕ, ◌==◌, length, Bool, false, is_some, if◌then◌else◌, List, [], ◌∷◌, Option, None, Some, codes, unwrap_or}
+use Rattle.std.specs.Prelude.{ℕ, ◌==◌, ◌&&◌, length, Bool, false, is_some, if◌then◌else◌, List, [], ◌∷◌, Option, None, Some, codes, unwrap_or}
 use Rattle.std.specs.Char.{is_ascii_alphabetic}
 use Rattle.std.specs.Str.{bytes_eq}
 use Rattle.point_core.specs.declared.name.TheConstants.{NAME_BYTES}
@@ -9,12 +9,12 @@ use Rattle.line_core.specs.Line.{body_of}
 use Rattle.line_core.specs.declared.line.Body.{Body}
 use Rattle.line_core.specs.declared.line.Body.TheVariants.{Cmd, Bad}
 use Rattle.explore_report.specs.declared.cause.Cause.TheVariants as cause
-use Rattle.explore_report.specs.declared.cause.TheConstants.{PLAN_ROUNDS, REPEATED_LINES}
+use Rattle.explore_report.specs.declared.cause.TheConstants.{PLAN_ROUNDS, PLAN_TURNS, REPEATED_LINES}
 use Rattle.explore_report.specs.declared.mark.Mark.{Mark}
 use Rattle.explore_report.specs.declared.mark.Mark.TheVariants as mark
 use Rattle.explore_report.specs.declared.verb.Verb.{Verb}
 use Rattle.explore_report.specs.declared.verb.Verb.TheVariants as verb
-use Rattle.explore_report.specs.Rounds.{rounds_said}
+use Rattle.explore_report.specs.Rounds.{number_said, rounds_said}
 use Rattle.explore_report.specs.Words.{first_word, words_after}
 
 -- A `#repeat` that was not made: a number of rounds has to follow, or it has no `#end`, is in two others, or makes too many lines.
@@ -28,22 +28,34 @@ begins_directive [] = false
 begins_directive (a ∷ []) = false
 begins_directive (a ∷ b ∷ word) = is_ascii_alphabetic b
 
--- a client of that name, if it is one
-abbrev pub client_named : List ℕ → Mark
-client_named name = if is_name name then mark.Client name else mark.Wrong (cause.NoName NAME_BYTES)
+-- the name that the words are, if they are one
+abbrev pub name_said : List ℕ → Option (List ℕ)
+name_said words = if length (words_after words) == 0 && is_name (first_word words) then Some (first_word words) else None
 
--- if one word follows, and no other
-abbrev pub client_mark : List ℕ → Mark
-client_mark words = if length (words_after words) == 0 then client_named (first_word words) else mark.Wrong (cause.NoName NAME_BYTES)
+-- a client of that name
+abbrev pub client_named : Option (List ℕ) → Mark
+client_named None = mark.Wrong (cause.NoName NAME_BYTES)
+client_named (Some name) = mark.Client name
 
--- an access to the buffer of that name, if it is one
-abbrev pub access_named : Verb → List ℕ → Mark
-access_named v name = if is_name name then mark.Access v name else mark.Wrong (cause.NoBuffer NAME_BYTES)
+-- a mark of that name
+abbrev pub mark_named : Option (List ℕ) → Mark
+mark_named None = mark.Wrong (cause.NoName NAME_BYTES)
+mark_named (Some name) = mark.Named name
 
--- if one word follows, and no other
-abbrev pub access_mark : Verb → List ℕ → Mark
-access_mark v words =
-    if length (words_after words) == 0 then access_named v (first_word words) else mark.Wrong (cause.NoBuffer NAME_BYTES)
+-- an order behind the mark of that name
+abbrev pub after_named : Option (List ℕ) → Mark
+after_named None = mark.Wrong (cause.NoName NAME_BYTES)
+after_named (Some name) = mark.After name
+
+-- an access to the buffer of that name
+abbrev pub access_named : Verb → Option (List ℕ) → Mark
+access_named v None = mark.Wrong (cause.NoBuffer NAME_BYTES)
+access_named v (Some name) = mark.Access v name
+
+-- a place in the order of lines
+abbrev pub turn_numbered : Option ℕ → Mark
+turn_numbered None = mark.Wrong (cause.NoTurn PLAN_TURNS)
+turn_numbered (Some number) = mark.Turn number
 
 -- that mark, if no word follows
 abbrev pub without_words : List ℕ → Mark → Mark
@@ -70,17 +82,20 @@ blank_note words = if is_directive (first_word words) (words_after words) then S
 -- by the first word of a note, and what follows it
 abbrev pub directive_of : List ℕ → List ℕ → Option Mark
 directive_of word words =
-    if bytes_eq word (codes "#client") then Some (client_mark words)
+    if bytes_eq word (codes "#client") then Some (client_named (name_said words))
     else if bytes_eq word (codes "#finally") then Some (without_words words mark.Finally)
     else if bytes_eq word (codes "#await") then Some (without_words words mark.Await)
     else if bytes_eq word (codes "#once") then Some (without_words words mark.Once)
+    else if bytes_eq word (codes "#mark") then Some (mark_named (name_said words))
+    else if bytes_eq word (codes "#after") then Some (after_named (name_said words))
+    else if bytes_eq word (codes "#turn") then Some (turn_numbered (number_said PLAN_TURNS words))
     else if bytes_eq word (codes "#if") then Some (if_mark words)
     else if bytes_eq word (codes "#else") then Some (without_words words mark.Else)
     else if bytes_eq word (codes "#end") then Some (without_words words mark.End)
     else if bytes_eq word (codes "#repeat") then Some (repeat_mark words)
-    else if bytes_eq word (codes "#reads") then Some (access_mark verb.Reads words)
-    else if bytes_eq word (codes "#writes") then Some (access_mark verb.Writes words)
-    else if bytes_eq word (codes "#done") then Some (access_mark verb.Done words)
+    else if bytes_eq word (codes "#reads") then Some (access_named verb.Reads (name_said words))
+    else if bytes_eq word (codes "#writes") then Some (access_named verb.Writes (name_said words))
+    else if bytes_eq word (codes "#done") then Some (access_named verb.Done (name_said words))
     else if bytes_eq word (codes "#") then blank_note words
     else if begins_directive word then Some (mark.Wrong cause.NoDirective)
     else None

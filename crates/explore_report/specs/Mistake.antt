@@ -1,6 +1,7 @@
 -- Why a script is no plan.
-use Rattle.std.specs.Prelude.{◌≡◌, ◌⊎◌, ◌<◌, ◌≤◌, ℕ, ◌+◌, ◌-◌, ◌&&◌, ◌||◌, ◌==◌, nat_le, nat_lt, All, Bool, true, false, if◌then◌else◌, List, [], ◌∷◌, length, take, drop, count_by, slice_get, Option, None, Some}
-use Rattle.std.specs.List.{list_any}
+use Rattle.std.specs.Prelude.{◌≡◌, ◌⊎◌, ◌<◌, ◌≤◌, ℕ, ◌+◌, ◌-◌, ◌&&◌, ◌||◌, ◌==◌, nat_le, nat_lt, All, Bool, true, false, if◌then◌else◌, List, [], ◌∷◌, length, take, drop, count_by, slice_get, Option, None, Some, is_some, option_map}
+use Rattle.std.specs.List.{find, list_any}
+use Rattle.std.specs.Option.{option_or}
 use Rattle.std.specs.Str.{bytes_eq}
 use Rattle.command_core.specs.declared.command.Command.{Command}
 use Rattle.command_core.specs.declared.command.Command.TheVariants as command
@@ -17,7 +18,7 @@ use Rattle.explore_report.specs.declared.mark.Mark.TheVariants as mark
 use Rattle.explore_report.specs.declared.mistake.Mistake.{Mistake}
 use Rattle.explore_report.specs.declared.row.Row.{Row}
 use Rattle.explore_report.specs.Accesses.{accessed, is_closed, is_done, is_open}
-use Rattle.explore_report.specs.Context.{after}
+use Rattle.explore_report.specs.Context.{after, is_same}
 use Rattle.explore_report.specs.Rows.{is_else, is_if, is_line}
 
 -- a command has to follow `#await` directly, and a `wait` has to follow `#once`; else that cause counts
@@ -25,6 +26,11 @@ abbrev pub unless_awaited : Above → Option Cause → Option Cause
 unless_awaited above.Await other = Some cause.AwaitsNothing
 unless_awaited above.Once other = Some cause.ChecksNothing
 unless_awaited _ other = other
+
+-- a command has to follow all notes on it; else that cause counts
+abbrev pub unless_noted : Above → Option Cause → Option Cause
+unless_noted above.Note other = Some cause.NotesNothing
+unless_noted a other = unless_awaited a other
 
 -- no `#if` is open where a section ends
 abbrev pub unless_open : ℕ → Option Cause → Option Cause
@@ -41,7 +47,7 @@ finally_below section.First = None
 finally_below (section.Client number) = None
 finally_below section.Last = Some cause.FinallyTwice
 
--- a line that waits, or checks once, is a client's
+-- what says when a line may be made is about a client's line
 abbrev pub waiting_in : Section → Option Cause
 waiting_in section.First = Some cause.AwaitOutside
 waiting_in (section.Client number) = None
@@ -97,13 +103,26 @@ command_cause above.Once section _ = Some cause.ChecksNothing
 command_cause _ section c = section_cause section c
 
 abbrev pub client_cause : Context → Option Cause
-client_cause at = unless_awaited at.above (unless_open at.depth (client_below at.section))
+client_cause at = unless_noted at.above (unless_open at.depth (client_below at.section))
 
 abbrev pub finally_cause : Context → Option Cause
-finally_cause at = unless_awaited at.above (unless_open at.depth (finally_below at.section))
+finally_cause at = unless_noted at.above (unless_open at.depth (finally_below at.section))
 
 abbrev pub waiting_cause : Context → Option Cause
 waiting_cause at = unless_awaited at.above (waiting_in at.section)
+
+-- a line has one note of that kind
+abbrev pub unless_twice : Bool → Option Cause → Option Cause
+unless_twice noted other = if noted then Some cause.NotedTwice else other
+
+abbrev pub mark_cause : Context → Option Cause
+mark_cause at = waiting_in at.section
+
+abbrev pub after_cause : Context → Option Cause
+after_cause at = unless_twice (is_some at.follows) (waiting_in at.section)
+
+abbrev pub turn_cause : Context → Option Cause
+turn_cause at = unless_twice (is_some at.turn) (waiting_in at.section)
 
 -- a client accesses buffers
 abbrev pub access_in : Section → Option Cause
@@ -112,19 +131,19 @@ access_in (section.Client number) = None
 access_in section.Last = Some cause.AccessOutside
 
 abbrev pub access_cause : Context → Option Cause
-access_cause at = unless_awaited at.above (access_in at.section)
+access_cause at = unless_noted at.above (access_in at.section)
 
 abbrev pub if_cause : Context → Option Cause
-if_cause at = unless_awaited at.above (branch_in at.section (if_below at.above))
+if_cause at = unless_noted at.above (branch_in at.section (if_below at.above))
 
 abbrev pub else_cause : Context → Option Cause
-else_cause at = unless_awaited at.above (branch_in at.section (else_below at.above at.depth))
+else_cause at = unless_noted at.above (branch_in at.section (else_below at.above at.depth))
 
 abbrev pub end_cause : Context → Option Cause
-end_cause at = unless_awaited at.above (branch_in at.section (end_below at.depth))
+end_cause at = unless_noted at.above (branch_in at.section (end_below at.depth))
 
 abbrev pub expected_cause : Context → Option Cause
-expected_cause at = unless_awaited at.above (expected_below at.above)
+expected_cause at = unless_noted at.above (expected_below at.above)
 
 -- why the context does not allow what a line says
 abbrev pub cause_of : Context → Mark → Option Cause
@@ -132,6 +151,9 @@ cause_of at (mark.Client name) = client_cause at
 cause_of at mark.Finally = finally_cause at
 cause_of at mark.Await = waiting_cause at
 cause_of at mark.Once = waiting_cause at
+cause_of at (mark.Named name) = mark_cause at
+cause_of at (mark.After name) = after_cause at
+cause_of at (mark.Turn number) = turn_cause at
 cause_of at mark.If = if_cause at
 cause_of at mark.Else = else_cause at
 cause_of at mark.End = end_cause at
@@ -170,6 +192,26 @@ is_client_named name row = is_named name row.mark
 abbrev pub has_client : List Row → List ℕ → Bool
 has_client rows name = list_any (is_client_named name) rows
 
+-- whether a row marks a line by that name
+abbrev pub is_marked : List ℕ → Mark → Bool
+is_marked name (mark.Named other) = bytes_eq other name
+is_marked name _ = false
+
+abbrev pub marks : List ℕ → Row → Bool
+marks name row = is_marked name row.mark
+
+abbrev pub section_of : Row → Section
+section_of row = row.context.section
+
+-- the section in which the rows have the mark of that name
+abbrev pub marked_in : List ℕ → List Row → Option Section
+marked_in name rows = option_map section_of (find (marks name) rows)
+
+-- the line behind which a line of that section comes has a mark, and is another client's
+abbrev pub order_cause : Section → Option Section → Option Cause
+order_cause own None = Some cause.NoMark
+order_cause own (Some marked) = if is_same own marked then Some cause.OwnMark else None
+
 -- how many `#if` are open below the row
 abbrev pub depth_below : Row → ℕ
 depth_below row = (after row.context row.mark).depth
@@ -197,22 +239,27 @@ access_above name depth rows =
 abbrev pub done_below : List ℕ → List Row → Option Cause
 done_below name rows = if is_open name false rows then None else Some cause.DoneNothing
 
-abbrev pub cause_by : List Row → ℕ → List Row → Mark → Option Cause
-cause_by above depth below (mark.Client name) = if has_client above name then Some cause.NameTaken else None
-cause_by above depth below mark.Else = if in_else depth false above then Some cause.ElseTwice else None
-cause_by above depth below (mark.Access v name) = if is_done v then done_below name above else access_above name depth below
-cause_by above depth below _ = None
+-- why the rows above and below do not allow a row with that context and mark
+abbrev pub cause_by : List Row → Context → List Row → Mark → Option Cause
+cause_by above at below (mark.Client name) = if has_client above name then Some cause.NameTaken else None
+cause_by above at below (mark.Named name) = if is_some (marked_in name above) then Some cause.MarkTaken else None
+cause_by above at below (mark.After name) = order_cause at.section (option_or (marked_in name above) (marked_in name below))
+cause_by above at below mark.Else = if in_else at.depth false above then Some cause.ElseTwice else None
+cause_by above at below (mark.Access v name) = if is_done v then done_below name above else access_above name at.depth below
+cause_by above at below _ = None
 
 -- Why the rows above and below do not allow a row that its context allows: the row begins the lines of a client whose name a client
--- above has; it is the second `#else` of an `#if`; or it begins an access that has no end, or ends one that has not begun.
+-- above has; it marks a line by a name that a mark above has; the line below it comes behind no marked line, or behind one of its own
+-- client; it is the second `#else` of an `#if`; or it begins an access that has no end, or ends one that has not begun.
 abbrev pub cause_among : List Row → Row → List Row → Option Cause
-cause_among above row below = cause_by above row.context.depth below row.mark
+cause_among above row below = cause_by above row.context below row.mark
 
 -- the other rows allow the row of that index
 abbrev pub Fits : List Row → ℕ → Type 0
 Fits rows index = (row : Row) → IsRow rows index row → cause_among (take index rows) row (drop (index + 1) rows) ≡ None
 
--- no two clients have the same name, no `#if` has two `#else`, and each access begins and ends
+-- no two clients or marks have the same name, each `#after` names another client's mark, no `#if` has two `#else`, and each access begins
+-- and ends
 abbrev pub AllFit : List Row → Type 0
 AllFit rows = (index : ℕ) → Fits rows index
 
@@ -253,6 +300,9 @@ has_some_client rows = list_any is_client_row rows
 abbrev pub unfollowed : Mark → Option Cause
 unfollowed mark.Await = Some cause.AwaitsNothing
 unfollowed mark.Once = Some cause.ChecksNothing
+unfollowed (mark.Named name) = Some cause.NotesNothing
+unfollowed (mark.After name) = Some cause.NotesNothing
+unfollowed (mark.Turn number) = Some cause.NotesNothing
 unfollowed _ = None
 
 abbrev pub IsLastRow : List Row → Row → Type 0
@@ -272,7 +322,7 @@ pub record IsWhole (rows : List Row) : Type 0 where
   pub closed : EndsClosed rows
   pub client : has_some_client rows ≡ true
 
--- the last row is `#await` or `#once`, which no command follows
+-- the last row is a note on the line below, and no command follows
 pub record IsUnfollowed (rows : List Row) (m : Mistake) : Type 0 where
   pub row : Row
   pub last : IsLastRow rows row

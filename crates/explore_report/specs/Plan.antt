@@ -1,14 +1,15 @@
 -- The plan that rows make.
-use Rattle.std.specs.Prelude.{ℕ, ◌+◌, ◌-◌, ◌==◌, not, Bool, true, false, if◌then◌else◌, List, [], ◌∷◌, ◌++◌, length, drop, map, position, slice_get, Option, None, Some, option_map, unwrap_or}
+use Rattle.std.specs.Prelude.{ℕ, ◌+◌, ◌-◌, ◌==◌, not, Bool, true, false, if◌then◌else◌, List, [], ◌∷◌, ◌++◌, length, take, drop, map, position, slice_get, Option, None, Some, option_map, unwrap_or}
 use Rattle.std.specs.Borrow.{Bor}
 use Rattle.std.specs.List.{flat_map}
-use Rattle.std.specs.Option.{option_to_list}
+use Rattle.std.specs.Option.{option_and_then, option_to_list}
 use Rattle.command_core.specs.declared.command.Command.{Command}
 use Rattle.command_core.specs.declared.command.Command.TheVariants as command
 use Rattle.explore_core.specs.Branch.{Branching}
 use Rattle.explore_core.specs.declared.access.Access.{Access}
 use Rattle.explore_core.specs.Schedule.{Lines}
 use Rattle.explore_core.specs.declared.plan.Expects.TheVariants as expects
+use Rattle.explore_core.specs.declared.plan.Milestone.{Milestone}
 use Rattle.explore_core.specs.declared.plan.Step.{Step}
 use Rattle.explore_report.specs.declared.context.Above.{Above}
 use Rattle.explore_report.specs.declared.context.Above.TheVariants as above
@@ -19,12 +20,12 @@ use Rattle.explore_report.specs.declared.mark.Mark.TheVariants as mark
 use Rattle.explore_report.specs.declared.row.Row.{Row}
 use Rattle.explore_report.specs.declared.way.Way.{Way}
 use Rattle.explore_report.specs.declared.way.Way.TheVariants as way
-use Rattle.explore_report.specs.Accesses.{access_at}
+use Rattle.explore_report.specs.Accesses.{access_at, lines_in}
 use Rattle.explore_report.specs.Cases.{by_place}
 use Rattle.explore_report.specs.Context.{next_client}
 use Rattle.explore_report.specs.Finding.{expects}
 use Rattle.explore_report.specs.Mark.{branch_text}
-use Rattle.explore_report.specs.Mistake.{depth_below}
+use Rattle.explore_report.specs.Mistake.{depth_below, marks}
 use Rattle.explore_report.specs.Rows.{command_in, ends_part, is_else, is_end, is_if, is_line}
 
 -- the command of a row of that section
@@ -104,31 +105,54 @@ after_notes rows = drop (unwrap_or (position (λ row. not (expects row)) rows) (
 abbrev pub branch_below : List (List ℕ) → ℕ → List Row → Option Branching
 branch_below lines above rows = branch_at lines above (after_notes rows)
 
-abbrev pub step_of : List (List ℕ) → ℕ → Row → List Row → Command → Step
-step_of lines place row below command = record {
+abbrev pub milestone_at : Section → ℕ → Option Milestone
+milestone_at (section.Client client) place = Some (record { client = client; place = place })
+milestone_at _ place = None
+
+-- the line below a row, which is of the row's client; its place is the number of the client's lines above the row
+abbrev pub line_below : List Row → ℕ → Row → Option Milestone
+line_below rows index row = milestone_at row.context.section (lines_in row.context.section (take index rows))
+
+abbrev pub marked_at : List Row → ℕ → Option Milestone
+marked_at rows index = option_and_then (line_below rows index) (slice_get rows index)
+
+abbrev pub mark_at : List ℕ → List Row → Option ℕ
+mark_at name rows = position (marks name) rows
+
+-- the line that the rows mark by that name
+abbrev pub marked_line : List Row → List ℕ → Option Milestone
+marked_line rows name = option_and_then (marked_at rows) (mark_at name rows)
+
+-- the marked line behind which the line of a row comes
+abbrev pub line_before : List Row → Row → Option Milestone
+line_before rows row = option_and_then (marked_line rows) row.context.follows
+
+-- the line of a row that has that place among its client's lines, and these rows below it; all rows have the marks
+abbrev pub step_of : List (List ℕ) → List Row → ℕ → Row → List Row → Command → Step
+step_of lines rows place row below command = record {
   command = command;
   waits = waits row.context.above command;
   branch = branch_below lines (place + 1) below;
-  after = None;
+  after = line_before rows row;
   joined = false;
   expects = expects.Any;
-  turn = 0;
+  turn = unwrap_or row.context.turn row.number;
 }
 
 -- the line of a row, if the row is in that section; it has that place among the section's lines, and these rows below it
-abbrev pub steps_at : List (List ℕ) → Section → ℕ → Row → List Row → List Step
-steps_at lines section place row below = option_to_list (option_map (step_of lines place row below) (command_in section row))
+abbrev pub steps_at : List (List ℕ) → List Row → Section → ℕ → Row → List Row → List Step
+steps_at lines rows section place row below = option_to_list (option_map (step_of lines rows place row below) (command_in section row))
 
--- the section's lines from the line of that place on
-abbrev pub steps_from : List (List ℕ) → Section → ℕ → List Row → List Step
-steps_from lines section place [] = []
-steps_from lines section place (row ∷ below) =
-    let own = steps_at lines section place row below in
-    own ++ steps_from lines section (place + length own) below
+-- the section's lines from the line of that place on, which these of all rows have
+abbrev pub steps_from : List (List ℕ) → List Row → Section → ℕ → List Row → List Step
+steps_from lines rows section place [] = []
+steps_from lines rows section place (row ∷ below) =
+    let own = steps_at lines rows section place row below in
+    own ++ steps_from lines rows section (place + length own) below
 
 -- the lines of a section
 abbrev pub steps_in : List (List ℕ) → Section → List Row → List Step
-steps_in lines section rows = steps_from lines section 0 rows
+steps_in lines section rows = steps_from lines rows section 0 rows
 
 abbrev pub lines_begun : List (List ℕ) → List Row → Section → Mark → List (List Step)
 lines_begun lines rows section (mark.Client name) = steps_in lines (next_client section) rows ∷ []

@@ -125,7 +125,7 @@ fn access_by(above: &[Row], row: &Row, below: &[Row]) -> Result<Option<Access>, 
 }
 
 /// How many lines the section has among the rows.
-fn lines_in(section: Section, rows: &[Row]) -> usize
+pub(crate) fn lines_in(section: Section, rows: &[Row]) -> usize
     ensures count { result ≡ lines_in section rows.now }
 {
     rows.iter()

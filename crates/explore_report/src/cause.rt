@@ -16,7 +16,10 @@ pub const PLAN_ROUNDS: u32 = 1024;
 /// The most lines that the outer `#repeat` of a plan make together, and so the inner ones.
 pub const REPEATED_LINES: usize = 65_536;
 
-/// A number of a `#repeat`, or of `$+K`, has room for a digit while it is below this one.
+/// The greatest number of a `#turn`.
+pub(crate) const PLAN_TURNS: u32 = 999_999_999;
+
+/// A number of a `#repeat`, of `$+K`, or of a `#turn` has room for a digit while it is below this one.
 pub(crate) const GROWING: u32 = 100_000_000;
 
 /// Why a script is no plan, so that nothing of it is explored.
@@ -24,16 +27,19 @@ pub(crate) const GROWING: u32 = 100_000_000;
 pub enum Cause {
     #[error("the line is not a command; fencectl explain says why")]
     NoCommand,
-    #[error("there is no such directive, only #client, #finally, #await, #once, #if, #else, #end, #repeat, #reads, #writes and #done; a note has a space after its #")]
+    #[error("there is no such directive, only #client, #finally, #await, #once, #mark, #after, #turn, #if, #else, #end, \
+        #repeat, #reads, #writes and #done; a note has a space after its #")]
     NoDirective,
     #[error("a blank after the # makes this a note; #client, #finally and #await have none")]
     BlankFollows,
-    #[error("#client takes one name of 1 to {0} letters, digits, _, . and -")]
+    #[error("#client, #mark and #after take one name of 1 to {0} letters, digits, _, . and -")]
     NoName(usize),
     #[error("#reads, #writes and #done take one name of 1 to {0} letters, digits, _, . and -")]
     NoBuffer(usize),
     #[error("#finally, #await, #once, #else and #end take no words")]
     WordFollows,
+    #[error("#turn takes a number from 1 to {0}")]
+    NoTurn(u32),
     #[error("#if takes the first line of an answer")]
     NoText,
     #[error("#repeat takes a number from 1 to {0}")]
@@ -50,12 +56,22 @@ pub enum Cause {
     ClientBelowFinally,
     #[error("there is already a #finally")]
     FinallyTwice,
-    #[error("#await and #once are only allowed in a client's section")]
+    #[error("#await, #once, #mark, #after and #turn are only allowed in a client's section")]
     AwaitOutside,
     #[error("a command of the client has to follow #await directly")]
     AwaitsNothing,
     #[error("a wait of the client has to follow #once directly")]
     ChecksNothing,
+    #[error("a command of the client has to follow #mark, #after and #turn, with only notes on it between")]
+    NotesNothing,
+    #[error("a line can have one #after and one #turn")]
+    NotedTwice,
+    #[error("there is already a mark with this name")]
+    MarkTaken,
+    #[error("there is no #mark with this name")]
+    NoMark,
+    #[error("the marked line is the client's own")]
+    OwnMark,
     #[error("#if, #else and #end are only allowed in a client's section")]
     BranchOutside,
     #[error("a command of the client has to be directly above #if")]

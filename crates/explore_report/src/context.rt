@@ -1,10 +1,11 @@
-//! `Context`: the section of a plan's line, what is directly above the line, and how many branches the line is in. `row.rt`
-//! carries it from line to line, and `mistake.rt` judges lines by it.
+//! `Context`: the section of a plan's line, what is directly above the line, how many branches the line is in, and what notes say of
+//! it. `row.rt` carries it from line to line, `mistake.rt` judges lines by it, and `sections.rt` makes the plan's lines of it.
 ghost use Rattle.std.specs.Prelude.{◌≡◌};
-ghost use Rattle.explore_report.specs.Context.{after, is_same, next_client, one_more, start};
+ghost use Rattle.explore_report.specs.Context.{with_note, after, begun, below, branched, is_same, next_client, noted, one_more, start};
 
 use crate::cause::{PLAN_CLIENTS, PLAN_LINES};
 use crate::mark::Mark;
+use point_core::Name;
 
 /// A part of a plan.
 #[derive(Clone, Copy)]
@@ -17,7 +18,8 @@ pub enum Section {
     Last,
 }
 
-/// What is directly above a line in its section. Notes to the reader do not count.
+/// What is directly above a line in its section. Notes to the reader do not count, and of the notes on the line `#await` and `#once`
+/// count first.
 #[derive(Clone, Copy)]
 pub enum Above {
     Nothing,
@@ -27,17 +29,23 @@ pub enum Above {
     Await,
     /// `#once`.
     Once,
+    /// `#mark`, `#after` or `#turn`.
+    Note,
     /// `#if`.
     If,
 }
 
-/// The section of a line, what is directly above it, and how many branches it is in.
+/// The section of a line, what is directly above it, how many branches it is in, and what notes directly above say of it.
 #[derive(Clone, Copy)]
 pub struct Context {
     pub section: Section,
     pub above: Above,
     /// How many `#if` of its section are above the line whose `#end` is not.
     pub depth: usize,
+    /// The mark that an `#after` names.
+    pub follows: Option<Name>,
+    /// The number of a `#turn`.
+    pub turn: Option<usize>,
 }
 
 impl Context {
@@ -45,54 +53,86 @@ impl Context {
     pub(crate) fn start() -> Context
         ensures { result ≡ start }
     {
+        Context::begun(Section::First)
+    }
+
+    /// The beginning of a section.
+    fn begun(section: Section) -> Context
+        ensures { result ≡ begun section }
+    {
         Context {
-            section: Section::First,
+            section,
             above: Above::Nothing,
             depth: 0,
+            follows: None,
+            turn: None,
         }
     }
 
     /// The context of the line below.
-    pub(crate) fn after(self, mark: &Mark) -> Context
-        ensures { result ≡ after self mark.now }
+    pub(crate) fn after(&self, mark: &Mark) -> Context
+        ensures { result ≡ after self.now mark.now }
     {
         match mark {
-            Mark::Client(_) => Context {
-                section: self.section.next_client(),
-                above: Above::Nothing,
-                depth: 0,
-            },
-            Mark::Finally => Context {
-                section: Section::Last,
-                above: Above::Nothing,
-                depth: 0,
-            },
-            Mark::Await => self.below(Above::Await),
-            Mark::Once => self.below(Above::Once),
-            Mark::If => Context {
-                section: self.section,
-                above: Above::If,
-                depth: one_more(self.depth),
-            },
+            Mark::Client(_) => Context::begun(self.section.next_client()),
+            Mark::Finally => Context::begun(Section::Last),
+            Mark::Await => self.noted(Above::Await, self.follows, self.turn),
+            Mark::Once => self.noted(Above::Once, self.follows, self.turn),
+            Mark::Named(_) => self.noted(self.above.with_note(), self.follows, self.turn),
+            Mark::After(name) => self.noted(self.above.with_note(), Some(*name), self.turn),
+            Mark::Turn(number) => self.noted(self.above.with_note(), self.follows, Some(*number)),
+            Mark::If => self.branched(Above::If, one_more(self.depth)),
             Mark::Else | Mark::Access(_, _) => self.below(Above::Nothing),
-            Mark::End => Context {
-                section: self.section,
-                above: Above::Nothing,
-                depth: self.depth.saturating_sub(1),
-            },
+            Mark::End => self.branched(Above::Nothing, self.depth.saturating_sub(1)),
             Mark::Expected | Mark::OrExpected | Mark::Command(_) | Mark::Wrong(_) => {
                 self.below(Above::Command)
             }
         }
     }
 
-    fn below(self, above: Above) -> Context
-        ensures { result ≡ record { section = self.section; above = above; depth = self.depth } }
+    /// The context of a line of which no note says more.
+    fn below(&self, above: Above) -> Context
+        ensures { result ≡ below self.now above }
+    {
+        self.branched(above, self.depth)
+    }
+
+    /// The context of a line in that many branches, of which no note says more.
+    fn branched(&self, above: Above, depth: usize) -> Context
+        ensures { result ≡ branched self.now above depth }
+    {
+        Context {
+            section: self.section,
+            above,
+            depth,
+            follows: None,
+            turn: None,
+        }
+    }
+
+    /// The context of a line of which the notes above say this.
+    fn noted(&self, above: Above, follows: Option<Name>, turn: Option<usize>) -> Context
+        ensures { result ≡ noted self.now above follows turn }
     {
         Context {
             section: self.section,
             above,
             depth: self.depth,
+            follows,
+            turn,
+        }
+    }
+}
+
+impl Above {
+    /// What is directly above the line below a note on it.
+    fn with_note(self) -> Above
+        ensures { result ≡ with_note self }
+    {
+        match self {
+            Above::Await => Above::Await,
+            Above::Once => Above::Once,
+            _ => Above::Note,
         }
     }
 }

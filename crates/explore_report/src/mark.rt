@@ -1,11 +1,12 @@
 //! `Mark`: what a line says to the reader of a plan. `row.rt` asks for it line by line.
 ghost use Rattle.std.specs.Prelude.{◌≡◌};
-ghost use Rattle.explore_report.specs.Mistake.{is_named, unfollowed};
+ghost use Rattle.explore_report.specs.Mistake.{is_marked, is_named, unfollowed};
+ghost use Rattle.explore_report.specs.Rounds.{number_said};
 ghost use Rattle.explore_report.specs.Rows.{command_said, is_else, is_end, is_if};
-ghost use Rattle.explore_report.specs.Mark.{access_mark, access_named, after_mark, begins_directive, blank_note, branch_text, client_mark, client_named, directive_of, expected_text, if_mark, is_directive, mark_of, mark_of_body, note_of, repeat_mark, without_words};
+ghost use Rattle.explore_report.specs.Mark.{access_named, after_mark, after_named, begins_directive, blank_note, branch_text, client_named, directive_of, expected_text, if_mark, is_directive, mark_named, mark_of, mark_of_body, name_said, note_of, repeat_mark, turn_numbered, without_words};
 
-use crate::cause::{Cause, PLAN_ROUNDS, REPEATED_LINES};
-use crate::unrolling::rounds_said;
+use crate::cause::{Cause, PLAN_ROUNDS, PLAN_TURNS, REPEATED_LINES};
+use crate::unrolling::{number_said, rounds_said};
 use crate::verb::Verb;
 use crate::words::{first_word, words_after};
 use command_core::Command;
@@ -23,6 +24,12 @@ pub enum Mark {
     Await,
     /// `#once`: the `wait` on the next line doesn't wait, but checks the file once.
     Once,
+    /// `#mark N`: a mark of that name is on the next line.
+    Named(Name),
+    /// `#after N`: the client makes the next line only once the marked line of that name is passed.
+    After(Name),
+    /// `#turn N`: the next line's place in the order that shown schedules keep near to.
+    Turn(usize),
     /// `#if TEXT`: the client makes the lines below only if TEXT is the first line of the answer above.
     If,
     /// `#else`: the client makes the lines below after any other answer.
@@ -60,6 +67,16 @@ impl Mark {
         }
     }
 
+    /// Whether it marks a line by that name.
+    pub(crate) fn is_marked(&self, name: &Name) -> bool
+        ensures { result ≡ is_marked name.now self.now }
+    {
+        match self {
+            Mark::Named(other) => other == name,
+            _ => false,
+        }
+    }
+
     /// Why nothing may end directly below it: it is about the line that follows.
     pub(crate) fn unfollowed(&self) -> Option<Cause>
         ensures { result ≡ unfollowed self.now }
@@ -67,6 +84,7 @@ impl Mark {
         match self {
             Mark::Await => Some(Cause::AwaitsNothing),
             Mark::Once => Some(Cause::ChecksNothing),
+            Mark::Named(_) | Mark::After(_) | Mark::Turn(_) => Some(Cause::NotesNothing),
             _ => None,
         }
     }
@@ -97,6 +115,12 @@ const FINALLY: &[u8] = b"#finally";
 const AWAIT: &[u8] = b"#await";
 
 const ONCE: &[u8] = b"#once";
+
+const MARK: &[u8] = b"#mark";
+
+const AFTER: &[u8] = b"#after";
+
+const TURN: &[u8] = b"#turn";
 
 pub(crate) const IF: &[u8] = b"#if";
 
@@ -164,7 +188,7 @@ fn directive_of(word: &[u8], rest: &[u8]) -> Option<Mark>
     ensures mark { result ≡ directive_of word.now rest.now }
 {
     if word == CLIENT {
-        return Some(client_mark(rest));
+        return Some(client_named(name_said(rest)));
     }
     if word == FINALLY {
         return Some(without_words(rest, Mark::Finally));
@@ -174,6 +198,15 @@ fn directive_of(word: &[u8], rest: &[u8]) -> Option<Mark>
     }
     if word == ONCE {
         return Some(without_words(rest, Mark::Once));
+    }
+    if word == MARK {
+        return Some(mark_named(name_said(rest)));
+    }
+    if word == AFTER {
+        return Some(after_named(name_said(rest)));
+    }
+    if word == TURN {
+        return Some(turn_numbered(number_said(PLAN_TURNS, rest)));
     }
     if word == IF {
         return Some(if_mark(rest));
@@ -188,13 +221,13 @@ fn directive_of(word: &[u8], rest: &[u8]) -> Option<Mark>
         return Some(repeat_mark(rest));
     }
     if word == READS {
-        return Some(access_mark(Verb::Reads, rest));
+        return Some(access_named(Verb::Reads, name_said(rest)));
     }
     if word == WRITES {
-        return Some(access_mark(Verb::Writes, rest));
+        return Some(access_named(Verb::Writes, name_said(rest)));
     }
     if word == DONE {
-        return Some(access_mark(Verb::Done, rest));
+        return Some(access_named(Verb::Done, name_said(rest)));
     }
     if word == BLANK {
         return blank_note(rest);
@@ -232,43 +265,64 @@ fn is_directive(word: &[u8], rest: &[u8]) -> bool
     false
 }
 
-/// The mark of `#client`, which one word has to follow.
-fn client_mark(rest: &[u8]) -> Mark
-    ensures mark { result ≡ client_mark rest.now }
+/// The name that the words are, if they are one.
+fn name_said(words: &[u8]) -> Option<Name>
+    ensures name { result ≡ name_said words.now }
 {
-    if words_after(rest).is_empty() {
-        client_named(first_word(rest))
+    if words_after(words).is_empty() {
+        Name::read(first_word(words))
     } else {
-        Mark::Wrong(Cause::NoName(NAME_BYTES))
+        None
     }
 }
 
-fn client_named(name: &[u8]) -> Mark
-    ensures mark { result ≡ client_named name.now }
+/// The mark of `#client`, which a name has to follow.
+fn client_named(name: Option<Name>) -> Mark
+    ensures mark { result ≡ client_named name }
 {
-    match Name::read(name) {
+    match name {
         Some(name) => Mark::Client(name),
         None => Mark::Wrong(Cause::NoName(NAME_BYTES)),
     }
 }
 
-/// The mark of a note on an access, which the name of a buffer has to follow.
-fn access_mark(verb: Verb, rest: &[u8]) -> Mark
-    ensures mark { result ≡ access_mark verb rest.now }
+/// The mark of `#mark`, which a name has to follow.
+fn mark_named(name: Option<Name>) -> Mark
+    ensures mark { result ≡ mark_named name }
 {
-    if words_after(rest).is_empty() {
-        access_named(verb, first_word(rest))
-    } else {
-        Mark::Wrong(Cause::NoBuffer(NAME_BYTES))
+    match name {
+        Some(name) => Mark::Named(name),
+        None => Mark::Wrong(Cause::NoName(NAME_BYTES)),
     }
 }
 
-fn access_named(verb: Verb, name: &[u8]) -> Mark
-    ensures mark { result ≡ access_named verb name.now }
+/// The mark of `#after`, which a name has to follow.
+fn after_named(name: Option<Name>) -> Mark
+    ensures mark { result ≡ after_named name }
 {
-    match Name::read(name) {
+    match name {
+        Some(name) => Mark::After(name),
+        None => Mark::Wrong(Cause::NoName(NAME_BYTES)),
+    }
+}
+
+/// The mark of a note on an access, which the name of a buffer has to follow.
+fn access_named(verb: Verb, name: Option<Name>) -> Mark
+    ensures mark { result ≡ access_named verb name }
+{
+    match name {
         Some(name) => Mark::Access(verb, name),
         None => Mark::Wrong(Cause::NoBuffer(NAME_BYTES)),
+    }
+}
+
+/// The mark of `#turn`, which a number has to follow.
+fn turn_numbered(number: Option<u32>) -> Mark
+    ensures mark { result ≡ turn_numbered number }
+{
+    match number {
+        Some(number) => Mark::Turn(number as usize),
+        None => Mark::Wrong(Cause::NoTurn(PLAN_TURNS)),
     }
 }
 

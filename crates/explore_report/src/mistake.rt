@@ -1,6 +1,6 @@
 //! `Mistake`: the first line that makes a script no plan, and why. `PlanScript::read` looks for one.
 ghost use Rattle.std.specs.Prelude.{◌≡◌, All, MatchOption, false};
-ghost use Rattle.explore_report.specs.Mistake.{AllFit, AreFew, EndsClosed, EndsWhole, IsMisfit, IsMisplaced, IsMissing, IsMistake, IsOpen, IsPastLimit, IsPlaced, IsPlan, IsUnfollowed, IsWhole, access_above, access_cause, access_in, branch_in, cause_among, cause_of, client_below, client_cause, command_cause, done_below, else_after, else_below, else_cause, end_below, end_cause, expected_cause, finally_below, finally_cause, has_client, has_some_client, if_below, if_cause, in_else, section_cause, unless_awaited, unless_open, waiting_cause};
+ghost use Rattle.explore_report.specs.Mistake.{AllFit, AreFew, EndsClosed, EndsWhole, IsMisfit, IsMisplaced, IsMissing, IsMistake, IsOpen, IsPastLimit, IsPlaced, IsPlan, IsUnfollowed, IsWhole, access_above, access_cause, access_in, after_cause, branch_in, cause_among, cause_of, client_below, client_cause, command_cause, done_below, else_after, else_below, else_cause, end_below, end_cause, expected_cause, finally_below, finally_cause, has_client, has_some_client, if_below, if_cause, in_else, mark_cause, marked_in, order_cause, section_cause, turn_cause, unless_awaited, unless_noted, unless_open, unless_twice, waiting_cause, waiting_in};
 
 use crate::accesses::{is_closed, is_open, lines_accessed};
 use crate::cause::{Cause, LAST_CLIENT, PLAN_CLIENTS, PLAN_LINES};
@@ -59,6 +59,9 @@ fn cause_of(context: &Context, mark: &Mark) -> Option<Cause>
         Mark::Client(_) => client_cause(context),
         Mark::Finally => finally_cause(context),
         Mark::Await | Mark::Once => waiting_cause(context),
+        Mark::Named(_) => mark_cause(context),
+        Mark::After(_) => after_cause(context),
+        Mark::Turn(_) => turn_cause(context),
         Mark::If => if_cause(context),
         Mark::Else => else_cause(context),
         Mark::End => end_cause(context),
@@ -91,11 +94,32 @@ fn unless_open(depth: usize, other: Option<Cause>) -> Option<Cause>
     }
 }
 
+/// A command has to follow all notes on it; else that cause counts.
+fn unless_noted(above: Above, other: Option<Cause>) -> Option<Cause>
+    ensures cause { result ≡ unless_noted above other }
+{
+    match above {
+        Above::Note => Some(Cause::NotesNothing),
+        _ => unless_awaited(above, other),
+    }
+}
+
+/// A line has one note of that kind; else that cause counts.
+fn unless_twice(noted: bool, other: Option<Cause>) -> Option<Cause>
+    ensures cause { result ≡ unless_twice noted other }
+{
+    if noted {
+        Some(Cause::NotedTwice)
+    } else {
+        other
+    }
+}
+
 fn client_cause(context: &Context) -> Option<Cause>
     ensures cause { result ≡ client_cause context.now }
 {
     let cause = unless_open(context.depth, client_below(context.section));
-    unless_awaited(context.above, cause)
+    unless_noted(context.above, cause)
 }
 
 fn client_below(section: Section) -> Option<Cause>
@@ -112,7 +136,7 @@ fn finally_cause(context: &Context) -> Option<Cause>
     ensures cause { result ≡ finally_cause context.now }
 {
     let cause = unless_open(context.depth, finally_below(context.section));
-    unless_awaited(context.above, cause)
+    unless_noted(context.above, cause)
 }
 
 fn finally_below(section: Section) -> Option<Cause>
@@ -128,18 +152,43 @@ fn finally_below(section: Section) -> Option<Cause>
 fn waiting_cause(context: &Context) -> Option<Cause>
     ensures cause { result ≡ waiting_cause context.now }
 {
-    let cause = match context.section {
+    unless_awaited(context.above, waiting_in(context.section))
+}
+
+/// What says when a line may be made is about a client's line.
+fn waiting_in(section: Section) -> Option<Cause>
+    ensures cause { result ≡ waiting_in section }
+{
+    match section {
         Section::Client(_) => None,
         _ => Some(Cause::AwaitOutside),
-    };
-    unless_awaited(context.above, cause)
+    }
+}
+
+/// Of `#mark`.
+fn mark_cause(context: &Context) -> Option<Cause>
+    ensures cause { result ≡ mark_cause context.now }
+{
+    waiting_in(context.section)
+}
+
+fn after_cause(context: &Context) -> Option<Cause>
+    ensures cause { result ≡ after_cause context.now }
+{
+    unless_twice(context.follows.is_some(), waiting_in(context.section))
+}
+
+fn turn_cause(context: &Context) -> Option<Cause>
+    ensures cause { result ≡ turn_cause context.now }
+{
+    unless_twice(context.turn.is_some(), waiting_in(context.section))
 }
 
 fn if_cause(context: &Context) -> Option<Cause>
     ensures cause { result ≡ if_cause context.now }
 {
     let cause = if_below(context.above);
-    unless_awaited(context.above, branch_in(context.section, cause))
+    unless_noted(context.above, branch_in(context.section, cause))
 }
 
 fn if_below(above: Above) -> Option<Cause>
@@ -165,7 +214,7 @@ fn else_cause(context: &Context) -> Option<Cause>
     ensures cause { result ≡ else_cause context.now }
 {
     let cause = else_below(context.above, context.depth);
-    unless_awaited(context.above, branch_in(context.section, cause))
+    unless_noted(context.above, branch_in(context.section, cause))
 }
 
 fn else_below(above: Above, depth: usize) -> Option<Cause>
@@ -182,7 +231,7 @@ fn end_cause(context: &Context) -> Option<Cause>
     ensures cause { result ≡ end_cause context.now }
 {
     let cause = end_below(context.depth);
-    unless_awaited(context.above, branch_in(context.section, cause))
+    unless_noted(context.above, branch_in(context.section, cause))
 }
 
 fn end_below(depth: usize) -> Option<Cause>
@@ -202,13 +251,13 @@ fn expected_cause(context: &Context) -> Option<Cause>
         Above::Nothing | Above::If => Some(Cause::ExpectsNothing),
         _ => None,
     };
-    unless_awaited(context.above, cause)
+    unless_noted(context.above, cause)
 }
 
 fn access_cause(context: &Context) -> Option<Cause>
     ensures cause { result ≡ access_cause context.now }
 {
-    unless_awaited(context.above, access_in(context.section))
+    unless_noted(context.above, access_in(context.section))
 }
 
 fn access_in(section: Section) -> Option<Cause>
@@ -265,11 +314,35 @@ fn cause_among(above: &[Row], row: &Row, below: &[Row]) -> Option<Cause>
 {
     match &row.mark {
         Mark::Client(name) if has_client(above, name) => Some(Cause::NameTaken),
+        Mark::Named(name) if marked_in(name, above).is_some() => Some(Cause::MarkTaken),
+        Mark::After(name) => order_cause(
+            row.context.section,
+            marked_in(name, above).or(marked_in(name, below)),
+        ),
         Mark::Else if is_in_else(above, row.context.depth) => Some(Cause::ElseTwice),
         Mark::Access(verb, name) if verb.is_done() => done_below(name, above),
         Mark::Access(_, name) => access_above(name, row.context.depth, below),
         _ => None,
     }
+}
+
+/// Why a line of that section can't come behind a line that has its mark in the other section.
+fn order_cause(own: Section, marked: Option<Section>) -> Option<Cause>
+    ensures cause { result ≡ order_cause own marked }
+{
+    match marked {
+        None => Some(Cause::NoMark),
+        Some(section) if own.is_same(section) => Some(Cause::OwnMark),
+        Some(_) => None,
+    }
+}
+
+/// The section in which the rows have the mark of that name.
+fn marked_in(name: &Name, rows: &[Row]) -> Option<Section>
+    ensures section { result ≡ marked_in name.now rows.now }
+{
+    let row = rows.iter().find(|row| row.marks(name))?;
+    Some(row.context.section)
 }
 
 /// Why an access to the buffer can't end below these rows.

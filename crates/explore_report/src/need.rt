@@ -1,9 +1,10 @@
-//! `Need`: what a client waits for once a schedule gets stuck, and the line that would bring it. `why.rt` adds it to the reason.
+//! `Need`: what a client waits for once a schedule gets stuck, and the line that would bring it. `why.rt` adds it to the reason, and
+//! which marked line the client waits for (`add_hold`).
 use crate::context::Section;
 use crate::plan_script::PlanScript;
 use crate::schedule::Making;
 use command_core::{Command, Space};
-use explore_core::{line_at, place_of};
+use explore_core::{Milestone, line_at, place_of};
 use point_core::Name;
 use text_core::Page;
 
@@ -122,11 +123,25 @@ impl Source {
 
 /// With what a client waits.
 fn add_wait(plan: &PlanScript<'_>, making: &Making, client: usize, page: &mut Page) {
+    if let Some(marked) = making.hold_of(plan, client) {
+        page.text(", and ");
+        add_hold(plan, &marked, page);
+        return;
+    }
     let Some(index) = making.next_of(plan, client) else {
         return;
     };
     if let Some(command) = plan.command_of(index) {
         add_awaited(&command, plan.number_of(index), page);
+    }
+}
+
+/// Which marked line has to be passed.
+pub(crate) fn add_hold(plan: &PlanScript<'_>, marked: &Milestone, page: &mut Page) {
+    page.text("waits until ");
+    page.bytes(plan.client_name(marked.client));
+    if let Some(row) = plan.row_at(Section::Client(marked.client), marked.place) {
+        page.counted(" is past line ", plan.number_of(row));
     }
 }
 

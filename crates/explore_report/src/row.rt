@@ -4,7 +4,7 @@ ghost use Rattle.explore_report.specs.Cases.{command_rows, index_at};
 ghost use Rattle.explore_report.specs.Context.{after};
 ghost use Rattle.explore_report.specs.Finding.{begins_answer, expects};
 ghost use Rattle.explore_report.specs.Accesses.{begins_section, ends_access, is_access, stops_access};
-ghost use Rattle.explore_report.specs.Mistake.{begins_part, depth_below, is_client_row};
+ghost use Rattle.explore_report.specs.Mistake.{begins_part, depth_below, is_client_row, marks};
 ghost use Rattle.explore_report.specs.Rows.{command_in, command_said, context_below, ends_part, is_else, is_end, is_if, is_line, row_if, rows_at, rows_of};
 
 use crate::context::{Context, Section};
@@ -58,6 +58,13 @@ impl Row {
         ensures { result ≡ is_client_row self.now }
     {
         matches!(self.mark, Mark::Client(_))
+    }
+
+    /// Whether it marks a line by that name.
+    pub(crate) fn marks(&self, name: &Name) -> bool
+        ensures { result ≡ marks name.now self.now }
+    {
+        self.mark.is_marked(name)
     }
 
     /// How many `#if` are open below it.
@@ -205,8 +212,9 @@ fn push_row(
         mark: *mark,
     })?;
     *context = context.after(mark);
-    // The check of `push` has to see the type of a command.
+    // The check of `push` has to see the types of a command and of a name.
     let _command = mark.command();
+    let _name = context.follows;
     Ok(())
 }
 

@@ -9,7 +9,7 @@ use crate::plan_script::PlanScript;
 use crate::row::push_commands;
 use command_core::{Answer, Command};
 use desk_core::Desk;
-use explore_core::{Step, clear_made, count_to, line_at, make, place_of};
+use explore_core::{Milestone, Step, clear_made, count_to, line_at, make, place_of};
 use std::alloc::{AllocError, Global};
 
 /// The rows of a plan in the order in which a schedule makes them, and the desk that answers them.
@@ -184,6 +184,17 @@ impl Making {
             Section::Client(client),
             place_of(self.made.as_slice(), client),
         )
+    }
+
+    /// The marked line behind which the client's next line comes, while it is not passed.
+    pub(crate) fn hold_of(&self, plan: &PlanScript<'_>, client: usize) -> Option<Milestone> {
+        let made = self.made.as_slice();
+        let step = line_at(&plan.plan, client, place_of(made, client))?;
+        let marked = step.after?;
+        if place_of(made, marked.client) > marked.place {
+            return None;
+        }
+        Some(marked)
     }
 
     /// Appends the rows of the lines that clients come to.

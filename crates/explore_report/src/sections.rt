@@ -3,16 +3,17 @@
 ghost use Rattle.std.specs.Prelude.{◌≡◌, ◌+◌, ◌++◌, IfOk, OnOk, Vec, length, map};
 ghost use Rattle.std.specs.Global.{Global};
 ghost use Rattle.explore_core.specs.declared.plan.Step.{Step};
-ghost use Rattle.explore_report.specs.Plan.{branch_at, branch_below, branch_line, branch_of, clients_at, clients_in, commands_at, commands_in, jump, plan_of, steps_at, steps_in, text_at, texts_of, waits};
+ghost use Rattle.explore_report.specs.Plan.{branch_at, branch_below, branch_line, branch_of, clients_at, clients_in, commands_at, commands_in, jump, line_before, line_below, mark_at, marked_at, marked_line, plan_of, steps_at, steps_in, text_at, texts_of, waits};
 
-use crate::accesses::accesses_of;
+use crate::accesses::{accesses_of, lines_in};
 use crate::context::{Above, Section};
 use crate::mark::{Mark, branch_text};
 use crate::plan_script::{after_notes, below};
 use crate::row::Row;
 use crate::way::{Way, left_out, more};
 use command_core::Command;
-use explore_core::{Branch, Expects, Plan, Step};
+use explore_core::{Branch, Expects, Milestone, Plan, Step};
+use point_core::Name;
 use std::alloc::{AllocError, Global};
 
 /// The plan of the rows, which are of these lines.
@@ -91,22 +92,31 @@ fn steps_in(
 {
     let mut steps = Vec::new(alloc);
     for (index, row) in rows.iter().enumerate() {
-        push_step(alloc, lines, row, below(rows, index), section, &mut steps)?;
+        push_step(
+            alloc,
+            lines,
+            rows,
+            row,
+            below(rows, index),
+            section,
+            &mut steps,
+        )?;
     }
     Ok(steps)
 }
 
-/// Appends the line of a row that has these rows below it, if the row is in the section.
+/// Appends the line of a row that has these rows below it, if the row is in the section. All rows have the marks.
 fn push_step(
     alloc: Global,
     lines: &[&[u8]],
+    rows: &[Row],
     row: &Row,
     below: &[Row],
     section: Section,
     steps: &mut Vec<Step>,
 ) -> Result<(), AllocError>
     ensures pushed { OnOk result (steps.new.items
-        ≡ steps.old.items ++ steps_at (texts_of lines.now) section (length steps.old.items) row.now below.now) }
+        ≡ steps.old.items ++ steps_at (texts_of lines.now) rows.now section (length steps.old.items) row.now below.now) }
 {
     if let Some(command) = row.command_in(section) {
         let waits = waits(row.context.above, &command);
@@ -115,10 +125,10 @@ fn push_step(
             command,
             waits,
             branch,
-            after: None,
+            after: line_before(rows, row),
             joined: false,
             expects: Expects::Any,
-            turn: 0,
+            turn: row.context.turn.unwrap_or(row.number),
         })?;
     }
     Ok(())
@@ -134,6 +144,50 @@ fn waits(above: Above, command: &Command) -> bool
         (_, Command::Wait(_)) => true,
         _ => false,
     }
+}
+
+/// The marked line behind which the line of a row comes.
+fn line_before(rows: &[Row], row: &Row) -> Option<Milestone>
+    ensures { result ≡ line_before rows.now row.now }
+{
+    match &row.context.follows {
+        Some(name) => marked_line(rows, name),
+        None => None,
+    }
+}
+
+/// The line that the rows mark by that name.
+fn marked_line(rows: &[Row], name: &Name) -> Option<Milestone>
+    ensures line { result ≡ marked_line rows.now name.now }
+{
+    let index = mark_at(name, rows)?;
+    marked_at(rows, index)
+}
+
+/// Which row is the mark of that name.
+fn mark_at(name: &Name, rows: &[Row]) -> Option<usize>
+    ensures index { result ≡ mark_at name.now rows.now }
+{
+    rows.iter().position(|row| row.marks(name))
+}
+
+fn marked_at(rows: &[Row], index: usize) -> Option<Milestone>
+    ensures line { result ≡ marked_at rows.now index }
+{
+    let row = rows.get(index)?;
+    line_below(rows, index, row)
+}
+
+/// The line below a row, which is of the row's client.
+fn line_below(rows: &[Row], index: usize, row: &Row) -> Option<Milestone>
+    ensures line { result ≡ line_below rows.now index row.now }
+{
+    let section = row.context.section;
+    let Section::Client(client) = section else {
+        return None;
+    };
+    let place = lines_in(section, rows.get(..index).unwrap_or(rows));
+    Some(Milestone { client, place })
 }
 
 /// The branch that begins directly below a line with these rows below it. That many lines of the client are above the branch.

@@ -3,7 +3,7 @@
 //! A `#repeat` that can't be made stays among the turns, and `mark_of` refuses it.
 ghost use Rattle.std.specs.Prelude.{◌≡◌, ◌+◌, ◌++◌, IfOk, OnOk, drop, map, take};
 ghost use Rattle.explore_report.specs.Plan.{texts_of};
-ghost use Rattle.explore_report.specs.Rounds.{number_from, rounds_allowed, rounds_said};
+ghost use Rattle.explore_report.specs.Rounds.{allowed, number_from, number_said, rounds_said};
 ghost use Rattle.explore_report.specs.Turns.{begins_block, block_at, block_of, end_from, ends_block, in_block, in_round, made_at, made_once, numbered, open_below, room_below, rounds_made, rounds_of, turns_of, word_of};
 
 use crate::cause::{PLAN_ROUNDS, REPEATED_LINES};
@@ -222,22 +222,29 @@ fn rounds_of(line: &[u8]) -> Option<u32>
     }
 }
 
-/// The rounds that the words behind `#repeat` say, if they are one number of rounds.
+/// The rounds that the words behind `#repeat` say.
 pub(crate) fn rounds_said(words: &[u8]) -> Option<u32>
     ensures rounds { result ≡ rounds_said words.now }
 {
+    number_said(PLAN_ROUNDS, words)
+}
+
+/// The number that the words are, if they are one from 1 to that one.
+pub(crate) fn number_said(most: u32, words: &[u8]) -> Option<u32>
+    ensures number { result ≡ number_said most words.now }
+{
     if words_after(words).is_empty() {
-        rounds_allowed(number(first_word(words))?)
+        allowed(most, number(first_word(words))?)
     } else {
         None
     }
 }
 
-fn rounds_allowed(rounds: u32) -> Option<u32>
-    ensures { result ≡ rounds_allowed rounds }
+fn allowed(most: u32, number: u32) -> Option<u32>
+    ensures { result ≡ allowed most number }
 {
-    if 1 <= rounds && rounds <= PLAN_ROUNDS {
-        Some(rounds)
+    if 1 <= number && number <= most {
+        Some(number)
     } else {
         None
     }

@@ -1,6 +1,6 @@
 //! Why a client waits: what the desk refuses. The text of a report and its JSON say why for each client of a schedule that
 //! gets stuck.
-use crate::need::Need;
+use crate::need::{Need, add_hold};
 use crate::plan_script::PlanScript;
 use crate::report::Report;
 use crate::schedule::Making;
@@ -67,13 +67,18 @@ fn add_waiting(
 }
 
 impl Waiting {
-    /// Adds why the desk refuses the line, and which line would end that. The refusal leaves the desk as it is.
+    /// Adds which marked line the client waits for; else why the desk refuses the line, and which line would end that.
     pub(crate) fn add_why(&self, plan: &PlanScript<'_>, making: &mut Making, page: &mut Page) {
+        if let Some(marked) = making.hold_of(plan, self.client) {
+            add_hold(plan, &marked, page);
+            return;
+        }
         if let Some(command) = plan.command_of(self.row) {
             self.add_why_of(plan, &command, making, page);
         }
     }
 
+    /// Adds why the desk refuses the command. The refusal leaves the desk as it is.
     fn add_why_of(
         &self,
         plan: &PlanScript<'_>,
