@@ -57,11 +57,12 @@ class Plan:
         self.text, self.commands = [], {}
         self.first = [self.add(line) for line in ["timeline t", "timeline u", "buffer b", "buffer c"][:rng.randint(2, 4)]]
         self.first += [self.add(f"fence {name} {rng.choice(TIMELINES)} {rng.randint(1, 3)}") for name in FILES[:rng.randint(0, 2)]]
-        self.clients, self.waits = [], set()
+        self.clients, self.waits, self.marked, self.orders = [], set(), [], {}
         for client, most in enumerate(rng.choice(((4, 4), (3, 4), (2, 2, 2), (3, 3)))):
             self.text.append(f"#client c{client}")
             self.clients.append([])
             self.add_lines(rng, self.clients[-1], rng.randint(1, most))
+        self.name_orders(rng)
         self.text.append("#finally")
         self.last = [self.add(command(rng)) for _ in range(rng.randint(0, 3))]
 
@@ -73,7 +74,7 @@ class Plan:
     def add_lines(self, rng, steps, most):
         """Adds this many lines, some of them in branches."""
         while most > 0:
-            number = self.add_line(rng)
+            number = self.add_line(rng, len(steps))
             steps.append(number)
             most -= 1
             if most and rng.random() < 0.5:
@@ -100,15 +101,41 @@ class Plan:
         self.text.append("#end")
         return most
 
-    def add_line(self, rng):
+    def add_line(self, rng, place):
         how = rng.choice(("#await", "#once", "", "", "", "", "", ""))
         line = f"wait {rng.choice(FILES)}" if how == "#once" else command(rng)
-        if how:
-            self.text.append(how)
+        notes = [how] if how else []
+        is_after = rng.random() < 0.15
+        if is_after:
+            notes.append("#after")
+        if rng.random() < 0.3:
+            notes.append(f"#mark m{len(self.marked)}")
+            self.marked.append((len(self.clients) - 1, place))
+        rng.shuffle(notes)
+        self.text += notes
         number = self.add(line)
+        if is_after:
+            self.orders[number] = len(self.clients) - 1, len(self.text) - 1 - len(notes) + notes.index("#after")
         if how == "#await" or how != "#once" and line.startswith("wait "):
             self.waits.add(number)
         return number
+
+    def name_orders(self, rng):
+        """Has each `#after` name a mark of another client, or makes it a plain note."""
+        for number, (client, index) in list(self.orders.items()):
+            others = [mark for mark, (other, _) in enumerate(self.marked) if other != client]
+            if others:
+                mark = rng.choice(others)
+                self.text[index] = f"#after m{mark}"
+                self.orders[number] = self.marked[mark]
+            else:
+                self.text[index] = "# after nothing"
+                del self.orders[number]
+
+    def is_due(self, number, at):
+        """Returns whether the clients at these places let a line be made."""
+        client, place = self.orders.get(number, (None, None))
+        return client is None or at[client] > place
 
     def script(self):
         return "\n".join(self.text) + "\n"
@@ -161,6 +188,8 @@ class Schedules:
             if at[client] == len(lines):
                 continue
             number = lines[at[client]]
+            if not self.plan.is_due(number, at):
+                continue
             answer = self.answers(made + (number,))[-1]
             if number in self.plan.waits and answer[0].startswith("err"):
                 continue
