@@ -10,12 +10,13 @@ use Rattle.explore_report.specs.declared.mistake.Mistake.{Mistake}
 use Rattle.explore_report.specs.declared.plan_script.PlanScript.{PlanScript}
 use Rattle.explore_report.specs.declared.row.Row.{Row}
 use Rattle.explore_report.specs.declared.turn.Turn.{Turn}
+use Rattle.explore_report.specs.Expected.{expects_in}
 use Rattle.explore_report.specs.Mistake.{IsMistake, IsPlan}
-use Rattle.explore_report.specs.Plan.{plan_of, texts_of}
+use Rattle.explore_report.specs.Plan.{plan_of}
 use Rattle.explore_report.specs.Reading.{IsNoPlan, IsPlanOf}
 use Rattle.explore_report.specs.Rows.{rows_of}
 use Rattle.explore_report.specs.Turns.{line_number, plan_lines, turn_text, turns_of}
-use Rattle.explore_report.specs.Lines.{line_text}
+use Rattle.explore_report.specs.Lines.{line_text, texts_of}
 use Rattle.explore_report.proofs.Exploring.{placed-explorable}
 use Rattle.explore_report.proofs.Mistakes.{no-plan}
 use Rattle.explore_report.proofs.Rows.{text_of}
@@ -29,8 +30,9 @@ plan_lines-are all cut used turns made_of made one two are same is =
 
 pub plan-read : (script : List ℕ) (p : PlanScript) (cut : List (Bor (List ℕ))) → texts_of cut ≡ plan_lines (lines_of script)
     → map line_text p.lines.items ≡ plan_lines (lines_of script) → p.rows.items ≡ rows_of (texts_of cut)
-    → p.plan ≡ plan_of (texts_of cut) p.rows.items → length script ≤ SCRIPT_BYTES → IsPlan p.rows.items → IsPlanOf script p
-plan-read script p cut texts lines rows plan short found =
+    → p.expects.items ≡ expects_in (texts_of cut) p.rows.items → p.plan ≡ plan_of (texts_of cut) p.rows.items → length script ≤ SCRIPT_BYTES
+    → IsPlan p.rows.items → IsPlanOf script p
+plan-read script p cut texts lines rows expects plan short found =
     let all = plan_lines (lines_of script) in
     let are : p.rows.items ≡ rows_of all = rows ∙ ap rows_of texts in
     record {
@@ -39,6 +41,7 @@ plan-read script p cut texts lines rows plan short found =
       explorable = subst CanBeExplored (sym plan) (placed-explorable (texts_of cut) p.rows.items found.placed);
       lines = lines;
       rows = are;
+      expects = expects ∙ ap (expects_in (texts_of cut)) are ∙ ap (λ ls. expects_in ls (rows_of all)) texts;
     }
 
 -- how many lines the script has

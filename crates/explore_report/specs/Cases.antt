@@ -10,7 +10,7 @@ use Rattle.explore_core.specs.declared.found.Given.{Given}
 use Rattle.explore_report.specs.declared.case.Case.{Case}
 use Rattle.explore_report.specs.declared.context.Section.{Section}
 use Rattle.explore_report.specs.declared.context.Section.TheVariants as section
-use Rattle.explore_report.specs.declared.expected.Finding.{Finding}
+use Rattle.explore_report.specs.declared.finding.Finding.{Finding}
 use Rattle.explore_report.specs.declared.plan_script.PlanScript.{PlanScript}
 use Rattle.explore_report.specs.declared.row.Row.{Row}
 use Rattle.explore_report.specs.Finding.{finding_of}

@@ -60,6 +60,7 @@ after at (mark.Access v name) = below at above.Nothing
 after at mark.End = branched at above.Nothing (at.depth - 1)
 after at mark.Expected = below at above.Command
 after at mark.OrExpected = below at above.Command
+after at mark.OrBegins = below at above.Command
 after at (mark.Command command) = below at above.Command
 after at (mark.Wrong why) = below at above.Command
 

@@ -1,6 +1,7 @@
 pub mod Accesses
 pub mod Cases
 pub mod Context
+pub mod Expected
 pub mod Filling
 pub mod Finding
 pub mod Lines

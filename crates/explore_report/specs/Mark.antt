@@ -104,6 +104,7 @@ directive_of word words =
 abbrev pub note_of : List ℕ → Option Mark
 note_of note =
     if is_some (strip_prefix note (codes "#=")) then Some mark.Expected
+    else if is_some (strip_prefix note (codes "#|..")) then Some mark.OrBegins
     else if is_some (strip_prefix note (codes "#|")) then Some mark.OrExpected
     else directive_of (first_word note) (words_after note)
 
@@ -119,9 +120,13 @@ mark_or_note (Some body) line = Some (mark_of_body body)
 abbrev pub mark_of : List ℕ → Option Mark
 mark_of line = mark_or_note (body_of line) line
 
+-- what follows the mark of a note that begins another answer
+abbrev pub after_other : List ℕ → List ℕ
+after_other note = unwrap_or (strip_prefix note (codes "#|..")) (unwrap_or (strip_prefix note (codes "#|")) note)
+
 -- what follows the mark of a note that expects a line
 abbrev pub after_mark : List ℕ → List ℕ
-after_mark note = unwrap_or (strip_prefix note (codes "#=")) (unwrap_or (strip_prefix note (codes "#|")) note)
+after_mark note = unwrap_or (strip_prefix note (codes "#=")) (after_other note)
 
 -- the text that a note expects: what follows its mark, but for one space
 abbrev pub expected_text : List ℕ → List ℕ

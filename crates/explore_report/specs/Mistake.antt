@@ -160,6 +160,7 @@ cause_of at mark.End = end_cause at
 cause_of at (mark.Access v name) = access_cause at
 cause_of at mark.Expected = expected_cause at
 cause_of at mark.OrExpected = expected_cause at
+cause_of at mark.OrBegins = expected_cause at
 cause_of at (mark.Command command) = command_cause at.above at.section command
 cause_of at (mark.Wrong why) = Some why
 

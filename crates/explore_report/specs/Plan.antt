@@ -1,6 +1,5 @@
 -- The plan that rows make.
 use Rattle.std.specs.Prelude.{ℕ, ◌+◌, ◌-◌, ◌==◌, not, Bool, true, false, if◌then◌else◌, List, [], ◌∷◌, ◌++◌, length, take, drop, map, position, slice_get, Option, None, Some, option_map, unwrap_or}
-use Rattle.std.specs.Borrow.{Bor}
 use Rattle.std.specs.List.{flat_map}
 use Rattle.std.specs.Option.{option_and_then, option_to_list}
 use Rattle.command_core.specs.declared.command.Command.{Command}
@@ -8,8 +7,8 @@ use Rattle.command_core.specs.declared.command.Command.TheVariants as command
 use Rattle.explore_core.specs.Branch.{Branching}
 use Rattle.explore_core.specs.declared.access.Access.{Access}
 use Rattle.explore_core.specs.Schedule.{Lines}
-use Rattle.explore_core.specs.declared.plan.Expects.TheVariants as expects
 use Rattle.explore_core.specs.declared.plan.Milestone.{Milestone}
+use Rattle.explore_core.specs.declared.expects.Expects.TheVariants as expects
 use Rattle.explore_core.specs.declared.plan.Step.{Step}
 use Rattle.explore_report.specs.declared.context.Above.{Above}
 use Rattle.explore_report.specs.declared.context.Above.TheVariants as above
@@ -23,7 +22,8 @@ use Rattle.explore_report.specs.declared.way.Way.TheVariants as way
 use Rattle.explore_report.specs.Accesses.{access_at, lines_in}
 use Rattle.explore_report.specs.Cases.{by_place}
 use Rattle.explore_report.specs.Context.{next_client}
-use Rattle.explore_report.specs.Finding.{expects}
+use Rattle.explore_report.specs.Expected.{expects}
+use Rattle.explore_report.specs.Lines.{text_at}
 use Rattle.explore_report.specs.Mark.{branch_text}
 use Rattle.explore_report.specs.Mistake.{depth_below, marks}
 use Rattle.explore_report.specs.Rows.{command_in, ends_part, is_else, is_end, is_if, is_line}
@@ -71,10 +71,6 @@ passed_at way.Stays row = 0
 abbrev pub left_out : Way → List Row → ℕ
 left_out to [] = 0
 left_out to (row ∷ rows) = passed_at to row + left_out (way_below to row) rows
-
--- the text of the line of that number
-abbrev pub text_at : List (List ℕ) → ℕ → List ℕ
-text_at lines number = unwrap_or (slice_get lines (number - 1)) []
 
 -- the first line of an answer that an `#if` names, with its line feed
 abbrev pub branch_line : List (List ℕ) → Row → List ℕ
@@ -178,7 +174,3 @@ plan_of lines rows = record {
   last = commands_in section.Last rows;
   accesses = accesses_of rows;
 }
-
--- the texts of borrowed lines
-abbrev pub texts_of : List (Bor (List ℕ)) → List (List ℕ)
-texts_of lines = map (λ (line : Bor (List ℕ)). line.now) lines

@@ -8,6 +8,7 @@ use Rattle.explore_report.specs.declared.mistake.Mistake.{Mistake}
 use Rattle.explore_report.specs.declared.plan_script.PlanScript.{PlanScript}
 use Rattle.explore_report.specs.declared.plan_script.Reading.{Reading}
 use Rattle.explore_report.specs.declared.plan_script.Reading.TheVariants as reading
+use Rattle.explore_report.specs.Expected.{expects_in}
 use Rattle.explore_report.specs.Lines.{line_text}
 use Rattle.explore_report.specs.Mistake.{IsMistake, IsPlan}
 use Rattle.explore_report.specs.Plan.{plan_of}
@@ -26,6 +27,7 @@ pub record IsPlanOf (script : List ℕ) (p : PlanScript) : Type 0 where
   pub explorable : CanBeExplored p.plan
   pub lines : map line_text p.lines.items ≡ plan_lines (lines_of script)
   pub rows : p.rows.items ≡ rows_of (plan_lines (lines_of script))
+  pub expects : p.expects.items ≡ expects_in (plan_lines (lines_of script)) (rows_of (plan_lines (lines_of script)))
 
 -- the script is too long; reported of its last line
 pub record IsTooLong (script : List ℕ) (m : Mistake) : Type 0 where

@@ -8,7 +8,7 @@ use Rattle.explore_report.specs.declared.turn.Turn.{Turn}
 use Rattle.explore_report.specs.declared.unrolling.Block.{Block}
 use Rattle.explore_report.specs.Context.{one_more}
 use Rattle.explore_report.specs.Filling.{filled}
-use Rattle.explore_report.specs.Plan.{text_at}
+use Rattle.explore_report.specs.Lines.{text_at}
 use Rattle.explore_report.specs.Rounds.{rounds_said}
 use Rattle.explore_report.specs.Words.{first_word, words_after}
 

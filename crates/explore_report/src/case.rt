@@ -7,7 +7,7 @@ ghost use Rattle.desk_core.specs.theorem.World.{empty_world};
 ghost use Rattle.report_core.specs.Answer.{text_of};
 
 use crate::context::Section;
-use crate::expected::{Finding, finding_of};
+use crate::finding::{Finding, finding_of};
 use crate::plan_script::PlanScript;
 use crate::row::push_commands;
 use crate::schedule::Making;
@@ -257,7 +257,7 @@ pub(crate) fn case_of(
     ensures judged { IfOk result (λ one. judged_of one ≡ judged plan.now index answer.now schedule.now) }
 {
     let text = answer_text(alloc, answer)?;
-    let finding = finding_of(alloc, plan, index, answer, text.as_slice())?;
+    let finding = finding_of(plan, index, answer, text.as_slice());
     let mut clients = Vec::new(alloc);
     clients.extend_from_slice(schedule)?;
     Ok(Case {

@@ -84,9 +84,8 @@ impl Context {
             Mark::If => self.branched(Above::If, one_more(self.depth)),
             Mark::Else | Mark::Access(_, _) => self.below(Above::Nothing),
             Mark::End => self.branched(Above::Nothing, self.depth.saturating_sub(1)),
-            Mark::Expected | Mark::OrExpected | Mark::Command(_) | Mark::Wrong(_) => {
-                self.below(Above::Command)
-            }
+            Mark::Expected | Mark::OrExpected | Mark::OrBegins => self.below(Above::Command),
+            Mark::Command(_) | Mark::Wrong(_) => self.below(Above::Command),
         }
     }
 

@@ -1,149 +1,157 @@
-//! Whether an answer is as a plan expects it. `case.rt` asks for each answer of each line.
-ghost use Rattle.std.specs.Prelude.{◌≡◌, ◌++◌, IfOk, OnOk};
-ghost use Rattle.std.specs.List.{list_any};
-ghost use Rattle.std.specs.Str.{bytes_eq};
-ghost use Rattle.report_core.specs.Answer.{text_of};
-ghost use Rattle.explore_report.specs.Finding.{answer_from, begun_answers, finding_of, finding_unless, finding_without, is_right, line_expected, more_lines};
+//! What the notes of a plan expect. `plan_script.rt` asks of each row once, when a plan is read, and so do the plan's lines.
+ghost use Rattle.std.specs.Prelude.{◌≡◌, ◌++◌, ◌∷◌, [], IfOk, OnOk};
+ghost use Rattle.explore_report.specs.Expected.{begun_answers, begun_at, expects_below, expects_in, expects_of, line_expected, more_lines, right_answers, right_from};
+ghost use Rattle.explore_report.specs.Lines.{texts_of};
 
-use crate::plan_script::PlanScript;
+use crate::mark::expected_text;
+use crate::plan_script::{below, expecting};
 use crate::row::Row;
-use command_core::Answer;
+use crate::sections::text_at;
+use explore_core::{Expects, RightAnswer, RightAnswers};
 use std::alloc::{AllocError, Global};
 
-/// What is wrong with an answer.
-#[derive(Clone, Copy)]
-pub(crate) enum Finding {
-    /// It is none of the answers that are expected.
-    Unexpected,
-    /// It is a refusal, and nothing is expected.
-    Refused,
-}
-
-/// What is wrong with an answer of that text to the command of a row.
-pub(crate) fn finding_of(
+/// What is expected of each row.
+pub(crate) fn expects_in(
     alloc: Global,
-    plan: &PlanScript<'_>,
-    index: usize,
-    answer: &Answer,
-    text: &[u8],
-) -> Result<Option<Finding>, AllocError>
-    requires text { text.now ≡ text_of 0 answer.now }
-    ensures finding { IfOk result (λ finding. finding ≡ finding_of plan.now index answer.now) }
+    lines: &[&[u8]],
+    rows: &[Row],
+) -> Result<Vec<Expects>, AllocError>
+    ensures all { IfOk result (λ all. all.items ≡ expects_in (texts_of lines.now) rows.now) }
 {
-    let notes = plan.expectations(index);
-    if notes.is_empty() {
-        return Ok(finding_without(answer));
+    let mut all = Vec::new(alloc);
+    for (index, _) in rows.iter().enumerate() {
+        push_expects(alloc, lines, below(rows, index), &mut all)?;
     }
-    let right = is_right(alloc, plan, notes, text)?;
-    Ok(finding_unless(right))
+    Ok(all)
 }
 
-/// What is wrong with an answer where nothing is expected.
-fn finding_without(answer: &Answer) -> Option<Finding>
-    ensures { result ≡ finding_without answer.now }
-{
-    match answer {
-        Answer::Refused(_) => Some(Finding::Refused),
-        _ => None,
-    }
-}
-
-fn finding_unless(right: bool) -> Option<Finding>
-    ensures { result ≡ finding_unless right }
-{
-    if right {
-        None
-    } else {
-        Some(Finding::Unexpected)
-    }
-}
-
-/// Whether one of the answers that the notes expect has that text.
-fn is_right(
+fn push_expects(
     alloc: Global,
-    plan: &PlanScript<'_>,
-    notes: &[Row],
-    text: &[u8],
-) -> Result<bool, AllocError>
-    ensures right { IfOk result (λ right. right ≡ is_right plan.now notes.now text.now) }
+    lines: &[&[u8]],
+    below: &[Row],
+    all: &mut Vec<Expects>,
+) -> Result<(), AllocError>
+    ensures pushed { OnOk result (all.new.items ≡ all.old.items ++ expects_below (texts_of lines.now) below.now ∷ []) }
 {
-    if is_answer(alloc, plan, notes, text)? {
-        return Ok(true);
-    }
-    let begun = is_begun(alloc, plan, notes, text)?;
-    Ok(begun)
-}
-
-/// Whether one of the answers that begin among the notes has that text.
-fn is_begun(
-    alloc: Global,
-    plan: &PlanScript<'_>,
-    notes: &[Row],
-    text: &[u8],
-) -> Result<bool, AllocError>
-    ensures begun { IfOk result (λ begun. begun ≡ list_any (bytes_eq text.now) (begun_answers plan.now notes.now)) }
-{
-    for (index, note) in notes.iter().enumerate() {
-        if !note.begins_answer() {
-            continue;
-        }
-        if is_answer(alloc, plan, &notes[index..], text)? {
-            return Ok(true);
-        }
-    }
-    Ok(false)
-}
-
-/// Whether the answer that the first notes expect has that text.
-fn is_answer(
-    alloc: Global,
-    plan: &PlanScript<'_>,
-    notes: &[Row],
-    text: &[u8],
-) -> Result<bool, AllocError>
-    ensures answer { IfOk result (λ is. is ≡ bytes_eq text.now (answer_from plan.now notes.now)) }
-{
-    let answer = answer_from(alloc, plan, notes)?;
-    Ok(text == answer.as_slice())
-}
-
-/// The answer that the first notes expect.
-fn answer_from(alloc: Global, plan: &PlanScript<'_>, notes: &[Row]) -> Result<Vec<u8>, AllocError>
-    ensures answer { IfOk result (λ answer. answer.items ≡ answer_from plan.now notes.now) }
-{
-    let mut answer = Vec::new(alloc);
-    push_answer(plan, notes, &mut answer)?;
-    Ok(answer)
-}
-
-fn push_answer(plan: &PlanScript<'_>, notes: &[Row], text: &mut Vec<u8>) -> Result<(), AllocError>
-    ensures pushed { OnOk result (text.new.items ≡ text.old.items ++ answer_from plan.now notes.now) }
-{
-    let Some((first, more)) = notes.split_first() else {
-        return Ok(());
-    };
-    push_line(plan, first, text)?;
-    push_more(plan, more, text)?;
+    all.push(expects_below(alloc, lines, below)?)?;
     Ok(())
 }
 
+/// What is expected of a line that has these rows below it.
+pub(crate) fn expects_below(
+    alloc: Global,
+    lines: &[&[u8]],
+    rows: &[Row],
+) -> Result<Expects, AllocError>
+    ensures expects { IfOk result (λ expects. expects ≡ expects_below (texts_of lines.now) rows.now) }
+{
+    expects_of(alloc, lines, expecting(rows))
+}
+
+fn expects_of(alloc: Global, lines: &[&[u8]], notes: &[Row]) -> Result<Expects, AllocError>
+    ensures expects { IfOk result (λ expects. expects ≡ expects_of (texts_of lines.now) notes.now) }
+{
+    let Some((first, more)) = notes.split_first() else {
+        return Ok(Expects::Accepted);
+    };
+    let answers = right_answers(alloc, lines, first, more)?;
+    Ok(Expects::Texts(RightAnswers { answers }))
+}
+
+/// The answers that notes expect, of which this is the first.
+fn right_answers(
+    alloc: Global,
+    lines: &[&[u8]],
+    first: &Row,
+    more: &[Row],
+) -> Result<Vec<RightAnswer>, AllocError>
+    ensures answers { IfOk result (λ answers. answers.items ≡ right_answers (texts_of lines.now) first.now more.now) }
+{
+    let mut answers = Vec::new(alloc);
+    push_right(alloc, lines, first, more, &mut answers)?;
+    push_begun(alloc, lines, more, &mut answers)?;
+    Ok(answers)
+}
+
+/// The answers that begin among the notes.
+fn push_begun(
+    alloc: Global,
+    lines: &[&[u8]],
+    notes: &[Row],
+    answers: &mut Vec<RightAnswer>,
+) -> Result<(), AllocError>
+    ensures pushed { OnOk result (answers.new.items ≡ answers.old.items ++ begun_answers (texts_of lines.now) notes.now) }
+{
+    for (index, note) in notes.iter().enumerate() {
+        push_if(alloc, lines, note, below(notes, index), answers)?;
+    }
+    Ok(())
+}
+
+fn push_if(
+    alloc: Global,
+    lines: &[&[u8]],
+    note: &Row,
+    below: &[Row],
+    answers: &mut Vec<RightAnswer>,
+) -> Result<(), AllocError>
+    ensures pushed { OnOk result (answers.new.items ≡ answers.old.items ++ begun_at (texts_of lines.now) note.now below.now) }
+{
+    if note.begins_answer() {
+        push_right(alloc, lines, note, below, answers)?;
+    }
+    Ok(())
+}
+
+fn push_right(
+    alloc: Global,
+    lines: &[&[u8]],
+    note: &Row,
+    below: &[Row],
+    answers: &mut Vec<RightAnswer>,
+) -> Result<(), AllocError>
+    ensures pushed { OnOk result (answers.new.items
+        ≡ answers.old.items ++ right_from (texts_of lines.now) note.now below.now ∷ []) }
+{
+    answers.push(right_from(alloc, lines, note, below)?)?;
+    Ok(())
+}
+
+/// The answer whose first line the note expects.
+fn right_from(
+    alloc: Global,
+    lines: &[&[u8]],
+    note: &Row,
+    below: &[Row],
+) -> Result<RightAnswer, AllocError>
+    ensures right { IfOk result (λ right. right ≡ right_from (texts_of lines.now) note.now below.now) }
+{
+    let mut text = Vec::new(alloc);
+    push_line(lines, note, &mut text)?;
+    push_more(lines, below, &mut text)?;
+    Ok(RightAnswer {
+        text,
+        begins: note.expects_front(),
+    })
+}
+
 /// The further lines of an answer, up to the note that begins another.
-fn push_more(plan: &PlanScript<'_>, notes: &[Row], text: &mut Vec<u8>) -> Result<(), AllocError>
-    ensures pushed { OnOk result (text.new.items ≡ text.old.items ++ more_lines plan.now notes.now) }
+fn push_more(lines: &[&[u8]], notes: &[Row], text: &mut Vec<u8>) -> Result<(), AllocError>
+    ensures pushed { OnOk result (text.new.items ≡ text.old.items ++ more_lines (texts_of lines.now) notes.now) }
 {
     for note in notes {
         if note.begins_answer() {
             return Ok(());
         }
-        push_line(plan, note, text)?;
+        push_line(lines, note, text)?;
     }
     Ok(())
 }
 
-fn push_line(plan: &PlanScript<'_>, note: &Row, text: &mut Vec<u8>) -> Result<(), AllocError>
-    ensures pushed { OnOk result (text.new.items ≡ text.old.items ++ line_expected plan.now note.now) }
+fn push_line(lines: &[&[u8]], note: &Row, text: &mut Vec<u8>) -> Result<(), AllocError>
+    ensures pushed { OnOk result (text.new.items ≡ text.old.items ++ line_expected (texts_of lines.now) note.now) }
 {
-    text.extend_from_slice(plan.expected(note))?;
+    text.extend_from_slice(expected_text(text_at(lines, note.number)))?;
     text.push(b'\n')?;
     Ok(())
 }

@@ -10,6 +10,7 @@ mod cause;
 mod context;
 mod expected;
 mod filling;
+mod finding;
 pub mod laws;
 mod line;
 mod mark;

@@ -1,7 +1,6 @@
 //! `Line`: a line of a plan, of which each `#repeat` is written out. `PlanScript` keeps the lines.
 ghost use Rattle.std.specs.Prelude.{◌≡◌, ◌++◌, ◌∷◌, [], IfOk, OnOk, map};
-ghost use Rattle.explore_report.specs.Plan.{texts_of};
-ghost use Rattle.explore_report.specs.Lines.{line_text, text_read};
+ghost use Rattle.explore_report.specs.Lines.{line_text, text_read, texts_of};
 ghost use Rattle.explore_report.specs.Turns.{text_in, turn_text};
 
 use crate::filling::filled;
@@ -58,7 +57,8 @@ fn push_line<'a>(
     turn: &Turn,
     made: &mut Vec<Line<'a>>,
 ) -> Result<(), AllocError>
-    ensures pushed { OnOk result (map line_text made.new.items ≡ map line_text made.old.items ++ turn_text (texts_of lines.now) turn.now ∷ []) }
+    ensures pushed { OnOk result (map line_text made.new.items
+        ≡ map line_text made.old.items ++ turn_text (texts_of lines.now) turn.now ∷ []) }
 {
     let text = text_in(alloc, turn, text_at(lines, turn.number))?;
     made.push(Line {

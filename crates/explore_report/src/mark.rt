@@ -3,7 +3,7 @@ ghost use Rattle.std.specs.Prelude.{◌≡◌};
 ghost use Rattle.explore_report.specs.Mistake.{is_marked, is_named, unfollowed};
 ghost use Rattle.explore_report.specs.Rounds.{number_said};
 ghost use Rattle.explore_report.specs.Rows.{command_said, is_else, is_end, is_if};
-ghost use Rattle.explore_report.specs.Mark.{access_named, after_mark, after_named, begins_directive, blank_note, branch_text, client_named, directive_of, expected_text, if_mark, is_directive, mark_named, mark_of, mark_of_body, name_said, note_of, repeat_mark, turn_numbered, without_words};
+ghost use Rattle.explore_report.specs.Mark.{access_named, after_mark, after_named, begins_directive, blank_note, branch_text, client_named, directive_of, expected_text, if_mark, is_directive, mark_named, mark_of, mark_of_body, name_said, note_of, repeat_mark, turn_numbered, without_words, after_other};
 
 use crate::cause::{Cause, PLAN_ROUNDS, PLAN_TURNS, REPEATED_LINES};
 use crate::unrolling::{number_said, rounds_said};
@@ -42,6 +42,8 @@ pub enum Mark {
     Expected,
     /// `#| TEXT`: the first line of another right answer.
     OrExpected,
+    /// `#|.. TEXT`: the first line of another right answer, which may have more lines than the notes say.
+    OrBegins,
     Command(Command),
     /// Nothing that a plan may have.
     Wrong(Cause),
@@ -151,6 +153,9 @@ const EXPECTED: &[u8] = b"#=";
 /// The front of a note that begins another answer.
 const OR_EXPECTED: &[u8] = b"#|";
 
+/// The front of a note that begins an answer of which more lines may follow.
+const OR_BEGINS: &[u8] = b"#|..";
+
 /// What a line says; none for a line without words, and for a note to the reader of the script.
 pub(crate) fn mark_of(line: &[u8]) -> Option<Mark>
     ensures mark { result ≡ mark_of line.now }
@@ -176,6 +181,9 @@ fn note_of(note: &[u8]) -> Option<Mark>
 {
     if strip_prefix(note, EXPECTED).is_some() {
         return Some(Mark::Expected);
+    }
+    if strip_prefix(note, OR_BEGINS).is_some() {
+        return Some(Mark::OrBegins);
     }
     if strip_prefix(note, OR_EXPECTED).is_some() {
         return Some(Mark::OrExpected);
@@ -381,6 +389,16 @@ fn after_mark(note: &[u8]) -> &[u8]
     ensures text { result.now ≡ after_mark note.now }
 {
     match strip_prefix(note, EXPECTED) {
+        Some(text) => text,
+        None => after_other(note),
+    }
+}
+
+/// What follows the mark of a note that begins another answer.
+fn after_other(note: &[u8]) -> &[u8]
+    ensures text { result.now ≡ after_other note.now }
+{
+    match strip_prefix(note, OR_BEGINS) {
         Some(text) => text,
         None => strip_prefix(note, OR_EXPECTED).unwrap_or(note),
     }

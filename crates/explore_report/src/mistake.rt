@@ -66,7 +66,7 @@ fn cause_of(context: &Context, mark: &Mark) -> Option<Cause>
         Mark::Else => else_cause(context),
         Mark::End => end_cause(context),
         Mark::Access(_, _) => access_cause(context),
-        Mark::Expected | Mark::OrExpected => expected_cause(context),
+        Mark::Expected | Mark::OrExpected | Mark::OrBegins => expected_cause(context),
         Mark::Command(command) => command_cause(context, command),
         Mark::Wrong(cause) => Some(*cause),
     }

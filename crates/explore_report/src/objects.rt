@@ -1,7 +1,7 @@
 //! A report as JSON: an object for each line with its answers, one for a schedule that gets stuck, and the totals last.
 //! Commands, answers and names are printable ASCII.
 use crate::case::Case;
-use crate::expected::Finding;
+use crate::finding::Finding;
 use crate::plan_script::PlanScript;
 use crate::races::Racing;
 use crate::report::{Ended, Report};

@@ -4,7 +4,7 @@ ghost use Rattle.std.specs.Prelude.{◌≡◌, ◌+◌, IfErr, IfOk, drop, lengt
 ghost use Rattle.line_core.specs.Script.{lines_of};
 ghost use Rattle.explore_core.specs.Found.{CanBeExplored, HasVisited, IsAll, IsShortest, IsTrue, ListsOnce};
 ghost use Rattle.explore_core.specs.Shortening.{IsShortened};
-ghost use Rattle.explore_report.specs.Finding.{expectations, expected, expecting, expects};
+ghost use Rattle.explore_report.specs.Expected.{expectations, expected, expecting, expects};
 ghost use Rattle.explore_report.specs.Making.{section_at};
 ghost use Rattle.explore_report.specs.Plan.{after_notes};
 ghost use Rattle.explore_report.specs.Reading.{IsReading};
@@ -12,6 +12,7 @@ ghost use Rattle.explore_report.specs.declared.turn.Turn.{Turn};
 
 use crate::cause::Cause;
 use crate::context::Section;
+use crate::expected::expects_in;
 use crate::line::{Line, plan_lines, texts_of};
 use crate::mark::{Mark, expected_text};
 use crate::mistake::{Mistake, mistake_of};
@@ -22,7 +23,7 @@ use crate::turn::Turn;
 use crate::unrolling::turns_of;
 use crate::words::without_last_spaces;
 use command_core::Command;
-use explore_core::{Found, Orders, Plan, Search, explore};
+use explore_core::{Expects, Found, Orders, Plan, Search, explore};
 use line_core::{SCRIPT_BYTES, first_line, without_spaces};
 use point_core::Refusal;
 use std::alloc::{AllocError, Global};
@@ -32,6 +33,8 @@ use std::alloc::{AllocError, Global};
 pub struct PlanScript<'a> {
     pub(crate) lines: Vec<Line<'a>>,
     pub(crate) rows: Vec<Row>,
+    /// What the notes below each row expect of its answer.
+    pub(crate) expects: Vec<Expects>,
     pub plan: Plan,
 }
 
@@ -69,10 +72,12 @@ impl<'a> PlanScript<'a> {
             }));
         }
         let plan = plan_of(alloc, texts.as_slice(), rows.as_slice())?;
+        let expects = expects_in(alloc, texts.as_slice(), rows.as_slice())?;
         drop(texts);
         Ok(Reading::Plan(PlanScript {
             lines: made,
             rows,
+            expects,
             plan,
         }))
     }
@@ -268,7 +273,7 @@ pub(crate) fn below(rows: &[Row], index: usize) -> &[Row]
 }
 
 /// The notes that the rows begin with and that expect an answer.
-fn expecting(rows: &[Row]) -> &[Row]
+pub(crate) fn expecting(rows: &[Row]) -> &[Row]
     ensures notes { result.now ≡ expecting rows.now }
 {
     let count = first_other(rows).unwrap_or(rows.len());

@@ -2,7 +2,7 @@
 ghost use Rattle.std.specs.Prelude.{◌≡◌, ◌+◌, ◌++◌, OnOk, IfOk, Some, map};
 ghost use Rattle.explore_report.specs.Cases.{command_rows, index_at};
 ghost use Rattle.explore_report.specs.Context.{after};
-ghost use Rattle.explore_report.specs.Finding.{begins_answer, expects};
+ghost use Rattle.explore_report.specs.Expected.{begins_answer, expects, expects_front};
 ghost use Rattle.explore_report.specs.Accesses.{begins_section, ends_access, is_access, stops_access};
 ghost use Rattle.explore_report.specs.Mistake.{begins_part, depth_below, is_client_row, marks};
 ghost use Rattle.explore_report.specs.Rows.{command_in, command_said, context_below, ends_part, is_else, is_end, is_if, is_line, row_if, rows_at, rows_of};
@@ -154,6 +154,7 @@ impl Row {
         match self.mark {
             Mark::Expected => true,
             Mark::OrExpected => true,
+            Mark::OrBegins => true,
             _ => false,
         }
     }
@@ -164,8 +165,16 @@ impl Row {
     {
         match self.mark {
             Mark::OrExpected => true,
+            Mark::OrBegins => true,
             _ => false,
         }
+    }
+
+    /// Whether it expects only the front of an answer, which may have more lines.
+    pub(crate) fn expects_front(&self) -> bool
+        ensures { result ≡ expects_front self.now }
+    {
+        matches!(self.mark, Mark::OrBegins)
     }
 }
 

@@ -3,7 +3,8 @@
 ghost use Rattle.std.specs.Prelude.{◌≡◌, ◌+◌, ◌++◌, IfOk, OnOk, Vec, length, map};
 ghost use Rattle.std.specs.Global.{Global};
 ghost use Rattle.explore_core.specs.declared.plan.Step.{Step};
-ghost use Rattle.explore_report.specs.Plan.{branch_at, branch_below, branch_line, branch_of, clients_at, clients_in, commands_at, commands_in, jump, line_before, line_below, mark_at, marked_at, marked_line, plan_of, steps_at, steps_in, text_at, texts_of, waits};
+ghost use Rattle.explore_report.specs.Plan.{branch_at, branch_below, branch_line, branch_of, clients_at, clients_in, commands_at, commands_in, jump, line_before, line_below, mark_at, marked_at, marked_line, plan_of, steps_at, steps_in, waits};
+ghost use Rattle.explore_report.specs.Lines.{text_at, texts_of};
 
 use crate::accesses::{accesses_of, lines_in};
 use crate::context::{Above, Section};

@@ -5,7 +5,7 @@ ghost use Rattle.explore_core.specs.Shortening.{AreShortened, IsShortened, IsTru
 
 use crate::case::answer_text;
 use crate::context::Section;
-use crate::expected::finding_of;
+use crate::finding::finding_of;
 use crate::plan_script::PlanScript;
 use explore_core::{Found, Given, Plan, Race};
 use std::alloc::{AllocError, Global};
@@ -41,8 +41,7 @@ fn is_wrong(alloc: Global, plan: &PlanScript<'_>, given: &Given) -> Result<bool,
         return Ok(false);
     };
     let text = answer_text(alloc, &given.answer)?;
-    let finding = finding_of(alloc, plan, index, &given.answer, text.as_slice())?;
-    Ok(finding.is_some())
+    Ok(finding_of(plan, index, &given.answer, text.as_slice()).is_some())
 }
 
 fn shorten_races(alloc: Global, plan: &Plan, races: &mut [Race])

@@ -1,6 +1,6 @@
 //! A report as text: a line for each finding, as editors read them, and the totals last.
 use crate::case::Case;
-use crate::expected::Finding;
+use crate::finding::Finding;
 use crate::plan_script::PlanScript;
 use crate::races::Racing;
 use crate::report::{Ended, Report};
@@ -284,18 +284,25 @@ pub(crate) fn add_wrong(
 
 /// The answers that are expected of a row.
 fn add_expected(plan: &PlanScript<'_>, index: usize, page: &mut Page) {
+    let mut is_front = false;
     page.text("\"");
     for (place, note) in plan.expectations(index).iter().enumerate() {
+        let is_new = place == 0 || note.begins_answer();
         if place > 0 {
-            page.text(if note.begins_answer() {
-                "\" or \""
-            } else {
-                "\" \""
-            });
+            page.text(if is_new { end_of(is_front) } else { "\"" });
+            page.text(if is_new { " or \"" } else { " \"" });
+        }
+        if is_new {
+            is_front = note.expects_front();
         }
         page.escaped(plan.expected(note));
     }
-    page.text("\"");
+    page.text(end_of(is_front));
+}
+
+/// The end of an answer; dots, if more lines may follow.
+fn end_of(is_front: bool) -> &'static str {
+    if is_front { "\" .." } else { "\"" }
 }
 
 /// The answers of other schedules that are not wrong.

@@ -2,8 +2,8 @@
 //!
 //! A `#repeat` that can't be made stays among the turns, and `mark_of` refuses it.
 ghost use Rattle.std.specs.Prelude.{◌≡◌, ◌+◌, ◌++◌, IfOk, OnOk, drop, map, take};
-ghost use Rattle.explore_report.specs.Plan.{texts_of};
 ghost use Rattle.explore_report.specs.Rounds.{allowed, number_from, number_said, rounds_said};
+ghost use Rattle.explore_report.specs.Lines.{texts_of};
 ghost use Rattle.explore_report.specs.Turns.{begins_block, block_at, block_of, end_from, ends_block, in_block, in_round, made_at, made_once, numbered, open_below, room_below, rounds_made, rounds_of, turns_of, word_of};
 
 use crate::cause::{PLAN_ROUNDS, REPEATED_LINES};

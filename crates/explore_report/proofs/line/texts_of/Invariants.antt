@@ -1,6 +1,5 @@
 use Rattle.std.proofs.Common.{◌≡◌, map, take}
-use Rattle.explore_report.specs.Lines.{line_text}
-use Rattle.explore_report.specs.Plan.{texts_of}
+use Rattle.explore_report.specs.Lines.{line_text, texts_of}
 use Rattle.explore_report.proofs.line.texts_of.Given as goal
 
 abbrev pub invariant-loop-line : goal.invariant-loop-line

@@ -1,7 +1,8 @@
 use Rattle.std.proofs.Common.{◌≡◌, map, take, Vec, Global}
 use Rattle.std.specs.List.{flat_map}
 use Rattle.explore_core.specs.declared.plan.Step.{Step}
-use Rattle.explore_report.specs.Plan.{clients_at, texts_of}
+use Rattle.explore_report.specs.Lines.{texts_of}
+use Rattle.explore_report.specs.Plan.{clients_at}
 use Rattle.explore_report.proofs.sections.clients_of.Given as goal
 
 abbrev pub invariant-loop-row : goal.invariant-loop-row

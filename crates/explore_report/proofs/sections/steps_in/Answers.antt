@@ -1,5 +1,6 @@
 use Rattle.std.proofs.Common.{◌++◌, ◌∙◌, ap, length}
-use Rattle.explore_report.specs.Plan.{steps_at, texts_of}
+use Rattle.explore_report.specs.Lines.{texts_of}
+use Rattle.explore_report.specs.Plan.{steps_at}
 use Rattle.explore_report.proofs.Steps.{steps-end, steps-next}
 use Rattle.explore_report.proofs.sections.steps_in.Goals as goal
 

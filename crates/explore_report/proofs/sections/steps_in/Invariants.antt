@@ -1,5 +1,6 @@
 use Rattle.std.proofs.Common.{◌≡◌, ◌++◌, drop, length}
-use Rattle.explore_report.specs.Plan.{steps_from, steps_in, texts_of}
+use Rattle.explore_report.specs.Lines.{texts_of}
+use Rattle.explore_report.specs.Plan.{steps_from, steps_in}
 use Rattle.explore_report.proofs.sections.steps_in.Given as goal
 
 abbrev pub invariant-loop-index : goal.invariant-loop-index

@@ -1,5 +1,5 @@
 use Rattle.std.proofs.Common.{◌≡◌, drop}
-use Rattle.explore_report.specs.Plan.{texts_of}
+use Rattle.explore_report.specs.Lines.{texts_of}
 use Rattle.explore_report.specs.Turns.{end_from}
 use Rattle.explore_report.proofs.unrolling.end_of.Given as goal
 

@@ -1,4 +1,4 @@
-use Rattle.explore_report.specs.Plan.{texts_of}
+use Rattle.explore_report.specs.Lines.{texts_of}
 use Rattle.explore_report.proofs.Turns.{made-next}
 use Rattle.explore_report.proofs.unrolling.made_once.Goals as goal
 

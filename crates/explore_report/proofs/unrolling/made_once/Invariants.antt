@@ -1,5 +1,5 @@
 use Rattle.std.proofs.Common.{◌≡◌, ◌++◌, length}
-use Rattle.explore_report.specs.Plan.{texts_of}
+use Rattle.explore_report.specs.Lines.{texts_of}
 use Rattle.explore_report.specs.Turns.{expanded, made_once}
 use Rattle.explore_report.proofs.unrolling.made_once.Given as goal
 

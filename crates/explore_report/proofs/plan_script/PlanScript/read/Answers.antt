@@ -1,8 +1,9 @@
 use Rattle.std.proofs.Common.{◌≡◌, ap, sym, subst, refl, ◌∙◌, arith, length, map}
 use Rattle.line_core.specs.Script.{lines_of}
-use Rattle.explore_report.specs.Lines.{line_text}
+use Rattle.explore_report.specs.Expected.{expects_in}
+use Rattle.explore_report.specs.Lines.{line_text, texts_of}
 use Rattle.explore_report.specs.Mistake.{IsPlan}
-use Rattle.explore_report.specs.Plan.{plan_of, texts_of}
+use Rattle.explore_report.specs.Plan.{plan_of}
 use Rattle.explore_report.specs.Turns.{plan_lines, turns_of}
 use Rattle.explore_report.proofs.Readings.{count-is, line_number-is, long-read, mistake-read, plan-read, plan_lines-are}
 use Rattle.explore_report.proofs.plan_script.PlanScript.read.Goals as goal
@@ -40,6 +41,8 @@ returns-clause-reading c =
     let texts : texts_of c.as_slice-5.result.now ≡ plan_lines all =
     ap texts_of c.as_slice-5.ensures.value ∙ c.in_ok-texts.ensures.texts ∙ ap (map line_text) c.as_slice-4.ensures.value ∙ made in
     plan-read c.args.script.now _ c.as_slice-5.result.now texts made c.in_ok-rows.ensures.rows
+    (c.in_ok-expects.ensures.all ∙ ap (expects_in _) c.as_slice-10.ensures.value
+    ∙ ap (λ ls. expects_in (texts_of ls) c.in_ok-rows.rows.items) (c.as_slice-9.ensures.value ∙ sym c.as_slice-5.ensures.value))
     (c.in_ok-plan.ensures.plan ∙ ap (plan_of _) c.as_slice-8.ensures.value
     ∙ ap (λ ls. plan_of (texts_of ls) c.in_ok-rows.rows.items) (c.as_slice-7.ensures.value ∙ sym c.as_slice-5.ensures.value)) (omega arith)
     (subst IsPlan c.as_slice-6.ensures.value c.in_default.ensures.found)
