@@ -73,14 +73,26 @@ fn add_stuck_head(report: &Report<'_>, name: &str, steps: usize, page: &mut Page
 pub(crate) fn add_steps(plan: &PlanScript<'_>, name: &str, steps: usize, page: &mut Page) {
     page.text(name);
     page.counted(": stuck after ", steps);
-    page.counted(" of ", plan.line_count());
-    page.text(" steps");
+    let lines = plan.line_count();
+    page.counted(" of ", lines);
+    page.text(word_for(lines, " step", " steps"));
+}
+
+/// The word behind a number.
+fn word_for(count: usize, one: &'static str, many: &'static str) -> &'static str {
+    if count == 1 { one } else { many }
 }
 
 /// The number of the schedule, if it is shown with one, and the end of the line.
 pub(crate) fn add_number(number: Option<usize>, page: &mut Page) {
+    add_numbered(number, "", page);
+}
+
+/// The number of the schedule and what is said of it, if it is shown with one, and the end of the line.
+fn add_numbered(number: Option<usize>, what: &str, page: &mut Page) {
     if let Some(number) = number {
         page.counted(" (schedule ", number);
+        page.text(what);
         page.text(")");
     }
     page.text("\n");
@@ -122,7 +134,7 @@ pub(crate) fn add_race(
         page.counted(":", plan.number_of(racing.one));
         page.text(": ");
         racing.add(plan, page);
-        add_number(number, page);
+        add_numbered(number, ", a short one", page);
     }
     add_schedule(plan, race.schedule.as_slice(), making, page);
 }
@@ -454,7 +466,8 @@ fn add_end(report: &Report<'_>, page: &mut Page) {
         Ended::Covered => add_totals(report, page),
         Ended::Bound => {
             page.counted("not covered: stopped after ", states);
-            page.text(" states; a greater --states goes on");
+            page.text(word_for(states, " state", " states"));
+            page.text("; a greater --states goes on");
             page.text(SOME);
         }
         Ended::Memory => {

@@ -47,7 +47,7 @@ fn add_wrong(report: &Report<'_>, number: usize, making: &mut Making, page: &mut
 
 /// A schedule after which two clients race.
 fn add_race(report: &Report<'_>, race: &Race, making: &mut Making, page: &mut Page) {
-    page.text("# a schedule after which two clients race\n");
+    page.text("# a short schedule after which two clients race\n");
     if making
         .follow(report.plan, race.schedule.as_slice())
         .is_err()
