@@ -13,7 +13,7 @@ _fencectl() {
     trace) words="--json --script --draw --perfetto --hangs --from --to --output --help" files="*" ;;
     draw) words="--graph --line --lines --output --help" ;;
     clients) words="--locks --help" takes_files="" ;;
-    explore) words="--json --states --witness --draw --answers --all-orders --first --help" files="*.plan" ;;
+    explore) words="--json --states --witness --draw --answers --all-orders --first --predict --help" files="*.plan" ;;
     help) words="run check explain trace draw clients explore" takes_files="" ;;
     *) takes_files="" ;;
     esac

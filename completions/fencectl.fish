@@ -39,4 +39,5 @@ complete -c fencectl -n '__fish_seen_subcommand_from explore' -r -l draw -d 'Dra
 complete -c fencectl -n '__fish_seen_subcommand_from explore' -l answers -d 'List the answers of all lines'
 complete -c fencectl -n '__fish_seen_subcommand_from explore' -l all-orders -d 'Follow every order of the clients'
 complete -c fencectl -n '__fish_seen_subcommand_from explore' -l first -d 'End at the first finding'
+complete -c fencectl -n '__fish_seen_subcommand_from explore' -l predict -d 'End each schedule at its first wrong answer'
 complete -c fencectl -n '__fish_seen_subcommand_from help' -f -a 'run check explain trace draw clients explore'

@@ -14,6 +14,7 @@ use Rattle.explore_report.specs.declared.context.Section.{Section}
 use Rattle.explore_report.specs.declared.context.Section.TheVariants as section
 use Rattle.explore_report.specs.declared.mark.Mark.{Mark}
 use Rattle.explore_report.specs.declared.mark.Mark.TheVariants as mark
+use Rattle.explore_report.specs.declared.purpose.Purpose.{Purpose}
 use Rattle.explore_report.specs.declared.row.Row.{Row}
 use Rattle.explore_report.specs.Context.{is_same, next_client}
 use Rattle.explore_report.specs.declared.cause.Cause.TheVariants as cause
@@ -115,21 +116,21 @@ commands_stand s rows all =
 abbrev quiet_step : Step → Type 0
 quiet_step step = IsQuiet step.command
 
-listed_step : (lines : List (List ℕ)) (rows : List Row) (place : ℕ) (o : Option Command) (row : Row) (below : List Row) → ((c : Command) → o ≡ Some c → IsQuiet c)
-    → All quiet_step (option_to_list (option_map (step_of lines rows place row below) o))
-listed_step lines rows place None row below each = All-nil quiet_step
-listed_step lines rows place (Some c) row below each = All-cons quiet_step (step_of lines rows place row below c) [] (each c refl) (All-nil quiet_step)
+listed_step : (aim : Purpose) (lines : List (List ℕ)) (rows : List Row) (place : ℕ) (o : Option Command) (row : Row) (below : List Row) → ((c : Command) → o ≡ Some c → IsQuiet c)
+    → All quiet_step (option_to_list (option_map (step_of aim lines rows place row below) o))
+listed_step aim lines rows place None row below each = All-nil quiet_step
+listed_step aim lines rows place (Some c) row below each = All-cons quiet_step (step_of aim lines rows place row below c) [] (each c refl) (All-nil quiet_step)
 
-steps_quiet : (lines : List (List ℕ)) (all_rows : List Row) (k place : ℕ) (rows : List Row) → All IsPlaced rows
-    → All quiet_step (steps_from lines all_rows (section.Client k) place rows)
-steps_quiet lines all_rows k place [] all = All-nil quiet_step
-steps_quiet lines all_rows k place (row ∷ below) all =
+steps_quiet : (aim : Purpose) (lines : List (List ℕ)) (all_rows : List Row) (k place : ℕ) (rows : List Row) → All IsPlaced rows
+    → All quiet_step (steps_from aim lines all_rows (section.Client k) place rows)
+steps_quiet aim lines all_rows k place [] all = All-nil quiet_step
+steps_quiet aim lines all_rows k place (row ∷ below) all =
     let s = section.Client k in
-    let own = steps_at lines all_rows s place row below in
+    let own = steps_at aim lines all_rows s place row below in
     let placed = All-head IsPlaced row below all in
-    All-append quiet_step own (steps_from lines all_rows s (place + length own) below)
-    (listed_step lines all_rows place (command_in s row) row below (λ c is. row_stands s row c placed is))
-    (steps_quiet lines all_rows k (place + length own) below (All-tail IsPlaced row below all))
+    All-append quiet_step own (steps_from aim lines all_rows s (place + length own) below)
+    (listed_step aim lines all_rows place (command_in s row) row below (λ c is. row_stands s row c placed is))
+    (steps_quiet aim lines all_rows k (place + length own) below (All-tail IsPlaced row below all))
 
 -- the section that a placed client begins is a client's
 next_of : (b : Bool) (n : ℕ) → (k : ℕ) × ((if b then section.Client (n + 1) else section.Client n) ≡ section.Client k)
@@ -146,17 +147,17 @@ next_is_client above.Note inside section.Last is = absurd (none-some cause.Notes
 next_is_client _ true section.Last is = absurd (none-some cause.NotEnded (sym is))
 next_is_client _ false section.Last is = absurd (none-some cause.ClientBelowFinally (sym is))
 
-begun_quiet : (lines : List (List ℕ)) (rows : List Row) → All IsPlaced rows → (at : Context) (m : Mark) → cause_of at m ≡ None
-    → All (All quiet_step) (lines_begun lines rows at.section m)
-begun_quiet lines rows all at (mark.Client name) placed =
+begun_quiet : (aim : Purpose) (lines : List (List ℕ)) (rows : List Row) → All IsPlaced rows → (at : Context) (m : Mark) → cause_of at m ≡ None
+    → All (All quiet_step) (lines_begun aim lines rows at.section m)
+begun_quiet aim lines rows all at (mark.Client name) placed =
     let next = next_is_client at.above (nat_lt 0 at.depth) at.section placed in
-    All-cons (All quiet_step) (steps_in lines (next_client at.section) rows) []
-    (subst (λ s. All quiet_step (steps_in lines s rows)) (sym next.1) (steps_quiet lines rows next.0 0 rows all)) (All-nil (All quiet_step))
-begun_quiet lines rows all at _ placed = All-nil (All quiet_step)
+    All-cons (All quiet_step) (steps_in aim lines (next_client at.section) rows) []
+    (subst (λ s. All quiet_step (steps_in aim lines s rows)) (sym next.1) (steps_quiet aim lines rows next.0 0 rows all)) (All-nil (All quiet_step))
+begun_quiet aim lines rows all at _ placed = All-nil (All quiet_step)
 
-clients_quiet : (lines : List (List ℕ)) (rows : List Row) → All IsPlaced rows → All (All quiet_step) (clients_in lines rows)
-clients_quiet lines rows all =
-    All-flat_map (All quiet_step) IsPlaced (clients_at lines rows) (λ row placed. begun_quiet lines rows all row.context row.mark placed) rows all
+clients_quiet : (aim : Purpose) (lines : List (List ℕ)) (rows : List Row) → All IsPlaced rows → All (All quiet_step) (clients_in aim lines rows)
+clients_quiet aim lines rows all =
+    All-flat_map (All quiet_step) IsPlaced (clients_at aim lines rows) (λ row placed. begun_quiet aim lines rows all row.context row.mark placed) rows all
 
 line_quiet : (lines : List (List Step)) (client place : ℕ) (step : Step) → All (All quiet_step) lines
     → (found : Option (List Step)) → slice_get lines client ≡ found → slice_get (unwrap_or found []) place ≡ Some step → quiet_step step
@@ -165,14 +166,14 @@ line_quiet lines client place step all (Some steps) at is =
     All-at quiet_step steps place step (All-at (All quiet_step) lines client steps all at) is
 
 -- a plan of rows that are all placed can be explored
-pub placed-explorable : (lines : List (List ℕ)) (rows : List Row) → All IsPlaced rows → CanBeExplored (plan_of lines rows)
-placed-explorable lines rows all = record {
+pub placed-explorable : (aim : Purpose) (lines : List (List ℕ)) (rows : List Row) → All IsPlaced rows → CanBeExplored (plan_of aim lines rows)
+placed-explorable aim lines rows all = record {
   asks = record {
     lines = λ client place step is.
-        (line_quiet (clients_in lines rows) client place step (clients_quiet lines rows all) (slice_get (clients_in lines rows) client) refl is).asks;
+        (line_quiet (clients_in aim lines rows) client place step (clients_quiet aim lines rows all) (slice_get (clients_in aim lines rows) client) refl is).asks;
     last = commands_stand section.Last rows all;
   };
   first = commands_stand section.First rows all;
   lines = λ client place step is.
-      (line_quiet (clients_in lines rows) client place step (clients_quiet lines rows all) (slice_get (clients_in lines rows) client) refl is).registers;
+      (line_quiet (clients_in aim lines rows) client place step (clients_quiet aim lines rows all) (slice_get (clients_in aim lines rows) client) refl is).registers;
 }

@@ -8,6 +8,7 @@ use Rattle.explore_report.specs.declared.cause.Cause.TheVariants as cause
 use Rattle.explore_report.specs.declared.line.Line.{Line}
 use Rattle.explore_report.specs.declared.mistake.Mistake.{Mistake}
 use Rattle.explore_report.specs.declared.plan_script.PlanScript.{PlanScript}
+use Rattle.explore_report.specs.declared.purpose.Purpose.{Purpose}
 use Rattle.explore_report.specs.declared.row.Row.{Row}
 use Rattle.explore_report.specs.declared.turn.Turn.{Turn}
 use Rattle.explore_report.specs.Expected.{expects_in}
@@ -28,17 +29,18 @@ pub plan_lines-are : (all : List (List ℕ)) (cut used : List (Bor (List ℕ))) 
 plan_lines-are all cut used turns made_of made one two are same is =
     is ∙ ap (λ ls. map (turn_text ls) made_of) two ∙ ap (map (turn_text all)) (same ∙ are ∙ ap turns_of one)
 
-pub plan-read : (script : List ℕ) (p : PlanScript) (cut : List (Bor (List ℕ))) → texts_of cut ≡ plan_lines (lines_of script)
+pub plan-read : (aim : Purpose) (script : List ℕ) (p : PlanScript) (cut : List (Bor (List ℕ))) → texts_of cut ≡ plan_lines (lines_of script)
     → map line_text p.lines.items ≡ plan_lines (lines_of script) → p.rows.items ≡ rows_of (texts_of cut)
-    → p.expects.items ≡ expects_in (texts_of cut) p.rows.items → p.plan ≡ plan_of (texts_of cut) p.rows.items → length script ≤ SCRIPT_BYTES
-    → IsPlan p.rows.items → IsPlanOf script p
-plan-read script p cut texts lines rows expects plan short found =
+    → p.expects.items ≡ expects_in (texts_of cut) p.rows.items → p.purpose ≡ aim → p.plan ≡ plan_of aim (texts_of cut) p.rows.items → length script ≤ SCRIPT_BYTES
+    → IsPlan p.rows.items → IsPlanOf aim script p
+plan-read aim script p cut texts lines rows expects purpose plan short found =
     let all = plan_lines (lines_of script) in
     let are : p.rows.items ≡ rows_of all = rows ∙ ap rows_of texts in
     record {
       valid = record { short = short; plan = subst IsPlan are found };
-      is = plan ∙ ap (plan_of (texts_of cut)) are ∙ ap (λ ls. plan_of ls (rows_of all)) texts;
-      explorable = subst CanBeExplored (sym plan) (placed-explorable (texts_of cut) p.rows.items found.placed);
+      purpose = purpose;
+      is = plan ∙ ap (plan_of aim (texts_of cut)) are ∙ ap (λ ls. plan_of aim ls (rows_of all)) texts;
+      explorable = subst CanBeExplored (sym plan) (placed-explorable aim (texts_of cut) p.rows.items found.placed);
       lines = lines;
       rows = are;
       expects = expects ∙ ap (expects_in (texts_of cut)) are ∙ ap (λ ls. expects_in ls (rows_of all)) texts;

@@ -7,8 +7,9 @@ use Rattle.command_core.specs.declared.command.Command.TheVariants as command
 use Rattle.explore_core.specs.Branch.{Branching}
 use Rattle.explore_core.specs.declared.access.Access.{Access}
 use Rattle.explore_core.specs.Schedule.{Lines}
+use Rattle.explore_core.specs.declared.expects.Expects.{Expects}
+use Rattle.explore_core.specs.declared.expects.Expects.TheVariants.{Any}
 use Rattle.explore_core.specs.declared.plan.Milestone.{Milestone}
-use Rattle.explore_core.specs.declared.expects.Expects.TheVariants as expects
 use Rattle.explore_core.specs.declared.plan.Step.{Step}
 use Rattle.explore_report.specs.declared.context.Above.{Above}
 use Rattle.explore_report.specs.declared.context.Above.TheVariants as above
@@ -16,13 +17,15 @@ use Rattle.explore_report.specs.declared.context.Section.{Section}
 use Rattle.explore_report.specs.declared.context.Section.TheVariants as section
 use Rattle.explore_report.specs.declared.mark.Mark.{Mark}
 use Rattle.explore_report.specs.declared.mark.Mark.TheVariants as mark
+use Rattle.explore_report.specs.declared.purpose.Purpose.{Purpose}
+use Rattle.explore_report.specs.declared.purpose.Purpose.TheVariants as purpose
 use Rattle.explore_report.specs.declared.row.Row.{Row}
 use Rattle.explore_report.specs.declared.way.Way.{Way}
 use Rattle.explore_report.specs.declared.way.Way.TheVariants as way
 use Rattle.explore_report.specs.Accesses.{access_at, lines_in}
 use Rattle.explore_report.specs.Cases.{by_place}
 use Rattle.explore_report.specs.Context.{next_client}
-use Rattle.explore_report.specs.Expected.{expects}
+use Rattle.explore_report.specs.Expected.{expects, expects_below}
 use Rattle.explore_report.specs.Lines.{text_at}
 use Rattle.explore_report.specs.Mark.{branch_text}
 use Rattle.explore_report.specs.Mistake.{depth_below, marks}
@@ -123,54 +126,59 @@ marked_line rows name = option_and_then (marked_at rows) (mark_at name rows)
 abbrev pub line_before : List Row → Row → Option Milestone
 line_before rows row = option_and_then (marked_line rows) row.context.follows
 
+-- to predict, a schedule ends at a line whose answer is not expected, and goes on after any answer otherwise
+abbrev pub expects_for : Purpose → List (List ℕ) → List Row → Expects
+expects_for purpose.Decide lines below = Any
+expects_for purpose.Predict lines below = expects_below lines below
+
 -- the line of a row that has that place among its client's lines, and these rows below it; all rows have the marks
-abbrev pub step_of : List (List ℕ) → List Row → ℕ → Row → List Row → Command → Step
-step_of lines rows place row below command = record {
+abbrev pub step_of : Purpose → List (List ℕ) → List Row → ℕ → Row → List Row → Command → Step
+step_of aim lines rows place row below command = record {
   command = command;
   waits = waits row.context.above command;
   branch = branch_below lines (place + 1) below;
   after = line_before rows row;
   joined = false;
-  expects = expects.Any;
+  expects = expects_for aim lines below;
   turn = unwrap_or row.context.turn row.number;
 }
 
 -- the line of a row, if the row is in that section; it has that place among the section's lines, and these rows below it
-abbrev pub steps_at : List (List ℕ) → List Row → Section → ℕ → Row → List Row → List Step
-steps_at lines rows section place row below = option_to_list (option_map (step_of lines rows place row below) (command_in section row))
+abbrev pub steps_at : Purpose → List (List ℕ) → List Row → Section → ℕ → Row → List Row → List Step
+steps_at aim lines rows section place row below = option_to_list (option_map (step_of aim lines rows place row below) (command_in section row))
 
 -- the section's lines from the line of that place on, which these of all rows have
-abbrev pub steps_from : List (List ℕ) → List Row → Section → ℕ → List Row → List Step
-steps_from lines rows section place [] = []
-steps_from lines rows section place (row ∷ below) =
-    let own = steps_at lines rows section place row below in
-    own ++ steps_from lines rows section (place + length own) below
+abbrev pub steps_from : Purpose → List (List ℕ) → List Row → Section → ℕ → List Row → List Step
+steps_from aim lines rows section place [] = []
+steps_from aim lines rows section place (row ∷ below) =
+    let own = steps_at aim lines rows section place row below in
+    own ++ steps_from aim lines rows section (place + length own) below
 
 -- the lines of a section
-abbrev pub steps_in : List (List ℕ) → Section → List Row → List Step
-steps_in lines section rows = steps_from lines rows section 0 rows
+abbrev pub steps_in : Purpose → List (List ℕ) → Section → List Row → List Step
+steps_in aim lines section rows = steps_from aim lines rows section 0 rows
 
-abbrev pub lines_begun : List (List ℕ) → List Row → Section → Mark → List (List Step)
-lines_begun lines rows section (mark.Client name) = steps_in lines (next_client section) rows ∷ []
-lines_begun lines rows section _ = []
+abbrev pub lines_begun : Purpose → List (List ℕ) → List Row → Section → Mark → List (List Step)
+lines_begun aim lines rows section (mark.Client name) = steps_in aim lines (next_client section) rows ∷ []
+lines_begun aim lines rows section _ = []
 
 -- the lines of the client that the row begins
-abbrev pub clients_at : List (List ℕ) → List Row → Row → List (List Step)
-clients_at lines rows row = lines_begun lines rows row.context.section row.mark
+abbrev pub clients_at : Purpose → List (List ℕ) → List Row → Row → List (List Step)
+clients_at aim lines rows row = lines_begun aim lines rows row.context.section row.mark
 
 -- the lines of each client, in order
-abbrev pub clients_in : List (List ℕ) → List Row → List (List Step)
-clients_in lines rows = flat_map (clients_at lines rows) rows
+abbrev pub clients_in : Purpose → List (List ℕ) → List Row → List (List Step)
+clients_in aim lines rows = flat_map (clients_at aim lines rows) rows
 
 -- the accesses of clients, in the order of their first notes
 abbrev pub accesses_of : List Row → List Access
 accesses_of rows = by_place (access_at rows) 0 rows
 
 -- the commands above the first client, the lines of each client, the commands below `#finally`, and what clients access
-abbrev pub plan_of : List (List ℕ) → List Row → Lines
-plan_of lines rows = record {
+abbrev pub plan_of : Purpose → List (List ℕ) → List Row → Lines
+plan_of aim lines rows = record {
   first = commands_in section.First rows;
-  clients = clients_in lines rows;
+  clients = clients_in aim lines rows;
   last = commands_in section.Last rows;
   accesses = accesses_of rows;
 }

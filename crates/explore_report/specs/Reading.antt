@@ -8,6 +8,7 @@ use Rattle.explore_report.specs.declared.mistake.Mistake.{Mistake}
 use Rattle.explore_report.specs.declared.plan_script.PlanScript.{PlanScript}
 use Rattle.explore_report.specs.declared.plan_script.Reading.{Reading}
 use Rattle.explore_report.specs.declared.plan_script.Reading.TheVariants as reading
+use Rattle.explore_report.specs.declared.purpose.Purpose.{Purpose}
 use Rattle.explore_report.specs.Expected.{expects_in}
 use Rattle.explore_report.specs.Lines.{line_text}
 use Rattle.explore_report.specs.Mistake.{IsMistake, IsPlan}
@@ -20,10 +21,11 @@ pub record IsPlanText (script : List ℕ) : Type 0 where
   pub short : length script ≤ SCRIPT_BYTES
   pub plan : IsPlan (rows_of (plan_lines (lines_of script)))
 
--- the script is a plan, which is exactly what its sections say, and can be explored
-pub record IsPlanOf (script : List ℕ) (p : PlanScript) : Type 0 where
+-- the script is a plan, which is exactly what its sections say for that purpose, and can be explored
+pub record IsPlanOf (aim : Purpose) (script : List ℕ) (p : PlanScript) : Type 0 where
   pub valid : IsPlanText script
-  pub is : p.plan ≡ plan_of (plan_lines (lines_of script)) (rows_of (plan_lines (lines_of script)))
+  pub purpose : p.purpose ≡ aim
+  pub is : p.plan ≡ plan_of aim (plan_lines (lines_of script)) (rows_of (plan_lines (lines_of script)))
   pub explorable : CanBeExplored p.plan
   pub lines : map line_text p.lines.items ≡ plan_lines (lines_of script)
   pub rows : p.rows.items ≡ rows_of (plan_lines (lines_of script))
@@ -48,6 +50,6 @@ pub record IsNoPlan (script : List ℕ) (m : Mistake) : Type 0 where
   pub none : IsPlanText script → ⊥
   pub found : IsTooLong script m ⊎ IsWrongLine script m
 
-abbrev pub IsReading : List ℕ → Reading → Type 0
-IsReading script (reading.Plan p) = IsPlanOf script p
-IsReading script (reading.NoPlan m) = IsNoPlan script m
+abbrev pub IsReading : Purpose → List ℕ → Reading → Type 0
+IsReading aim script (reading.Plan p) = IsPlanOf aim script p
+IsReading aim script (reading.NoPlan m) = IsNoPlan script m

@@ -142,6 +142,9 @@ fn add_totals(report: &Report<'_>, page: &mut Page) {
         Ended::Memory => "{\"covered\":false,\"stopped\":\"memory\"",
         Ended::First => "{\"covered\":false,\"stopped\":\"first\"",
     });
+    if report.plan.purpose.is_predict() {
+        page.text(",\"mode\":\"predict\"");
+    }
     page.counted(",\"clients\":", report.plan.client_count());
     page.counted(",\"lines\":", report.plan.line_count());
     page.counted(",\"states\":", report.found.states);

@@ -16,6 +16,7 @@ use crate::expected::expects_in;
 use crate::line::{Line, plan_lines, texts_of};
 use crate::mark::{Mark, expected_text};
 use crate::mistake::{Mistake, mistake_of};
+use crate::purpose::Purpose;
 use crate::row::{Row, rows_of};
 use crate::sections::plan_of;
 use crate::shortening::shorten;
@@ -35,6 +36,7 @@ pub struct PlanScript<'a> {
     pub(crate) rows: Vec<Row>,
     /// What the notes below each row expect of its answer.
     pub(crate) expects: Vec<Expects>,
+    pub(crate) purpose: Purpose,
     pub plan: Plan,
 }
 
@@ -49,8 +51,12 @@ impl<'a> PlanScript<'a> {
     /// Reads a plan, or finds why the script is none: the first cause of `mistake_of` that holds, and its first line.
     ///
     /// Fails with `Memory` only.
-    pub fn read(alloc: Global, script: &'a [u8]) -> Result<Reading<'a>, Refusal>
-        ensures reading { IfOk result (IsReading script.now) }
+    pub fn read(
+        alloc: Global,
+        script: &'a [u8],
+        purpose: Purpose,
+    ) -> Result<Reading<'a>, Refusal>
+        ensures reading { IfOk result (IsReading purpose script.now) }
         ensures memory { IfErr result (λ refusal. refusal ≡ Refusal.Memory) }
     {
         let lines = lines_of(alloc, script)?;
@@ -71,13 +77,14 @@ impl<'a> PlanScript<'a> {
                 cause: mistake.cause,
             }));
         }
-        let plan = plan_of(alloc, texts.as_slice(), rows.as_slice())?;
+        let plan = plan_of(alloc, purpose, texts.as_slice(), rows.as_slice())?;
         let expects = expects_in(alloc, texts.as_slice(), rows.as_slice())?;
         drop(texts);
         Ok(Reading::Plan(PlanScript {
             lines: made,
             rows,
             expects,
+            purpose,
             plan,
         }))
     }

@@ -155,6 +155,11 @@ impl<'a> Report<'a> {
         self.findings() > 0
     }
 
+    /// Whether every schedule was covered, and to its end.
+    pub(crate) fn is_all(&self) -> bool {
+        self.found.covered && !self.plan.purpose.is_predict()
+    }
+
     /// Why the search has ended.
     pub(crate) fn ended(&self) -> Ended {
         match self.outcome() {

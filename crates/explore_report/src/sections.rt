@@ -3,13 +3,15 @@
 ghost use Rattle.std.specs.Prelude.{◌≡◌, ◌+◌, ◌++◌, IfOk, OnOk, Vec, length, map};
 ghost use Rattle.std.specs.Global.{Global};
 ghost use Rattle.explore_core.specs.declared.plan.Step.{Step};
-ghost use Rattle.explore_report.specs.Plan.{branch_at, branch_below, branch_line, branch_of, clients_at, clients_in, commands_at, commands_in, jump, line_before, line_below, mark_at, marked_at, marked_line, plan_of, steps_at, steps_in, waits};
+ghost use Rattle.explore_report.specs.Plan.{branch_at, branch_below, branch_line, branch_of, clients_at, clients_in, commands_at, commands_in, expects_for, jump, line_before, line_below, mark_at, marked_at, marked_line, plan_of, steps_at, steps_in, waits};
 ghost use Rattle.explore_report.specs.Lines.{text_at, texts_of};
 
 use crate::accesses::{accesses_of, lines_in};
 use crate::context::{Above, Section};
+use crate::expected::expects_below;
 use crate::mark::{Mark, branch_text};
 use crate::plan_script::{after_notes, below};
+use crate::purpose::Purpose;
 use crate::row::Row;
 use crate::way::{Way, left_out, more};
 use command_core::Command;
@@ -18,11 +20,16 @@ use point_core::Name;
 use std::alloc::{AllocError, Global};
 
 /// The plan of the rows, which are of these lines.
-pub(crate) fn plan_of(alloc: Global, lines: &[&[u8]], rows: &[Row]) -> Result<Plan, AllocError>
-    ensures plan { IfOk result (λ plan. plan ≡ plan_of (texts_of lines.now) rows.now) }
+pub(crate) fn plan_of(
+    alloc: Global,
+    purpose: Purpose,
+    lines: &[&[u8]],
+    rows: &[Row],
+) -> Result<Plan, AllocError>
+    ensures plan { IfOk result (λ plan. plan ≡ plan_of purpose (texts_of lines.now) rows.now) }
 {
     let first = commands_in(alloc, rows, Section::First)?;
-    let clients = clients_of(alloc, lines, rows)?;
+    let clients = clients_of(alloc, purpose, lines, rows)?;
     let last = commands_in(alloc, rows, Section::Last)?;
     let accesses = accesses_of(alloc, rows)?;
     Ok(Plan {
@@ -54,30 +61,36 @@ fn push_command(row: &Row, section: Section, commands: &mut Vec<Command>) -> Res
 }
 
 /// The lines of each client, which are in the section that the client's row begins.
-fn clients_of(alloc: Global, lines: &[&[u8]], rows: &[Row]) -> Result<Vec<Vec<Step>>, AllocError>
+fn clients_of(
+    alloc: Global,
+    purpose: Purpose,
+    lines: &[&[u8]],
+    rows: &[Row],
+) -> Result<Vec<Vec<Step>>, AllocError>
     ensures clients { IfOk result (λ clients. map (λ (steps : Vec Step Global). steps.items) clients.items
-        ≡ clients_in (texts_of lines.now) rows.now) }
+        ≡ clients_in purpose (texts_of lines.now) rows.now) }
 {
     let mut clients = Vec::new(alloc);
     for row in rows {
-        push_client(alloc, lines, rows, row, &mut clients)?;
+        push_client(alloc, purpose, lines, rows, row, &mut clients)?;
     }
     Ok(clients)
 }
 
 fn push_client(
     alloc: Global,
+    purpose: Purpose,
     lines: &[&[u8]],
     rows: &[Row],
     row: &Row,
     clients: &mut Vec<Vec<Step>>,
 ) -> Result<(), AllocError>
     ensures pushed { OnOk result (map (λ (steps : Vec Step Global). steps.items) clients.new.items
-        ≡ map (λ (steps : Vec Step Global). steps.items) clients.old.items ++ clients_at (texts_of lines.now) rows.now row.now) }
+        ≡ map (λ (steps : Vec Step Global). steps.items) clients.old.items ++ clients_at purpose (texts_of lines.now) rows.now row.now) }
 {
     if let Mark::Client(_) = row.mark {
         let section = row.context.section.next_client();
-        clients.push(steps_in(alloc, lines, rows, section)?)?;
+        clients.push(steps_in(alloc, purpose, lines, rows, section)?)?;
     }
     Ok(())
 }
@@ -85,23 +98,17 @@ fn push_client(
 /// The lines of a section.
 fn steps_in(
     alloc: Global,
+    purpose: Purpose,
     lines: &[&[u8]],
     rows: &[Row],
     section: Section,
 ) -> Result<Vec<Step>, AllocError>
-    ensures steps { IfOk result (λ steps. steps.items ≡ steps_in (texts_of lines.now) section rows.now) }
+    ensures steps { IfOk result (λ steps. steps.items ≡ steps_in purpose (texts_of lines.now) section rows.now) }
 {
     let mut steps = Vec::new(alloc);
     for (index, row) in rows.iter().enumerate() {
-        push_step(
-            alloc,
-            lines,
-            rows,
-            row,
-            below(rows, index),
-            section,
-            &mut steps,
-        )?;
+        let below = below(rows, index);
+        push_step(alloc, purpose, lines, rows, row, below, section, &mut steps)?;
     }
     Ok(steps)
 }
@@ -109,6 +116,7 @@ fn steps_in(
 /// Appends the line of a row that has these rows below it, if the row is in the section. All rows have the marks.
 fn push_step(
     alloc: Global,
+    purpose: Purpose,
     lines: &[&[u8]],
     rows: &[Row],
     row: &Row,
@@ -117,10 +125,11 @@ fn push_step(
     steps: &mut Vec<Step>,
 ) -> Result<(), AllocError>
     ensures pushed { OnOk result (steps.new.items
-        ≡ steps.old.items ++ steps_at (texts_of lines.now) rows.now section (length steps.old.items) row.now below.now) }
+        ≡ steps.old.items ++ steps_at purpose (texts_of lines.now) rows.now section (length steps.old.items) row.now below.now) }
 {
     if let Some(command) = row.command_in(section) {
         let waits = waits(row.context.above, &command);
+        let expects = expects_for(alloc, purpose, lines, below)?;
         let branch = branch_below(alloc, lines, steps.len() + 1, below)?;
         steps.push(Step {
             command,
@@ -128,7 +137,7 @@ fn push_step(
             branch,
             after: line_before(rows, row),
             joined: false,
-            expects: Expects::Any,
+            expects,
             turn: row.context.turn.unwrap_or(row.number),
         })?;
     }
@@ -189,6 +198,21 @@ fn line_below(rows: &[Row], index: usize, row: &Row) -> Option<Milestone>
     };
     let place = lines_in(section, rows.get(..index).unwrap_or(rows));
     Some(Milestone { client, place })
+}
+
+/// What is expected of a line with these rows below it, so that a schedule goes on.
+fn expects_for(
+    alloc: Global,
+    purpose: Purpose,
+    lines: &[&[u8]],
+    below: &[Row],
+) -> Result<Expects, AllocError>
+    ensures expects { IfOk result (λ expects. expects ≡ expects_for purpose (texts_of lines.now) below.now) }
+{
+    match purpose {
+        Purpose::Decide => Ok(Expects::Any),
+        Purpose::Predict => expects_below(alloc, lines, below),
+    }
 }
 
 /// The branch that begins directly below a line with these rows below it. That many lines of the client are above the branch.

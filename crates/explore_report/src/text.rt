@@ -63,7 +63,7 @@ fn add_stuck(
 
 fn add_stuck_head(report: &Report<'_>, name: &str, steps: usize, page: &mut Page) {
     add_steps(report.plan, name, steps, page);
-    if report.found.covered {
+    if report.is_all() {
         page.text("; no schedule gets stuck sooner");
     }
     add_number(Some(1), page);
@@ -332,12 +332,12 @@ fn add_others(report: &Report<'_>, case: &Case, page: &mut Page) {
             named += 1;
         }
     }
-    if named == 0 && report.found.covered {
+    if named == 0 && report.is_all() {
         page.text(no_other(case.finding));
     }
 }
 
-/// What is said if every schedule was covered, and none gives a line an answer that is right.
+/// What is said if every schedule was covered to its end, and none gives a line an answer that is right.
 fn no_other(finding: Option<Finding>) -> &'static str {
     match finding {
         Some(Finding::Refused) => ", and no schedule accepts it",
@@ -351,7 +351,7 @@ fn add_answers(report: &Report<'_>, name: &str, everything: bool, page: &mut Pag
         let cases = report.cases_of(index);
         if row.is_command() && (everything || depends(cases)) && !cases.is_empty() {
             add_head(report.plan, name, index, page);
-            add_listed(cases, report.found.covered, page);
+            add_listed(report, cases, page);
         }
     }
 }
@@ -366,8 +366,8 @@ fn depends(cases: &[Case]) -> bool {
 }
 
 /// The answers of a line.
-fn add_listed(cases: &[Case], is_covered: bool, page: &mut Page) {
-    page.text(front_of(cases.len(), is_covered));
+fn add_listed(report: &Report<'_>, cases: &[Case], page: &mut Page) {
+    page.text(front_of(report, cases.len()));
     for (place, case) in cases.iter().enumerate() {
         if place < LISTED {
             page.text(if place > 0 { " or " } else { "" });
@@ -382,11 +382,13 @@ fn add_listed(cases: &[Case], is_covered: bool, page: &mut Page) {
 }
 
 /// What is said of a line with this many answers. While schedules are left, its one answer is only the one that was seen.
-fn front_of(answers: usize, is_covered: bool) -> &'static str {
+fn front_of(report: &Report<'_>, answers: usize) -> &'static str {
     if answers > 1 {
         "depends on the schedule: "
-    } else if is_covered {
+    } else if report.is_all() {
         "always "
+    } else if report.found.covered {
+        "before a wrong answer always "
     } else {
         "so far "
     }
@@ -428,7 +430,9 @@ fn push_unreached(
 fn add_each_unreached(report: &Report<'_>, name: &str, lines: &[usize], page: &mut Page) {
     for index in lines {
         add_head(report.plan, name, *index, page);
-        page.text("is never made\n");
+        page.text("is never made");
+        page.text(until(report));
+        page.text("\n");
     }
 }
 
@@ -440,15 +444,26 @@ fn add_unreached_row(report: &Report<'_>, name: &str, lines: &[usize], page: &mu
     page.counted(":", report.plan.number_of(*first));
     page.counted(": ", lines.len());
     page.text(" lines are never made");
+    page.text(until(report));
     add_runs(report.plan, ": ", lines, page);
     page.text("\n");
 }
 
+/// What is said of lines that no schedule makes, if schedules end at their first wrong answers.
+fn until(report: &Report<'_>) -> &'static str {
+    if report.is_all() {
+        ""
+    } else {
+        " before a wrong answer"
+    }
+}
+
 fn add_totals(report: &Report<'_>, page: &mut Page) {
-    page.counted(
-        "covered: every schedule; clients: ",
-        report.plan.client_count(),
-    );
+    page.text("covered: every schedule");
+    if report.plan.purpose.is_predict() {
+        page.text(" up to its first wrong answer");
+    }
+    page.counted("; clients: ", report.plan.client_count());
     page.counted(", lines: ", report.plan.line_count());
     page.counted(", states: ", report.found.states);
     page.counted(", stuck: ", report.stuck());

@@ -65,7 +65,11 @@ fn add_race(report: &Report<'_>, race: &Race, making: &mut Making, page: &mut Pa
 
 /// A schedule that gets stuck, with the lines at which the clients wait.
 fn add_stuck(report: &Report<'_>, schedule: &[usize], making: &mut Making, page: &mut Page) {
-    page.text("# a shortest schedule that gets stuck\n");
+    page.text(if report.plan.purpose.is_predict() {
+        "# a schedule that gets stuck\n"
+    } else {
+        "# a shortest schedule that gets stuck\n"
+    });
     if making.follow(report.plan, schedule).is_err() {
         page.fail();
     }

@@ -58,6 +58,7 @@ pub record AskedExplore : Type 0 where
   pub answers : Bool
   pub all_orders : Bool
   pub is_first : Bool
+  pub predicts : Bool
 
 -- a script has the name of its file, or none on standard input; clients have their number, their rounds and their table
 pub data Asked : Type 0 where
@@ -147,6 +148,7 @@ explore_after rows = record {
   answers = flag_named (one_of (codes "answers") rows);
   all_orders = flag_named (one_of (codes "all-orders") rows);
   is_first = flag_named (one_of (codes "first") rows);
+  predicts = flag_named (one_of (codes "predict") rows);
 }
 
 -- of a script, by the word of a subcommand
@@ -207,6 +209,7 @@ asked_of_explore explore = record {
   answers = explore.answers;
   all_orders = explore.all_orders;
   is_first = explore.is_first;
+  predicts = explore.predicts;
 }
 
 -- nothing if the program is to end

@@ -71,7 +71,7 @@ abbrev pub explore_app : App
 explore_app = with_rules (new_app (codes "explore"))
     (file_rule (codes "FILE") ∷ flag_rule (codes "json") ∷ option_rule (codes "states") ∷ option_rule (codes "witness")
     ∷ option_rule (codes "draw") ∷ flag_rule (codes "answers") ∷ flag_rule (codes "all-orders")
-    ∷ flag_rule (codes "first") ∷ [])
+    ∷ flag_rule (codes "first") ∷ flag_rule (codes "predict") ∷ [])
 
 abbrev pub apps : List App
 apps = run_app ∷ check_app ∷ explain_app ∷ trace_app ∷ draw_app ∷ clients_app ∷ explore_app ∷ []

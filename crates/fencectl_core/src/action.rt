@@ -106,6 +106,8 @@ pub(crate) struct Explore<'a> {
     pub all_orders: bool,
     /// Whether the search ends at the first finding.
     pub is_first: bool,
+    /// Whether each schedule ends at its first wrong answer.
+    pub predicts: bool,
 }
 
 /// The number of clients, the rounds that each makes, and the table that they share.

@@ -8,7 +8,7 @@ use crate::no_plan::report_no_plan;
 use crate::progress::Progress;
 use crate::status::{ACCEPTED, REFUSED};
 use explore_core::{Found, Orders, STATES, Search};
-use explore_report::{News, Outcome, PlanScript, Reading, Report, Wanted};
+use explore_report::{News, Outcome, PlanScript, Purpose, Reading, Report, Wanted};
 use point_core::Refusal;
 use source_core::{Input, STANDARD_INPUT, reported};
 use std::fs::File;
@@ -48,7 +48,7 @@ fn explore_script(
     bound: usize,
     script: &[u8],
 ) -> Result<u8, Refusal> {
-    match PlanScript::read(rt.alloc(), script)? {
+    match PlanScript::read(rt.alloc(), script, purpose_of(asked))? {
         Reading::Plan(plan) => explore_plan(rt, asked, bound, &plan),
         Reading::NoPlan(mistake) => report_no_plan(rt, name_of(asked), script, &mistake),
     }
@@ -105,6 +105,14 @@ fn has_ended(
         progress.tell(rt, passed, text.as_slice(), news.findings(), found);
     }
     Ok(asked.is_first && news.findings() > 0)
+}
+
+fn purpose_of(asked: &Explore<'_>) -> Purpose {
+    if asked.predicts {
+        Purpose::Predict
+    } else {
+        Purpose::Decide
+    }
 }
 
 /// The orders of the clients that are followed.

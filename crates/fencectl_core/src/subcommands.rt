@@ -108,6 +108,8 @@ pub(crate) const ALL_ORDERS: &str = "all-orders";
 
 pub(crate) const FIRST: &str = "first";
 
+pub(crate) const PREDICT: &str = "predict";
+
 /// The script that a subcommand runs.
 const SCRIPT_FILE: Argument = Argument {
     name: FILE,
@@ -306,6 +308,11 @@ static SUBCOMMANDS: &[Subcommand] = &[
                 name: FIRST,
                 form: ArgumentForm::Flag,
                 help: "Ends at the first finding",
+            },
+            Argument {
+                name: PREDICT,
+                form: ArgumentForm::Flag,
+                help: "Ends each schedule at its first wrong answer, as for plans of recorded runs",
             },
         ],
     },

@@ -7,4 +7,4 @@ use Rattle.explore_report.proofs.sections.clients_of.Given as goal
 
 abbrev pub invariant-loop-row : goal.invariant-loop-row
 invariant-loop-row l =
-    map (λ (steps : Vec Step Global). steps.items) l.clients.items ≡ flat_map (clients_at (texts_of l.lines) l.rows) (take l.row-index l.rows)
+    map (λ (steps : Vec Step Global). steps.items) l.clients.items ≡ flat_map (clients_at l.purpose (texts_of l.lines) l.rows) (take l.row-index l.rows)

@@ -9,11 +9,11 @@ loop-index-preserved c =
     let lines = texts_of c.args.lines.now in
     let steps = c.loop-index.steps.items in
     let row = c.index-rows-index.result in
-    steps-next lines c.args.rows.now c.args.section c.args.rows.now c.loop-index.index row steps c.push_step.new.steps.items _ c.loop-index-test.true c.index-rows-index.is
-    (c.in_ok-push_step.ensures.pushed ∙ ap (λ below. steps ++ steps_at lines c.args.rows.now c.args.section (length steps) row below) c.below.ensures.below)
+    steps-next c.args.purpose lines c.args.rows.now c.args.section c.args.rows.now c.loop-index.index row steps c.push_step.new.steps.items _ c.loop-index-test.true c.index-rows-index.is
+    (c.in_ok-push_step.ensures.pushed ∙ ap (λ below. steps ++ steps_at c.args.purpose lines c.args.rows.now c.args.section (length steps) row below) c.below-below.ensures.below)
     c.loop-index.invariant
 
 pub returns : goal.returns
 returns c = record {
-  steps = steps-end (texts_of c.args.lines.now) c.args.rows.now c.args.section c.args.rows.now c.loop-index.index c.loop-index.steps.items _ c.loop-index-test.false c.loop-index.invariant;
+  steps = steps-end c.args.purpose (texts_of c.args.lines.now) c.args.rows.now c.args.section c.args.rows.now c.loop-index.index c.loop-index.steps.items _ c.loop-index-test.false c.loop-index.invariant;
 }

@@ -40,9 +40,9 @@ returns-clause-reading c =
     cut used c.in_ok-turns.ensures.turns c.as_slice-3.ensures.value c.in_ok-made.ensures.texts in
     let texts : texts_of c.as_slice-5.result.now ≡ plan_lines all =
     ap texts_of c.as_slice-5.ensures.value ∙ c.in_ok-texts.ensures.texts ∙ ap (map line_text) c.as_slice-4.ensures.value ∙ made in
-    plan-read c.args.script.now _ c.as_slice-5.result.now texts made c.in_ok-rows.ensures.rows
+    plan-read c.args.purpose c.args.script.now _ c.as_slice-5.result.now texts made c.in_ok-rows.ensures.rows
     (c.in_ok-expects.ensures.all ∙ ap (expects_in _) c.as_slice-10.ensures.value
     ∙ ap (λ ls. expects_in (texts_of ls) c.in_ok-rows.rows.items) (c.as_slice-9.ensures.value ∙ sym c.as_slice-5.ensures.value))
-    (c.in_ok-plan.ensures.plan ∙ ap (plan_of _) c.as_slice-8.ensures.value
-    ∙ ap (λ ls. plan_of (texts_of ls) c.in_ok-rows.rows.items) (c.as_slice-7.ensures.value ∙ sym c.as_slice-5.ensures.value)) (omega arith)
+    refl (c.in_ok-plan.ensures.plan ∙ ap (plan_of c.args.purpose _) c.as_slice-8.ensures.value
+    ∙ ap (λ ls. plan_of c.args.purpose (texts_of ls) c.in_ok-rows.rows.items) (c.as_slice-7.ensures.value ∙ sym c.as_slice-5.ensures.value)) (omega arith)
     (subst IsPlan c.as_slice-6.ensures.value c.in_default.ensures.found)
