@@ -13,5 +13,6 @@ pub mod Reading
 pub mod Report
 pub mod Rounds
 pub mod Rows
+pub mod Shown
 pub mod Turns
 pub mod Words

@@ -8,6 +8,7 @@ ghost use Rattle.explore_report.specs.Expected.{expectations, expected, expectin
 ghost use Rattle.explore_report.specs.Making.{section_at};
 ghost use Rattle.explore_report.specs.Plan.{after_notes};
 ghost use Rattle.explore_report.specs.Reading.{IsReading};
+ghost use Rattle.explore_report.specs.Shown.{IsBroughtNear};
 ghost use Rattle.explore_report.specs.declared.turn.Turn.{Turn};
 
 use crate::cause::Cause;
@@ -19,7 +20,7 @@ use crate::mistake::{Mistake, mistake_of};
 use crate::purpose::Purpose;
 use crate::row::{Row, rows_of};
 use crate::sections::plan_of;
-use crate::shortening::shorten;
+use crate::shortening::{bring_near, shorten};
 use crate::turn::Turn;
 use crate::unrolling::turns_of;
 use crate::words::without_last_spaces;
@@ -113,6 +114,14 @@ impl<'a> PlanScript<'a> {
         ensures shortened { IsShortened self.now.plan found.old found.new }
     {
         shorten(alloc, self, found);
+    }
+
+    /// Brings the schedules of wrong answers, of races, and the one that gets stuck near to the order of the plan's lines, once a search
+    /// has ended. Without memory, schedules stay as they are.
+    pub fn bring_near(&self, alloc: Global, found: &mut Found)
+        ensures near { IsBroughtNear self.now.plan found.old found.new }
+    {
+        bring_near(alloc, self, found);
     }
 
     /// A search of the plan, level by level, for a caller that reports what is found meanwhile, or ends it early.

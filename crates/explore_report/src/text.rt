@@ -134,9 +134,18 @@ pub(crate) fn add_race(
         page.counted(":", plan.number_of(racing.one));
         page.text(": ");
         racing.add(plan, page);
-        add_numbered(number, ", a short one", page);
+        add_numbered(number, what_of(plan), page);
     }
     add_schedule(plan, race.schedule.as_slice(), making, page);
+}
+
+/// What is said of the schedule of a race.
+fn what_of(plan: &PlanScript<'_>) -> &'static str {
+    if plan.purpose.is_predict() {
+        ", near the plan's order"
+    } else {
+        ", a short one"
+    }
 }
 
 /// The lines that a schedule makes.

@@ -47,7 +47,11 @@ fn add_wrong(report: &Report<'_>, number: usize, making: &mut Making, page: &mut
 
 /// A schedule after which two clients race.
 fn add_race(report: &Report<'_>, race: &Race, making: &mut Making, page: &mut Page) {
-    page.text("# a short schedule after which two clients race\n");
+    page.text(if report.plan.purpose.is_predict() {
+        "# a schedule near the plan's order after which two clients race\n"
+    } else {
+        "# a short schedule after which two clients race\n"
+    });
     if making
         .follow(report.plan, race.schedule.as_slice())
         .is_err()

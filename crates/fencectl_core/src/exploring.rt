@@ -65,7 +65,10 @@ fn explore_plan(
     let mut search = plan.search(rt.alloc(), orders_of(asked), bound)?;
     follow(rt, asked, plan, &mut search)?;
     let mut found = search.into_found();
-    plan.shorten(rt.alloc(), &mut found);
+    match purpose_of(asked) {
+        Purpose::Decide => plan.shorten(rt.alloc(), &mut found),
+        Purpose::Predict => plan.bring_near(rt.alloc(), &mut found),
+    }
     let report = Report::of(rt.alloc(), plan, &found, wanted_of(asked))?;
     write_report(rt, asked, &report)
 }

@@ -10,10 +10,10 @@ returns c = record {
       let given = c.args.found.now.given in
       let races = c.args.found.now.races in
       record {
-        given = AreShortened-items line_of (IsTrueAnswer plan) given _ c.shorten_wrong.new.given c.as_mut_slice.ensures.value
-            (omega (arith, ap length c.as_mut_slice.ensures.value, c.as_mut_slice.ensures.len)) c.shorten_wrong.ensures.shortened;
-        races = AreShortened-items pair_of (IsTrueRace plan) races _ c.shorten_races.new.races c.as_mut_slice-2.ensures.value
-            (omega (arith, ap length c.as_mut_slice-2.ensures.value, c.as_mut_slice-2.ensures.len)) c.shorten_races.ensures.shortened;
+        given = AreShortened-items line_of (IsTrueAnswer plan) given _ c.show_wrong.new.given c.as_mut_slice.ensures.value
+            (omega (arith, ap length c.as_mut_slice.ensures.value, c.as_mut_slice.ensures.len)) c.show_wrong.ensures.shown;
+        races = AreShortened-items pair_of (IsTrueRace plan) races _ c.show_races.new.races c.as_mut_slice-2.ensures.value
+            (omega (arith, ap length c.as_mut_slice-2.ensures.value, c.as_mut_slice-2.ensures.len)) c.show_races.ensures.shown;
         rest = refl;
       };
 }

@@ -1,7 +1,7 @@
 use Rattle.std.proofs.Common.{◌<◌, length, arith}
 use Rattle.explore_core.specs.Shortening.{IsTrueRace, pair_of}
 use Rattle.explore_core.proofs.Omitting.{AreShortened-refl, AreShortened-set}
-use Rattle.explore_report.proofs.shortening.shorten_races.Goals as goal
+use Rattle.explore_report.proofs.shortening.show_races.Goals as goal
 
 pub loop-race-init : goal.loop-race-init
 loop-race-init c = AreShortened-refl pair_of (IsTrueRace c.args.plan.now) c.args.races.now
@@ -11,5 +11,5 @@ loop-race-preserved c =
     let now = c.loop-race.races in
     let i = c.loop-race.race-index in
     let low : i < length now = omega arith in
-    let one = c.shorten in
-    AreShortened-set pair_of (IsTrueRace c.args.plan.now) c.args.races.now now i _ one.new.self low one.ensures.same one.ensures.raced c.loop-race.invariant
+    let one = c.show_race in
+    AreShortened-set pair_of (IsTrueRace c.args.plan.now) c.args.races.now now i _ one.new.race low one.ensures.same one.ensures.right c.loop-race.invariant
