@@ -52,11 +52,7 @@ impl<'a> PlanScript<'a> {
     /// Reads a plan, or finds why the script is none: the first cause of `mistake_of` that holds, and its first line.
     ///
     /// Fails with `Memory` only.
-    pub fn read(
-        alloc: Global,
-        script: &'a [u8],
-        purpose: Purpose,
-    ) -> Result<Reading<'a>, Refusal>
+    pub fn read(alloc: Global, script: &'a [u8], purpose: Purpose) -> Result<Reading<'a>, Refusal>
         ensures reading { IfOk result (IsReading purpose script.now) }
         ensures memory { IfErr result (λ refusal. refusal ≡ Refusal.Memory) }
     {

@@ -17,7 +17,12 @@ pub(crate) fn shorten(alloc: Global, plan: &PlanScript<'_>, found: &mut Found)
     ensures shortened { IsShortened plan.now.plan found.old found.new }
 {
     show_wrong(alloc, plan, Purpose::Decide, found.given.as_mut_slice());
-    show_races(alloc, &plan.plan, Purpose::Decide, found.races.as_mut_slice());
+    show_races(
+        alloc,
+        &plan.plan,
+        Purpose::Decide,
+        found.races.as_mut_slice(),
+    );
 }
 
 /// Brings the schedules of wrong answers, of races, and the one that gets stuck near to the order of the plan's lines. Without memory,
@@ -26,7 +31,12 @@ pub(crate) fn bring_near(alloc: Global, plan: &PlanScript<'_>, found: &mut Found
     ensures near { IsBroughtNear plan.now.plan found.old found.new }
 {
     show_wrong(alloc, plan, Purpose::Predict, found.given.as_mut_slice());
-    show_races(alloc, &plan.plan, Purpose::Predict, found.races.as_mut_slice());
+    show_races(
+        alloc,
+        &plan.plan,
+        Purpose::Predict,
+        found.races.as_mut_slice(),
+    );
     show_stuck(alloc, &plan.plan, &mut found.stuck);
 }
 

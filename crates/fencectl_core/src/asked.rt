@@ -32,8 +32,8 @@ ghost use Rattle.fencectl_core.specs.Asked.{
 use crate::action::{Action, Check, CheckReport, Clients, Draw, Explore, Table, Trace};
 use crate::subcommands::{
     ALL_ORDERS, ALLOW_EMPTY, ANSWERS, CHECK, CLIENTS_WORD, COUNT, DRAW, EXPLAIN, EXPLORE, FILE,
-    FIRST, FROM, GRAPH, HANGS, JSON, LINE, LINES, LOCKS, OUTPUT, PATH, PERFETTO, PREDICT,
-    QUIET, ROUNDS_WORD, SCRIPT, STATES_OPTION, TAP, TO, TRACE, UPDATE, WITNESS,
+    FIRST, FROM, GRAPH, HANGS, JSON, LINE, LINES, LOCKS, OUTPUT, PATH, PERFETTO, PREDICT, QUIET,
+    ROUNDS_WORD, SCRIPT, STATES_OPTION, TAP, TO, TRACE, UPDATE, WITNESS,
 };
 use clap::ArgMatches;
 use clients_core::{CLIENTS, ROUNDS};
