@@ -58,6 +58,7 @@ class Plan:
         self.first = [self.add(line) for line in ["timeline t", "timeline u", "buffer b", "buffer c"][:rng.randint(2, 4)]]
         self.first += [self.add(f"fence {name} {rng.choice(TIMELINES)} {rng.randint(1, 3)}") for name in FILES[:rng.randint(0, 2)]]
         self.clients, self.waits, self.marked, self.orders = [], set(), [], {}
+        self.joins, self.joined = False, set()
         for client, most in enumerate(rng.choice(((4, 4), (3, 4), (2, 2, 2), (3, 3)))):
             self.text.append(f"#client c{client}")
             self.clients.append([])
@@ -74,6 +75,9 @@ class Plan:
     def add_lines(self, rng, steps, most):
         """Adds this many lines, some of them in branches."""
         while most > 0:
+            if most > 1 and not self.joins and rng.random() < 0.2:
+                most -= self.add_atomic(rng, steps, rng.randint(2, most))
+                continue
             number = self.add_line(rng, len(steps))
             steps.append(number)
             most -= 1
@@ -81,6 +85,17 @@ class Plan:
                 counts = self.commands[number].startswith(COUNTING)
                 text = rng.choice(("ok 0", "ok 1", "ok 2") if counts else ("ok", "ok", "err 2 NoEntry", "err 3 Exists"))
                 most -= self.add_branch(rng, steps, text, rng.randint(1, most), rng.random() < 0.4)
+
+    def add_atomic(self, rng, steps, most):
+        """Adds this many lines that are one step, and returns how many they are."""
+        self.text.append("#atomic")
+        steps.append(self.add_line(rng, len(steps)))
+        first, self.joins = len(steps), True
+        self.add_lines(rng, steps, most - 1)
+        self.joins = False
+        self.joined.update(number for number in steps[first:] if isinstance(number, int))
+        self.text.append("#end")
+        return most
 
     def add_branch(self, rng, steps, text, most, has_other):
         """Adds the lines of a branch, and of its other part if it has one, and returns how many they are."""
@@ -104,8 +119,10 @@ class Plan:
     def add_line(self, rng, place):
         how = rng.choice(("#await", "#once", "", "", "", "", "", ""))
         line = f"wait {rng.choice(FILES)}" if how == "#once" else command(rng)
+        if self.joins:
+            how = "#once" if line.startswith("wait ") else ""
         notes = [how] if how else []
-        is_after = rng.random() < 0.15
+        is_after = not self.joins and rng.random() < 0.15
         if is_after:
             notes.append("#after")
         if rng.random() < 0.3:
@@ -184,11 +201,10 @@ class Schedules:
     def go(self, made, at):
         """Makes each line that can be made now, and everything after it."""
         moved = False
-        for client, lines in enumerate(self.plan.clients):
-            if at[client] == len(lines):
-                continue
-            number = lines[at[client]]
-            if not self.plan.is_due(number, at):
+        numbers = [lines[place] if place < len(lines) else None for lines, place in zip(self.plan.clients, at)]
+        inside = [number for number in numbers if number in self.plan.joined]
+        for client, number in enumerate(numbers):
+            if number is None or inside and number not in inside or not self.plan.is_due(number, at):
                 continue
             answer = self.answers(made + (number,))[-1]
             if number in self.plan.waits and answer[0].startswith("err"):

@@ -1,6 +1,6 @@
 -- A plan of rows that are placed can be explored.
 use Rattle.std.proofs.Common.{◌≡◌, ℕ, ◌+◌, Bool, true, false, refl, sym, subst, List, [], ◌∷◌, length, Option, None, Some, All, slice_get}
-use Rattle.std.specs.Prelude.{unwrap_or, option_map, nat_lt, if◌then◌else◌}
+use Rattle.std.specs.Prelude.{unwrap_or, option_map, nat_lt, ◌&&◌, if◌then◌else◌}
 use Rattle.std.specs.List.{flat_map}
 use Rattle.std.specs.Option.{option_to_list}
 use Rattle.std.proofs.lemmas.List.Elements.{All-append, All-cons, All-get_or, All-head, All-nil, All-tail}
@@ -16,13 +16,15 @@ use Rattle.explore_report.specs.declared.mark.Mark.{Mark}
 use Rattle.explore_report.specs.declared.mark.Mark.TheVariants as mark
 use Rattle.explore_report.specs.declared.purpose.Purpose.{Purpose}
 use Rattle.explore_report.specs.declared.row.Row.{Row}
-use Rattle.explore_report.specs.Context.{is_same, next_client}
+use Rattle.explore_report.specs.Context.{is_continued, is_enclosed, is_same, next_client}
+use Rattle.explore_report.specs.declared.cause.Cause.{Cause}
 use Rattle.explore_report.specs.declared.cause.Cause.TheVariants as cause
 use Rattle.explore_report.specs.declared.cause.TheConstants.{PLAN_CLIENTS}
 use Rattle.explore_report.specs.declared.context.Above.{Above}
 use Rattle.explore_report.specs.declared.context.Above.TheVariants as above
+use Rattle.explore_report.specs.declared.context.Atomic.{Atomic}
 use Rattle.explore_report.specs.declared.context.Context.{Context}
-use Rattle.explore_report.specs.Mistake.{IsPlaced, cause_of, client_below, command_cause, section_cause, unless_noted}
+use Rattle.explore_report.specs.Mistake.{IsPlaced, cause_of, client_below, command_cause, is_wait, plain_cause, section_cause, unless_noted}
 use Rattle.explore_report.specs.Plan.{clients_at, clients_in, commands_at, commands_in, lines_begun, plan_of, step_of, steps_at, steps_from, steps_in}
 use Rattle.explore_report.specs.Rows.{command_in, command_said}
 
@@ -58,13 +60,20 @@ stands (section.Client number) c is = in_client number c is
 stands section.Last c is = in_last c is
 
 -- a command that is checked once is a `wait`, which may be in any section
-once_stands : (s : Section) (c : Command) → command_cause above.Once s c ≡ None → section_cause s c ≡ None
-once_stands s (command.Wait f) is = refl
-once_stands s _ is = absurd (none-some cause.ChecksNothing (sym is))
+once_stands : (inside : Atomic) (s : Section) (c : Command) → command_cause above.Once inside s c ≡ None → section_cause s c ≡ None
+once_stands inside s (command.Wait f) is = refl
+once_stands inside s _ is = absurd (none-some cause.ChecksNothing (sym is))
 
-section_allows : (a : Above) (s : Section) (c : Command) → command_cause a s c ≡ None → section_cause s c ≡ None
-section_allows above.Once s c is = once_stands s c is
-section_allows _ s c is = is
+unless_waits : (b : Bool) (o : Option Cause) → (if b then Some cause.WaitsInside else o) ≡ None → o ≡ None
+unless_waits true o is = absurd (none-some cause.WaitsInside (sym is))
+unless_waits false o is = is
+
+plain_allows : (inside : Atomic) (s : Section) (c : Command) → plain_cause inside s c ≡ None → section_cause s c ≡ None
+plain_allows inside s c is = unless_waits (is_wait c && is_continued inside) (section_cause s c) is
+
+section_allows : (a : Above) (inside : Atomic) (s : Section) (c : Command) → command_cause a inside s c ≡ None → section_cause s c ≡ None
+section_allows above.Once inside s c is = once_stands inside s c is
+section_allows _ inside s c is = plain_allows inside s c is
 
 -- all elements that a function gives satisfy it
 pub All-flat_map : {A B : Type 0} (P : B → Type 0) (Q : A → Type 0) (f : A → List B) → ((a : A) → Q a → All P (f a))
@@ -96,7 +105,7 @@ if_said false o c is = absurd (none-some c is)
 
 mark_stands : (at : Context) (m : Mark) (c : Command) → cause_of at m ≡ None → command_said m ≡ Some c → may_stand at.section c
 mark_stands at (mark.Command d) c placed is =
-    subst (may_stand at.section) (same_Some d c is) (stands at.section d (section_allows at.above at.section d placed))
+    subst (may_stand at.section) (same_Some d c is) (stands at.section d (section_allows at.above at.atomic at.section d placed))
 mark_stands at _ c placed is = absurd (none-some c is)
 
 row_stands : (s : Section) (row : Row) (c : Command) → IsPlaced row → command_in s row ≡ Some c → may_stand s c
@@ -150,7 +159,7 @@ next_is_client _ false section.Last is = absurd (none-some cause.ClientBelowFina
 begun_quiet : (aim : Purpose) (lines : List (List ℕ)) (rows : List Row) → All IsPlaced rows → (at : Context) (m : Mark) → cause_of at m ≡ None
     → All (All quiet_step) (lines_begun aim lines rows at.section m)
 begun_quiet aim lines rows all at (mark.Client name) placed =
-    let next = next_is_client at.above (nat_lt 0 at.depth) at.section placed in
+    let next = next_is_client at.above (is_enclosed at) at.section placed in
     All-cons (All quiet_step) (steps_in aim lines (next_client at.section) rows) []
     (subst (λ s. All quiet_step (steps_in aim lines s rows)) (sym next.1) (steps_quiet aim lines rows next.0 0 rows all)) (All-nil (All quiet_step))
 begun_quiet aim lines rows all at _ placed = All-nil (All quiet_step)

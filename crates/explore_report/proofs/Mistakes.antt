@@ -1,6 +1,6 @@
 -- Why rows make no plan, row by row.
 use Rattle.std.proofs.Common.{◌≡◌, ◌⊎◌, inl, inr, ℕ, ◌+◌, ◌-◌, ◌<◌, ◌≤◌, Bool, true, false, true≢false, cond, refl, sym, ap, subst, ◌∙◌, List, [], ◌∷◌, ◌++◌, length, get_or, slice_get, drop, take, All, Option, None, Some, arith, below_more}
-use Rattle.std.specs.Prelude.{MatchOption, count_by, nat_lt}
+use Rattle.std.specs.Prelude.{MatchOption, count_by}
 use Rattle.std.proofs.lemmas.List.{drop_all, take_all, take_more}
 use Rattle.std.proofs.lemmas.List.Elements.{All-push}
 use Rattle.std.proofs.lemmas.List.Sums.{count_by_more_yes, sum_by-take-le}
@@ -8,7 +8,7 @@ use Rattle.std.proofs.lemmas.Option.{get_or_from_slice_get, none-some, same_Some
 use Rattle.explore_report.specs.declared.cause.TheConstants.{PLAN_LINES}
 use Rattle.explore_report.specs.declared.mistake.Mistake.{Mistake}
 use Rattle.explore_report.specs.declared.row.Row.{Row}
-use Rattle.explore_report.specs.Mistake.{AreFew, AllFit, EndsClosed, EndsWhole, IsClientless, IsLaterMistake, IsMisplaced, IsMissing, IsMistake, IsOpen, Fits, IsPastLimit, IsPlaced, IsPlan, IsMisfit, IsRow, IsWhole, cause_among, cause_of, depth_below, else_after, in_else, unfollowed}
+use Rattle.explore_report.specs.Mistake.{AreFew, AllFit, EndsClosed, EndsWhole, IsClientless, IsLaterMistake, IsMisplaced, IsMissing, IsMistake, IsOpen, Fits, IsPastLimit, IsPlaced, IsPlan, IsMisfit, IsRow, IsWhole, cause_among, cause_of, else_after, in_else, is_unended, unfollowed}
 use Rattle.explore_report.specs.Accesses.{is_open, open_after}
 use Rattle.explore_report.specs.Rows.{is_line}
 use Rattle.explore_report.proofs.Exploring.{All-at}
@@ -81,13 +81,13 @@ pub or_missing : (rows : List Row) (last : ℕ) (o : Option Mistake) → All IsP
 or_missing rows last None placed fit few whole = record { placed = placed; fit = fit; few = few; whole = whole }
 or_missing rows last (Some m) placed fit few found = inr (placed, inr (fit, inr (few, found)))
 
--- no `#if` is open below the last row, if there is one
+-- no `#if` and no `#atomic` is open below the last row, if there is one
 
 pub closed-none : (rows : List Row) → None ≡ slice_get rows (length rows - 1) → EndsClosed rows
 closed-none rows is row at = absurd (none-some row (is ∙ at))
 
-pub closed-row : (rows : List Row) (last : Row) → Some last ≡ slice_get rows (length rows - 1) → nat_lt 0 (depth_below last) ≡ false → EndsClosed rows
-closed-row rows last is closed row at = subst (λ r. nat_lt 0 (depth_below r) ≡ false) (same_Some last row (is ∙ at)) closed
+pub closed-row : (rows : List Row) (last : Row) → Some last ≡ slice_get rows (length rows - 1) → is_unended last ≡ false → EndsClosed rows
+closed-row rows last is closed row at = subst (λ r. is_unended r ≡ false) (same_Some last row (is ∙ at)) closed
 
 -- an element that passes is counted beyond those before it
 counted-at : {X : Type 0} (p : X → Bool) (xs : List X) (i : ℕ) (x : X) → slice_get xs i ≡ Some x → p x ≡ true

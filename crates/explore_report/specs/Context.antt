@@ -1,8 +1,11 @@
--- The context of a plan's line: its section, what is directly above it, how many branches it is in, and what notes say of it.
-use Rattle.std.specs.Prelude.{ℕ, ◌+◌, ◌-◌, ◌==◌, nat_lt, Bool, true, false, if◌then◌else◌, List, Option, None, Some}
+-- The context of a plan's line: its section, what is directly above it, in how many branches and in which `#atomic` it is, and what
+-- notes say of it.
+use Rattle.std.specs.Prelude.{ℕ, ◌+◌, ◌-◌, ◌==◌, ◌||◌, nat_lt, Bool, true, false, if◌then◌else◌, List, Option, None, Some}
 use Rattle.explore_report.specs.declared.cause.TheConstants.{PLAN_CLIENTS, PLAN_LINES}
 use Rattle.explore_report.specs.declared.context.Above.{Above}
 use Rattle.explore_report.specs.declared.context.Above.TheVariants as above
+use Rattle.explore_report.specs.declared.context.Atomic.{Atomic}
+use Rattle.explore_report.specs.declared.context.Atomic.TheVariants as atomic
 use Rattle.explore_report.specs.declared.context.Context.{Context}
 use Rattle.explore_report.specs.declared.context.Section.{Section}
 use Rattle.explore_report.specs.declared.context.Section.TheVariants as section
@@ -11,7 +14,7 @@ use Rattle.explore_report.specs.declared.mark.Mark.TheVariants as mark
 
 -- nothing is above the first line of a section
 abbrev pub begun : Section → Context
-begun s = record { section = s; above = above.Nothing; depth = 0; follows = None; turn = None }
+begun s = record { section = s; above = above.Nothing; depth = 0; follows = None; turn = None; atomic = atomic.Outside }
 
 -- the first line of a plan
 abbrev pub start : Context
@@ -27,9 +30,39 @@ next_client section.Last = section.Last
 abbrev pub one_more : ℕ → ℕ
 one_more depth = if nat_lt depth PLAN_LINES then depth + 1 else depth
 
+-- an `#atomic` with one more line above
+abbrev pub continued : Atomic → Atomic
+continued (atomic.Begins depth) = atomic.Continues depth
+continued inside = inside
+
+-- the line is in an `#atomic`
+abbrev pub is_inside : Atomic → Bool
+is_inside atomic.Outside = false
+is_inside _ = true
+
+-- the line is in an `#atomic`, below a line of it
+abbrev pub is_continued : Atomic → Bool
+is_continued (atomic.Continues depth) = true
+is_continued _ = false
+
+-- the line is in an `#atomic`, and in none of the branches in it: that many are open
+abbrev pub is_innermost : ℕ → Atomic → Bool
+is_innermost depth atomic.Outside = false
+is_innermost depth (atomic.Begins around) = around == depth
+is_innermost depth (atomic.Continues around) = around == depth
+
+-- the line is in a branch, or in an `#atomic`
+abbrev pub is_enclosed : Context → Bool
+is_enclosed at = nat_lt 0 at.depth || is_inside at.atomic
+
+-- a line with that directly above it, in that many branches and that `#atomic`, of which no note says more
+abbrev pub enclosed : Context → Above → ℕ → Atomic → Context
+enclosed at a depth inside =
+    record { section = at.section; above = a; depth = depth; follows = None; turn = None; atomic = inside }
+
 -- a line with that directly above it, in that many branches, of which no note says more
 abbrev pub branched : Context → Above → ℕ → Context
-branched at a depth = record { section = at.section; above = a; depth = depth; follows = None; turn = None }
+branched at a depth = enclosed at a depth at.atomic
 
 -- a line with that directly above it, of which no note says more
 abbrev pub below : Context → Above → Context
@@ -37,13 +70,20 @@ below at a = branched at a at.depth
 
 -- a line of which the notes above say this
 abbrev pub noted : Context → Above → Option (List ℕ) → Option ℕ → Context
-noted at a follows turn = record { section = at.section; above = a; depth = at.depth; follows = follows; turn = turn }
+noted at a follows turn =
+    record { section = at.section; above = a; depth = at.depth; follows = follows; turn = turn; atomic = at.atomic }
 
 -- what is directly above the line below a note on it: an `#await` or `#once` stays that
 abbrev pub with_note : Above → Above
 with_note above.Await = above.Await
 with_note above.Once = above.Once
 with_note _ = above.Note
+
+-- below an `#end`, which ends the `#atomic` or the innermost branch
+abbrev pub ended : Context → Context
+ended at =
+    if is_innermost at.depth at.atomic then enclosed at above.Nothing at.depth atomic.Outside
+    else branched at above.Nothing (at.depth - 1)
 
 -- the context of the line below one that says this
 abbrev pub after : Context → Mark → Context
@@ -57,11 +97,12 @@ after at (mark.Turn number) = noted at (with_note at.above) at.follows (Some num
 after at mark.If = branched at above.If (one_more at.depth)
 after at mark.Else = below at above.Nothing
 after at (mark.Access v name) = below at above.Nothing
-after at mark.End = branched at above.Nothing (at.depth - 1)
+after at mark.Atomic = enclosed at above.Nothing at.depth (atomic.Begins at.depth)
+after at mark.End = ended at
 after at mark.Expected = below at above.Command
 after at mark.OrExpected = below at above.Command
 after at mark.OrBegins = below at above.Command
-after at (mark.Command command) = below at above.Command
+after at (mark.Command command) = enclosed at above.Command at.depth (continued at.atomic)
 after at (mark.Wrong why) = below at above.Command
 
 abbrev pub is_client : ℕ → Section → Bool

@@ -91,6 +91,7 @@ directive_of word words =
     else if bytes_eq word (codes "#turn") then Some (turn_numbered (number_said PLAN_TURNS words))
     else if bytes_eq word (codes "#if") then Some (if_mark words)
     else if bytes_eq word (codes "#else") then Some (without_words words mark.Else)
+    else if bytes_eq word (codes "#atomic") then Some (without_words words mark.Atomic)
     else if bytes_eq word (codes "#end") then Some (without_words words mark.End)
     else if bytes_eq word (codes "#repeat") then Some (repeat_mark words)
     else if bytes_eq word (codes "#reads") then Some (access_named verb.Reads (name_said words))

@@ -10,6 +10,8 @@ use Rattle.explore_report.specs.declared.cause.Cause.TheVariants as cause
 use Rattle.explore_report.specs.declared.cause.TheConstants.{LAST_CLIENT, PLAN_CLIENTS, PLAN_LINES}
 use Rattle.explore_report.specs.declared.context.Above.{Above}
 use Rattle.explore_report.specs.declared.context.Above.TheVariants as above
+use Rattle.explore_report.specs.declared.context.Atomic.{Atomic}
+use Rattle.explore_report.specs.declared.context.Atomic.TheVariants as atomic
 use Rattle.explore_report.specs.declared.context.Context.{Context}
 use Rattle.explore_report.specs.declared.context.Section.{Section}
 use Rattle.explore_report.specs.declared.context.Section.TheVariants as section
@@ -18,7 +20,7 @@ use Rattle.explore_report.specs.declared.mark.Mark.TheVariants as mark
 use Rattle.explore_report.specs.declared.mistake.Mistake.{Mistake}
 use Rattle.explore_report.specs.declared.row.Row.{Row}
 use Rattle.explore_report.specs.Accesses.{accessed, is_closed, is_done, is_open}
-use Rattle.explore_report.specs.Context.{after, is_same}
+use Rattle.explore_report.specs.Context.{after, is_continued, is_enclosed, is_innermost, is_inside, is_same}
 use Rattle.explore_report.specs.Rows.{is_else, is_if, is_line}
 
 -- a command has to follow `#await` directly, and a `wait` has to follow `#once`; else that cause counts
@@ -32,9 +34,13 @@ abbrev pub unless_noted : Above → Option Cause → Option Cause
 unless_noted above.Note other = Some cause.NotesNothing
 unless_noted a other = unless_awaited a other
 
--- no `#if` is open where a section ends
-abbrev pub unless_open : ℕ → Option Cause → Option Cause
-unless_open depth other = if nat_lt 0 depth then Some cause.NotEnded else other
+-- no `#if` and no `#atomic` is open where a section ends
+abbrev pub unless_open : Context → Option Cause → Option Cause
+unless_open at other = if is_enclosed at then Some cause.NotEnded else other
+
+-- others never end a wait in an `#atomic` below the first line, as they don't go meanwhile
+abbrev pub unless_continued : Atomic → Option Cause → Option Cause
+unless_continued inside other = if is_continued inside then Some cause.WaitsInside else other
 
 -- there can be PLAN_CLIENTS clients, all above `#finally`
 abbrev pub client_below : Section → Option Cause
@@ -65,13 +71,26 @@ if_below above.Nothing = Some cause.IfBelowNothing
 if_below above.If = Some cause.IfBelowNothing
 if_below _ = None
 
--- some line is in an `#if`, and between it and the `#else`
-abbrev pub else_below : Above → ℕ → Option Cause
-else_below above.If depth = Some cause.ElseBelowIf
-else_below _ depth = if nat_lt 0 depth then None else Some cause.ElseOfNothing
+abbrev pub else_in : ℕ → Atomic → Option Cause
+else_in depth inside =
+    if is_innermost depth inside then Some cause.ElseOfNothing
+    else if nat_lt 0 depth then None
+    else Some cause.ElseOfNothing
 
-abbrev pub end_below : ℕ → Option Cause
-end_below depth = if nat_lt 0 depth then None else Some cause.EndsNothing
+-- some line is in an `#if`, and between it and the `#else`; an `#atomic` in it has its `#end` above the `#else`
+abbrev pub else_below : Above → ℕ → Atomic → Option Cause
+else_below above.If depth inside = Some cause.ElseBelowIf
+else_below _ depth inside = else_in depth inside
+
+-- an `#end` ends an `#atomic` with some line, or a branch
+abbrev pub end_below : ℕ → Atomic → Option Cause
+end_below depth atomic.Outside = if nat_lt 0 depth then None else Some cause.EndsNothing
+end_below depth (atomic.Begins around) = Some cause.JoinsNothing
+end_below depth (atomic.Continues around) = None
+
+-- an `#atomic` is in no other
+abbrev pub atomic_below : Atomic → Option Cause
+atomic_below inside = if is_inside inside then Some cause.AtomicInside else None
 
 -- an answer is expected of a command of the same section
 abbrev pub expected_below : Above → Option Cause
@@ -96,20 +115,31 @@ section_cause section command.Report = report_in section
 section_cause section (command.Watch f cookie) = watch_in section
 section_cause section _ = None
 
+abbrev pub is_wait : Command → Bool
+is_wait (command.Wait f) = true
+is_wait _ = false
+
+-- a line that waits is the first of its `#atomic`
+abbrev pub plain_cause : Atomic → Section → Command → Option Cause
+plain_cause inside section c = if is_wait c && is_continued inside then Some cause.WaitsInside else section_cause section c
+
 -- only a `wait` can be checked once
-abbrev pub command_cause : Above → Section → Command → Option Cause
-command_cause above.Once section (command.Wait f) = None
-command_cause above.Once section _ = Some cause.ChecksNothing
-command_cause _ section c = section_cause section c
+abbrev pub command_cause : Above → Atomic → Section → Command → Option Cause
+command_cause above.Once inside section (command.Wait f) = None
+command_cause above.Once inside section _ = Some cause.ChecksNothing
+command_cause _ inside section c = plain_cause inside section c
 
 abbrev pub client_cause : Context → Option Cause
-client_cause at = unless_noted at.above (unless_open at.depth (client_below at.section))
+client_cause at = unless_noted at.above (unless_open at (client_below at.section))
 
 abbrev pub finally_cause : Context → Option Cause
-finally_cause at = unless_noted at.above (unless_open at.depth (finally_below at.section))
+finally_cause at = unless_noted at.above (unless_open at (finally_below at.section))
 
-abbrev pub waiting_cause : Context → Option Cause
-waiting_cause at = unless_awaited at.above (waiting_in at.section)
+abbrev pub await_cause : Context → Option Cause
+await_cause at = unless_awaited at.above (unless_continued at.atomic (waiting_in at.section))
+
+abbrev pub once_cause : Context → Option Cause
+once_cause at = unless_awaited at.above (waiting_in at.section)
 
 -- a line has one note of that kind
 abbrev pub unless_twice : Bool → Option Cause → Option Cause
@@ -119,7 +149,7 @@ abbrev pub mark_cause : Context → Option Cause
 mark_cause at = waiting_in at.section
 
 abbrev pub after_cause : Context → Option Cause
-after_cause at = unless_twice (is_some at.follows) (waiting_in at.section)
+after_cause at = unless_twice (is_some at.follows) (unless_continued at.atomic (waiting_in at.section))
 
 abbrev pub turn_cause : Context → Option Cause
 turn_cause at = unless_twice (is_some at.turn) (waiting_in at.section)
@@ -137,10 +167,13 @@ abbrev pub if_cause : Context → Option Cause
 if_cause at = unless_noted at.above (branch_in at.section (if_below at.above))
 
 abbrev pub else_cause : Context → Option Cause
-else_cause at = unless_noted at.above (branch_in at.section (else_below at.above at.depth))
+else_cause at = unless_noted at.above (branch_in at.section (else_below at.above at.depth at.atomic))
 
 abbrev pub end_cause : Context → Option Cause
-end_cause at = unless_noted at.above (branch_in at.section (end_below at.depth))
+end_cause at = unless_noted at.above (branch_in at.section (end_below at.depth at.atomic))
+
+abbrev pub atomic_cause : Context → Option Cause
+atomic_cause at = unless_noted at.above (branch_in at.section (atomic_below at.atomic))
 
 abbrev pub expected_cause : Context → Option Cause
 expected_cause at = unless_noted at.above (expected_below at.above)
@@ -149,19 +182,20 @@ expected_cause at = unless_noted at.above (expected_below at.above)
 abbrev pub cause_of : Context → Mark → Option Cause
 cause_of at (mark.Client name) = client_cause at
 cause_of at mark.Finally = finally_cause at
-cause_of at mark.Await = waiting_cause at
-cause_of at mark.Once = waiting_cause at
+cause_of at mark.Await = await_cause at
+cause_of at mark.Once = once_cause at
 cause_of at (mark.Named name) = mark_cause at
 cause_of at (mark.After name) = after_cause at
 cause_of at (mark.Turn number) = turn_cause at
 cause_of at mark.If = if_cause at
 cause_of at mark.Else = else_cause at
+cause_of at mark.Atomic = atomic_cause at
 cause_of at mark.End = end_cause at
 cause_of at (mark.Access v name) = access_cause at
 cause_of at mark.Expected = expected_cause at
 cause_of at mark.OrExpected = expected_cause at
 cause_of at mark.OrBegins = expected_cause at
-cause_of at (mark.Command command) = command_cause at.above at.section command
+cause_of at (mark.Command command) = command_cause at.above at.atomic at.section command
 cause_of at (mark.Wrong why) = Some why
 
 -- the row of that index is this one
@@ -216,6 +250,10 @@ order_cause own (Some marked) = if is_same own marked then Some cause.OwnMark el
 -- how many `#if` are open below the row
 abbrev pub depth_below : Row → ℕ
 depth_below row = (after row.context row.mark).depth
+
+-- an `#if` or an `#atomic` is open below the row
+abbrev pub is_unended : Row → Bool
+is_unended row = is_enclosed (after row.context row.mark)
 
 -- the row begins a part of a branch in which this many `#if` are open
 abbrev pub begins_part : ℕ → Row → Bool
@@ -313,9 +351,9 @@ IsLastRow rows row = slice_get rows (length rows - 1) ≡ Some row
 abbrev pub EndsWhole : List Row → Type 0
 EndsWhole rows = (row : Row) → IsLastRow rows row → unfollowed row.mark ≡ None
 
--- no `#if` is open below the last row
+-- no `#if` and no `#atomic` is open below the last row
 abbrev pub EndsClosed : List Row → Type 0
-EndsClosed rows = (row : Row) → IsLastRow rows row → nat_lt 0 (depth_below row) ≡ false
+EndsClosed rows = (row : Row) → IsLastRow rows row → is_unended row ≡ false
 
 -- nothing is missing at the end
 pub record IsWhole (rows : List Row) : Type 0 where
@@ -330,12 +368,12 @@ pub record IsUnfollowed (rows : List Row) (m : Mistake) : Type 0 where
   pub line : m.line ≡ row.number
   pub why : unfollowed row.mark ≡ Some m.cause
 
--- an `#if` is open below the last row
+-- an `#if` or an `#atomic` is open below the last row
 pub record IsOpen (rows : List Row) (m : Mistake) : Type 0 where
   pub row : Row
   pub last : IsLastRow rows row
   pub line : m.line ≡ row.number
-  pub inside : nat_lt 0 (depth_below row) ≡ true
+  pub inside : is_unended row ≡ true
   pub why : m.cause ≡ cause.NotEnded
 
 -- no row begins the lines of a client; reported of the last line

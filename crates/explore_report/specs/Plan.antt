@@ -24,7 +24,7 @@ use Rattle.explore_report.specs.declared.way.Way.{Way}
 use Rattle.explore_report.specs.declared.way.Way.TheVariants as way
 use Rattle.explore_report.specs.Accesses.{access_at, lines_in}
 use Rattle.explore_report.specs.Cases.{by_place}
-use Rattle.explore_report.specs.Context.{next_client}
+use Rattle.explore_report.specs.Context.{is_continued, next_client}
 use Rattle.explore_report.specs.Expected.{expects, expects_below}
 use Rattle.explore_report.specs.Lines.{text_at}
 use Rattle.explore_report.specs.Mark.{branch_text}
@@ -138,7 +138,7 @@ step_of aim lines rows place row below command = record {
   waits = waits row.context.above command;
   branch = branch_below lines (place + 1) below;
   after = line_before rows row;
-  joined = false;
+  joined = is_continued row.context.atomic;
   expects = expects_for aim lines below;
   turn = unwrap_or row.context.turn row.number;
 }

@@ -1,5 +1,5 @@
 -- The rows of a plan: its lines that say something.
-use Rattle.std.specs.Prelude.{ℕ, ◌+◌, ◌==◌, ◌||◌, ◌&&◌, is_some, Bool, true, false, if◌then◌else◌, List, [], ◌∷◌, ◌++◌, Option, None, Some}
+use Rattle.std.specs.Prelude.{ℕ, ◌+◌, ◌==◌, ◌||◌, ◌&&◌, not, is_some, Bool, true, false, if◌then◌else◌, List, [], ◌∷◌, ◌++◌, Option, None, Some}
 use Rattle.command_core.specs.declared.command.Command.{Command}
 use Rattle.explore_report.specs.declared.context.Context.{Context}
 use Rattle.explore_report.specs.declared.context.Section.{Section}
@@ -7,7 +7,7 @@ use Rattle.explore_report.specs.declared.context.Section.TheVariants as section
 use Rattle.explore_report.specs.declared.mark.Mark.{Mark}
 use Rattle.explore_report.specs.declared.mark.Mark.TheVariants as mark
 use Rattle.explore_report.specs.declared.row.Row.{Row}
-use Rattle.explore_report.specs.Context.{after, is_same, start}
+use Rattle.explore_report.specs.Context.{after, is_innermost, is_same, start}
 use Rattle.explore_report.specs.Mark.{mark_of}
 
 abbrev pub row_if : Context → ℕ → Option Mark → List Row
@@ -64,6 +64,10 @@ is_in_client section.Last = false
 abbrev pub is_line : Row → Bool
 is_line row = is_some (command_said row.mark) && is_in_client row.context.section
 
+-- the row is the `#end` of a branch, and not of an `#atomic`
+abbrev pub ends_branch : Row → Bool
+ends_branch row = is_end row.mark && not (is_innermost row.context.depth row.context.atomic)
+
 -- the row ends a part of a branch in which that many `#if` are open
 abbrev pub ends_part : ℕ → Row → Bool
-ends_part depth row = (is_else row.mark || is_end row.mark) && (row.context.depth == depth)
+ends_part depth row = (is_else row.mark || ends_branch row) && (row.context.depth == depth)

@@ -17,7 +17,8 @@ abbrev pub word_of : List ℕ → List ℕ
 word_of line = first_word (drop_spaces line)
 
 abbrev pub begins_block : List ℕ → Bool
-begins_block line = bytes_eq (word_of line) (codes "#if") || bytes_eq (word_of line) (codes "#repeat")
+begins_block line =
+    bytes_eq (word_of line) (codes "#if") || bytes_eq (word_of line) (codes "#atomic") || bytes_eq (word_of line) (codes "#repeat")
 
 abbrev pub ends_block : List ℕ → Bool
 ends_block line = bytes_eq (word_of line) (codes "#end")

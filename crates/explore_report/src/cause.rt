@@ -27,8 +27,8 @@ pub(crate) const GROWING: u32 = 100_000_000;
 pub enum Cause {
     #[error("the line is not a command; fencectl explain says why")]
     NoCommand,
-    #[error("there is no such directive, only #client, #finally, #await, #once, #mark, #after, #turn, #if, #else, #end, \
-        #repeat, #reads, #writes and #done; a note has a space after its #")]
+    #[error("there is no such directive, only #client, #finally, #await, #once, #mark, #after, #turn, #if, #else, #atomic, \
+        #end, #repeat, #reads, #writes and #done; a note has a space after its #")]
     NoDirective,
     #[error("a blank after the # makes this a note; #client, #finally and #await have none")]
     BlankFollows,
@@ -36,7 +36,7 @@ pub enum Cause {
     NoName(usize),
     #[error("#reads, #writes and #done take one name of 1 to {0} letters, digits, _, . and -")]
     NoBuffer(usize),
-    #[error("#finally, #await, #once, #else and #end take no words")]
+    #[error("#finally, #await, #once, #else, #atomic and #end take no words")]
     WordFollows,
     #[error("#turn takes a number from 1 to {0}")]
     NoTurn(u32),
@@ -72,20 +72,26 @@ pub enum Cause {
     NoMark,
     #[error("the marked line is the client's own")]
     OwnMark,
-    #[error("#if, #else and #end are only allowed in a client's section")]
+    #[error("#if, #else, #atomic and #end are only allowed in a client's section")]
     BranchOutside,
     #[error("a command of the client has to be directly above #if")]
     IfBelowNothing,
-    #[error("there is no #if above this #else")]
+    #[error("there is no #if around this #else, or an #atomic is between them")]
     ElseOfNothing,
     #[error("a command of the client has to be between #if and #else")]
     ElseBelowIf,
     #[error("there is already an #else of this #if")]
     ElseTwice,
-    #[error("there is no #if or #repeat above it that this could end")]
+    #[error("there is no #if, #atomic or #repeat above it that this could end")]
     EndsNothing,
-    #[error("an #if has no #end in its client's section")]
+    #[error("an #if or #atomic has no #end in its client's section")]
     NotEnded,
+    #[error("an #atomic can't be in another one")]
+    AtomicInside,
+    #[error("a command of the client has to be between #atomic and #end")]
+    JoinsNothing,
+    #[error("only the first line of an #atomic can wait, since no other client goes before its #end")]
+    WaitsInside,
     #[error("#reads, #writes and #done are only allowed in a client's section")]
     AccessOutside,
     #[error("the access has no #done below, in its client's section and its part of a branch, before another access to the buffer")]

@@ -1,7 +1,8 @@
-//! `Context`: the section of a plan's line, what is directly above the line, how many branches the line is in, and what notes say of
-//! it. `row.rt` carries it from line to line, `mistake.rt` judges lines by it, and `sections.rt` makes the plan's lines of it.
+//! `Context`: the section of a plan's line, what is directly above the line, in how many branches and in which `#atomic` the line is,
+//! and what notes say of it. `row.rt` carries it from line to line, `mistake.rt` judges lines by it, and `sections.rt` makes the plan's
+//! lines of it.
 ghost use Rattle.std.specs.Prelude.{◌≡◌};
-ghost use Rattle.explore_report.specs.Context.{with_note, after, begun, below, branched, is_same, next_client, noted, one_more, start};
+ghost use Rattle.explore_report.specs.Context.{with_note, after, begun, below, branched, continued, enclosed, ended, is_continued, is_enclosed, is_innermost, is_inside, is_same, next_client, noted, one_more, start};
 
 use crate::cause::{PLAN_CLIENTS, PLAN_LINES};
 use crate::mark::Mark;
@@ -35,7 +36,19 @@ pub enum Above {
     If,
 }
 
-/// The section of a line, what is directly above it, how many branches it is in, and what notes directly above say of it.
+/// Where a line is in an `#atomic`, which has this many open `#if` around it.
+#[derive(Clone, Copy)]
+pub enum Atomic {
+    /// In none.
+    Outside,
+    /// No line of it is above.
+    Begins(usize),
+    /// It is one step with the lines of it above.
+    Continues(usize),
+}
+
+/// The section of a line, what is directly above it, in how many branches and in which `#atomic` it is, and what notes directly above
+/// say of it.
 #[derive(Clone, Copy)]
 pub struct Context {
     pub section: Section,
@@ -46,6 +59,7 @@ pub struct Context {
     pub follows: Option<Name>,
     /// The number of a `#turn`.
     pub turn: Option<usize>,
+    pub atomic: Atomic,
 }
 
 impl Context {
@@ -66,6 +80,7 @@ impl Context {
             depth: 0,
             follows: None,
             turn: None,
+            atomic: Atomic::Outside,
         }
     }
 
@@ -83,9 +98,29 @@ impl Context {
             Mark::Turn(number) => self.noted(self.above.with_note(), self.follows, Some(*number)),
             Mark::If => self.branched(Above::If, one_more(self.depth)),
             Mark::Else | Mark::Access(_, _) => self.below(Above::Nothing),
-            Mark::End => self.branched(Above::Nothing, self.depth.saturating_sub(1)),
+            Mark::Atomic => self.enclosed(Above::Nothing, self.depth, Atomic::Begins(self.depth)),
+            Mark::End => self.ended(),
+            Mark::Command(_) => self.enclosed(Above::Command, self.depth, self.atomic.continued()),
             Mark::Expected | Mark::OrExpected | Mark::OrBegins => self.below(Above::Command),
-            Mark::Command(_) | Mark::Wrong(_) => self.below(Above::Command),
+            Mark::Wrong(_) => self.below(Above::Command),
+        }
+    }
+
+    /// Whether the line is in a branch, or in an `#atomic`.
+    pub(crate) fn is_enclosed(&self) -> bool
+        ensures { result ≡ is_enclosed self.now }
+    {
+        self.depth > 0 || self.atomic.is_inside()
+    }
+
+    /// The context below an `#end`, which ends the `#atomic` or the innermost branch.
+    fn ended(&self) -> Context
+        ensures { result ≡ ended self.now }
+    {
+        if self.atomic.is_innermost(self.depth) {
+            self.enclosed(Above::Nothing, self.depth, Atomic::Outside)
+        } else {
+            self.branched(Above::Nothing, self.depth.saturating_sub(1))
         }
     }
 
@@ -100,12 +135,20 @@ impl Context {
     fn branched(&self, above: Above, depth: usize) -> Context
         ensures { result ≡ branched self.now above depth }
     {
+        self.enclosed(above, depth, self.atomic)
+    }
+
+    /// The context of a line in that many branches and that `#atomic`, of which no note says more.
+    fn enclosed(&self, above: Above, depth: usize, atomic: Atomic) -> Context
+        ensures { result ≡ enclosed self.now above depth atomic }
+    {
         Context {
             section: self.section,
             above,
             depth,
             follows: None,
             turn: None,
+            atomic,
         }
     }
 
@@ -119,6 +162,7 @@ impl Context {
             depth: self.depth,
             follows,
             turn,
+            atomic: self.atomic,
         }
     }
 }
@@ -132,6 +176,41 @@ impl Above {
             Above::Await => Above::Await,
             Above::Once => Above::Once,
             _ => Above::Note,
+        }
+    }
+}
+
+impl Atomic {
+    /// With one more line above.
+    fn continued(self) -> Atomic
+        ensures { result ≡ continued self }
+    {
+        match self {
+            Atomic::Begins(depth) => Atomic::Continues(depth),
+            other => other,
+        }
+    }
+
+    fn is_inside(self) -> bool
+        ensures { result ≡ is_inside self }
+    {
+        !matches!(self, Atomic::Outside)
+    }
+
+    /// Whether a line of it is above.
+    pub(crate) fn is_continued(self) -> bool
+        ensures { result ≡ is_continued self }
+    {
+        matches!(self, Atomic::Continues(_))
+    }
+
+    /// Whether the line is in none of the branches in it: this many are open.
+    pub(crate) fn is_innermost(self, depth: usize) -> bool
+        ensures { result ≡ is_innermost depth self }
+    {
+        match self {
+            Atomic::Outside => false,
+            Atomic::Begins(around) | Atomic::Continues(around) => around == depth,
         }
     }
 }

@@ -36,7 +36,7 @@ mod witness;
 mod words;
 
 pub use cause::{Cause, PLAN_CLIENTS, PLAN_LINES, PLAN_ROUNDS, REPEATED_LINES};
-pub use context::{Above, Context, Section};
+pub use context::{Above, Atomic, Context, Section};
 pub use mark::Mark;
 pub use mistake::Mistake;
 pub use news::News;

@@ -34,7 +34,9 @@ pub enum Mark {
     If,
     /// `#else`: the client makes the lines below after any other answer.
     Else,
-    /// `#end`: ends the lines of an `#if`, or of its `#else`.
+    /// `#atomic`: the lines down to its `#end` are one step.
+    Atomic,
+    /// `#end`: ends the lines of an `#if`, of its `#else`, or of an `#atomic`.
     End,
     /// `#reads B`, `#writes B` or `#done B`.
     Access(Verb, Name),
@@ -127,6 +129,8 @@ const TURN: &[u8] = b"#turn";
 pub(crate) const IF: &[u8] = b"#if";
 
 const ELSE: &[u8] = b"#else";
+
+pub(crate) const ATOMIC: &[u8] = b"#atomic";
 
 pub(crate) const END: &[u8] = b"#end";
 
@@ -221,6 +225,9 @@ fn directive_of(word: &[u8], rest: &[u8]) -> Option<Mark>
     }
     if word == ELSE {
         return Some(without_words(rest, Mark::Else));
+    }
+    if word == ATOMIC {
+        return Some(without_words(rest, Mark::Atomic));
     }
     if word == END {
         return Some(without_words(rest, Mark::End));

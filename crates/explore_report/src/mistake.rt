@@ -1,10 +1,10 @@
 //! `Mistake`: the first line that makes a script no plan, and why. `PlanScript::read` looks for one.
 ghost use Rattle.std.specs.Prelude.{◌≡◌, All, MatchOption, false};
-ghost use Rattle.explore_report.specs.Mistake.{AllFit, AreFew, EndsClosed, EndsWhole, IsMisfit, IsMisplaced, IsMissing, IsMistake, IsOpen, IsPastLimit, IsPlaced, IsPlan, IsUnfollowed, IsWhole, access_above, access_cause, access_in, after_cause, branch_in, cause_among, cause_of, client_below, client_cause, command_cause, done_below, else_after, else_below, else_cause, end_below, end_cause, expected_cause, finally_below, finally_cause, has_client, has_some_client, if_below, if_cause, in_else, mark_cause, marked_in, order_cause, section_cause, turn_cause, unless_awaited, unless_noted, unless_open, unless_twice, waiting_cause, waiting_in};
+ghost use Rattle.explore_report.specs.Mistake.{AllFit, AreFew, EndsClosed, EndsWhole, IsMisfit, IsMisplaced, IsMissing, IsMistake, IsOpen, IsPastLimit, IsPlaced, IsPlan, IsUnfollowed, IsWhole, access_above, access_cause, access_in, after_cause, atomic_below, atomic_cause, await_cause, branch_in, cause_among, cause_of, client_below, client_cause, command_cause, done_below, else_after, else_below, else_cause, else_in, end_below, end_cause, expected_cause, finally_below, finally_cause, has_client, has_some_client, if_below, if_cause, in_else, is_wait, mark_cause, marked_in, once_cause, order_cause, plain_cause, section_cause, turn_cause, unless_awaited, unless_continued, unless_noted, unless_open, unless_twice, waiting_in};
 
 use crate::accesses::{is_closed, is_open, lines_accessed};
 use crate::cause::{Cause, LAST_CLIENT, PLAN_CLIENTS, PLAN_LINES};
-use crate::context::{Above, Context, Section};
+use crate::context::{Above, Atomic, Context, Section};
 use crate::mark::Mark;
 use crate::plan_script::below;
 use crate::row::Row;
@@ -58,12 +58,14 @@ fn cause_of(context: &Context, mark: &Mark) -> Option<Cause>
     match mark {
         Mark::Client(_) => client_cause(context),
         Mark::Finally => finally_cause(context),
-        Mark::Await | Mark::Once => waiting_cause(context),
+        Mark::Await => await_cause(context),
+        Mark::Once => once_cause(context),
         Mark::Named(_) => mark_cause(context),
         Mark::After(_) => after_cause(context),
         Mark::Turn(_) => turn_cause(context),
         Mark::If => if_cause(context),
         Mark::Else => else_cause(context),
+        Mark::Atomic => atomic_cause(context),
         Mark::End => end_cause(context),
         Mark::Access(_, _) => access_cause(context),
         Mark::Expected | Mark::OrExpected | Mark::OrBegins => expected_cause(context),
@@ -83,11 +85,22 @@ fn unless_awaited(above: Above, other: Option<Cause>) -> Option<Cause>
     }
 }
 
-/// No `#if` is open where a section ends; else that cause counts.
-fn unless_open(depth: usize, other: Option<Cause>) -> Option<Cause>
-    ensures cause { result ≡ unless_open depth other }
+/// Others never end a wait in an `#atomic` below the first line, as they don't go meanwhile; else that cause counts.
+fn unless_continued(atomic: Atomic, other: Option<Cause>) -> Option<Cause>
+    ensures cause { result ≡ unless_continued atomic other }
 {
-    if depth > 0 {
+    if atomic.is_continued() {
+        Some(Cause::WaitsInside)
+    } else {
+        other
+    }
+}
+
+/// No `#if` and no `#atomic` is open where a section ends; else that cause counts.
+fn unless_open(context: &Context, other: Option<Cause>) -> Option<Cause>
+    ensures cause { result ≡ unless_open context.now other }
+{
+    if context.is_enclosed() {
         Some(Cause::NotEnded)
     } else {
         other
@@ -118,7 +131,7 @@ fn unless_twice(noted: bool, other: Option<Cause>) -> Option<Cause>
 fn client_cause(context: &Context) -> Option<Cause>
     ensures cause { result ≡ client_cause context.now }
 {
-    let cause = unless_open(context.depth, client_below(context.section));
+    let cause = unless_open(context, client_below(context.section));
     unless_noted(context.above, cause)
 }
 
@@ -135,7 +148,7 @@ fn client_below(section: Section) -> Option<Cause>
 fn finally_cause(context: &Context) -> Option<Cause>
     ensures cause { result ≡ finally_cause context.now }
 {
-    let cause = unless_open(context.depth, finally_below(context.section));
+    let cause = unless_open(context, finally_below(context.section));
     unless_noted(context.above, cause)
 }
 
@@ -148,9 +161,15 @@ fn finally_below(section: Section) -> Option<Cause>
     }
 }
 
-/// Of `#await` and `#once`.
-fn waiting_cause(context: &Context) -> Option<Cause>
-    ensures cause { result ≡ waiting_cause context.now }
+fn await_cause(context: &Context) -> Option<Cause>
+    ensures cause { result ≡ await_cause context.now }
+{
+    let cause = unless_continued(context.atomic, waiting_in(context.section));
+    unless_awaited(context.above, cause)
+}
+
+fn once_cause(context: &Context) -> Option<Cause>
+    ensures cause { result ≡ once_cause context.now }
 {
     unless_awaited(context.above, waiting_in(context.section))
 }
@@ -175,7 +194,8 @@ fn mark_cause(context: &Context) -> Option<Cause>
 fn after_cause(context: &Context) -> Option<Cause>
     ensures cause { result ≡ after_cause context.now }
 {
-    unless_twice(context.follows.is_some(), waiting_in(context.section))
+    let cause = unless_continued(context.atomic, waiting_in(context.section));
+    unless_twice(context.follows.is_some(), cause)
 }
 
 fn turn_cause(context: &Context) -> Option<Cause>
@@ -213,34 +233,64 @@ fn branch_in(section: Section, other: Option<Cause>) -> Option<Cause>
 fn else_cause(context: &Context) -> Option<Cause>
     ensures cause { result ≡ else_cause context.now }
 {
-    let cause = else_below(context.above, context.depth);
+    let cause = else_below(context.above, context.depth, context.atomic);
     unless_noted(context.above, branch_in(context.section, cause))
 }
 
-fn else_below(above: Above, depth: usize) -> Option<Cause>
-    ensures cause { result ≡ else_below above depth }
+fn else_below(above: Above, depth: usize, atomic: Atomic) -> Option<Cause>
+    ensures cause { result ≡ else_below above depth atomic }
 {
     match above {
         Above::If => Some(Cause::ElseBelowIf),
-        _ if depth > 0 => None,
-        _ => Some(Cause::ElseOfNothing),
+        _ => else_in(depth, atomic),
+    }
+}
+
+/// An `#atomic` in the `#if` has its `#end` above the `#else`.
+fn else_in(depth: usize, atomic: Atomic) -> Option<Cause>
+    ensures cause { result ≡ else_in depth atomic }
+{
+    if atomic.is_innermost(depth) {
+        return Some(Cause::ElseOfNothing);
+    }
+    if depth > 0 {
+        None
+    } else {
+        Some(Cause::ElseOfNothing)
     }
 }
 
 fn end_cause(context: &Context) -> Option<Cause>
     ensures cause { result ≡ end_cause context.now }
 {
-    let cause = end_below(context.depth);
+    let cause = end_below(context.depth, context.atomic);
     unless_noted(context.above, branch_in(context.section, cause))
 }
 
-fn end_below(depth: usize) -> Option<Cause>
-    ensures cause { result ≡ end_below depth }
+fn end_below(depth: usize, atomic: Atomic) -> Option<Cause>
+    ensures cause { result ≡ end_below depth atomic }
 {
-    if depth > 0 {
-        None
-    } else {
-        Some(Cause::EndsNothing)
+    match atomic {
+        Atomic::Begins(_) => Some(Cause::JoinsNothing),
+        Atomic::Outside if depth == 0 => Some(Cause::EndsNothing),
+        _ => None,
+    }
+}
+
+fn atomic_cause(context: &Context) -> Option<Cause>
+    ensures cause { result ≡ atomic_cause context.now }
+{
+    let cause = atomic_below(context.atomic);
+    unless_noted(context.above, branch_in(context.section, cause))
+}
+
+/// An `#atomic` is in no other.
+fn atomic_below(atomic: Atomic) -> Option<Cause>
+    ensures cause { result ≡ atomic_below atomic }
+{
+    match atomic {
+        Atomic::Outside => None,
+        _ => Some(Cause::AtomicInside),
     }
 }
 
@@ -271,13 +321,29 @@ fn access_in(section: Section) -> Option<Cause>
 
 /// Only a `wait` can be checked once.
 fn command_cause(context: &Context, command: &Command) -> Option<Cause>
-    ensures cause { result ≡ command_cause context.now.above context.now.section command.now }
+    ensures cause { result ≡ command_cause context.now.above context.now.atomic context.now.section command.now }
 {
     match (context.above, command) {
         (Above::Once, Command::Wait(_)) => None,
         (Above::Once, _) => Some(Cause::ChecksNothing),
-        _ => section_cause(context.section, command),
+        _ => plain_cause(context.atomic, context.section, command),
     }
+}
+
+/// A line that waits is the first of its `#atomic`.
+fn plain_cause(atomic: Atomic, section: Section, command: &Command) -> Option<Cause>
+    ensures cause { result ≡ plain_cause atomic section command.now }
+{
+    if is_wait(command) && atomic.is_continued() {
+        return Some(Cause::WaitsInside);
+    }
+    section_cause(section, command)
+}
+
+fn is_wait(command: &Command) -> bool
+    ensures { result ≡ is_wait command.now }
+{
+    matches!(command, Command::Wait(_))
 }
 
 /// A report is only allowed in the first section, and a watch only in the last one.
@@ -447,12 +513,12 @@ fn unfollowed(rows: &[Row]) -> Option<Mistake>
     })
 }
 
-/// The last row, if an `#if` is open below it.
+/// The last row, if an `#if` or an `#atomic` is open below it.
 fn unclosed(rows: &[Row]) -> Option<Mistake>
     ensures found { MatchOption result (EndsClosed rows.now) (IsOpen rows.now) }
 {
     let last = rows.last()?;
-    if last.depth_below() > 0 {
+    if last.is_unended() {
         return Some(Mistake {
             line: last.number,
             cause: Cause::NotEnded,

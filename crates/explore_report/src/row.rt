@@ -4,8 +4,8 @@ ghost use Rattle.explore_report.specs.Cases.{command_rows, index_at};
 ghost use Rattle.explore_report.specs.Context.{after};
 ghost use Rattle.explore_report.specs.Expected.{begins_answer, expects, expects_front};
 ghost use Rattle.explore_report.specs.Accesses.{begins_section, ends_access, is_access, stops_access};
-ghost use Rattle.explore_report.specs.Mistake.{begins_part, depth_below, is_client_row, marks};
-ghost use Rattle.explore_report.specs.Rows.{command_in, command_said, context_below, ends_part, is_else, is_end, is_if, is_line, row_if, rows_at, rows_of};
+ghost use Rattle.explore_report.specs.Mistake.{begins_part, depth_below, is_client_row, is_unended, marks};
+ghost use Rattle.explore_report.specs.Rows.{command_in, command_said, context_below, ends_branch, ends_part, is_else, is_end, is_if, is_line, row_if, rows_at, rows_of};
 
 use crate::context::{Context, Section};
 use crate::mark::{Mark, mark_of};
@@ -74,6 +74,13 @@ impl Row {
         self.context.after(&self.mark).depth
     }
 
+    /// Whether an `#if` or an `#atomic` is open below it.
+    pub(crate) fn is_unended(&self) -> bool
+        ensures { result ≡ is_unended self.now }
+    {
+        self.context.after(&self.mark).is_enclosed()
+    }
+
     pub(crate) fn is_if(&self) -> bool
         ensures { result ≡ is_if self.now.mark }
     {
@@ -99,11 +106,19 @@ impl Row {
         (self.is_if() || self.is_else()) && self.depth_below() == depth
     }
 
+    /// Whether it is the `#end` of a branch, and not of an `#atomic`.
+    fn ends_branch(&self) -> bool
+        ensures { result ≡ ends_branch self.now }
+    {
+        let context = &self.context;
+        self.is_end() && !context.atomic.is_innermost(context.depth)
+    }
+
     /// Whether it ends a part of a branch in which this many `#if` are open.
     pub(crate) fn ends_part(&self, depth: usize) -> bool
         ensures { result ≡ ends_part depth self.now }
     {
-        (self.is_else() || self.is_end()) && self.context.depth == depth
+        (self.is_else() || self.ends_branch()) && self.context.depth == depth
     }
 
     /// Whether it is a note on an access to the buffer of that name.

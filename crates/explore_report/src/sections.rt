@@ -136,7 +136,7 @@ fn push_step(
             waits,
             branch,
             after: line_before(rows, row),
-            joined: false,
+            joined: row.context.atomic.is_continued(),
             expects,
             turn: row.context.turn.unwrap_or(row.number),
         })?;

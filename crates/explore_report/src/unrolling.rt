@@ -9,7 +9,7 @@ ghost use Rattle.explore_report.specs.Turns.{begins_block, block_at, block_of, e
 use crate::cause::{PLAN_ROUNDS, REPEATED_LINES};
 use crate::context::one_more;
 use crate::filling::grown;
-use crate::mark::{END, IF, REPEAT};
+use crate::mark::{ATOMIC, END, IF, REPEAT};
 use crate::sections::text_at;
 use crate::turn::Turn;
 use crate::words::{first_word, words_after};
@@ -195,7 +195,7 @@ fn begins_block(line: &[u8]) -> bool
     ensures { result ≡ begins_block line.now }
 {
     let word = word_of(line);
-    word == IF || word == REPEAT
+    word == IF || word == ATOMIC || word == REPEAT
 }
 
 fn ends_block(line: &[u8]) -> bool
