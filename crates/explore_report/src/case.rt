@@ -185,7 +185,7 @@ fn push_lines(
     Ok(())
 }
 
-/// The answers of the client's line in this place, which is the row of that index.
+/// Appends the answers of the client's line at `place`, whose row is at `index`.
 fn push_given(
     alloc: Global,
     plan: &PlanScript<'_>,

@@ -69,7 +69,7 @@ fn push_held(round: u32, held: &Held, text: &mut Vec<u8>) -> Result<(), AllocErr
 }
 
 impl Held {
-    /// What is held below a byte.
+    /// What is held after another byte.
     fn after(&self, byte: u8) -> Held
         ensures { result ≡ held_after self.now byte }
     {
@@ -79,7 +79,7 @@ impl Held {
         }
     }
 
-    /// What is held if the byte continues it.
+    /// What is held with the byte, if the byte continues the held text.
     fn continued(&self, byte: u8) -> Option<Held>
         ensures { result ≡ continued self.now byte }
     {
@@ -113,7 +113,7 @@ fn held_anew(byte: u8) -> Held
     }
 }
 
-/// The number whose digits are those of that number and the byte, if the byte is a digit and the number has room for it.
+/// The number with the byte as one more digit, if the byte is a digit and the number isn't too great.
 pub(crate) fn grown(number: u32, byte: u8) -> Option<u32>
     ensures { result ≡ grown number byte }
 {

@@ -195,7 +195,7 @@ fn note_of(note: &[u8]) -> Option<Mark>
     directive_of(first_word(note), words_after(note))
 }
 
-/// By the first word of a note, and what follows it.
+/// The mark of a note, by its first word and what follows it.
 fn directive_of(word: &[u8], rest: &[u8]) -> Option<Mark>
     ensures mark { result ≡ directive_of word.now rest.now }
 {
@@ -253,7 +253,7 @@ fn directive_of(word: &[u8], rest: &[u8]) -> Option<Mark>
     None
 }
 
-/// What a note says that has a blank behind its `#`: nothing, unless it reads as a directive.
+/// The mark of a note with a blank behind its `#`: a comment without one, but a mistake if it reads as a directive.
 fn blank_note(rest: &[u8]) -> Option<Mark>
     ensures mark { result ≡ blank_note rest.now }
 {

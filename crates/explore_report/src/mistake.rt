@@ -135,6 +135,7 @@ fn client_cause(context: &Context) -> Option<Cause>
     unless_noted(context.above, cause)
 }
 
+/// Why no `#client` may follow in this section.
 fn client_below(section: Section) -> Option<Cause>
     ensures cause { result ≡ client_below section }
 {
@@ -211,6 +212,7 @@ fn if_cause(context: &Context) -> Option<Cause>
     unless_noted(context.above, branch_in(context.section, cause))
 }
 
+/// Why no `#if` may be below this: it needs a line whose answer it names.
 fn if_below(above: Above) -> Option<Cause>
     ensures cause { result ≡ if_below above }
 {
@@ -310,6 +312,7 @@ fn access_cause(context: &Context) -> Option<Cause>
     unless_noted(context.above, access_in(context.section))
 }
 
+/// Why a note on an access may not be in this section.
 fn access_in(section: Section) -> Option<Cause>
     ensures cause { result ≡ access_in section }
 {
@@ -435,7 +438,7 @@ fn access_above(name: &Name, depth: usize, rows: &[Row]) -> Option<Cause>
     None
 }
 
-/// Whether the innermost of that many branches is in its `#else` below these rows.
+/// Whether the innermost of `depth` open branches is in its `#else` below these rows.
 fn is_in_else(rows: &[Row], depth: usize) -> bool
     ensures inside { result ≡ in_else depth false rows.now }
 {
@@ -482,7 +485,7 @@ fn too_many(rows: &[Row]) -> Option<Mistake>
     None
 }
 
-/// What is missing at the end of the plan, whose last line has that number.
+/// A mistake that only the end of the plan shows, such as a branch without its `#end`. `last` is the last line's number.
 fn missing(rows: &[Row], last: usize) -> Option<Mistake>
     ensures found { MatchOption result (IsWhole rows.now) (IsMissing rows.now last) }
 {

@@ -121,7 +121,7 @@ impl Source {
     }
 }
 
-/// With what a client waits.
+/// Adds what the client's next line waits for.
 fn add_wait(plan: &PlanScript<'_>, making: &Making, client: usize, page: &mut Page) {
     if let Some(marked) = making.hold_of(plan, client) {
         page.text(", and ");
@@ -145,7 +145,7 @@ pub(crate) fn add_hold(plan: &PlanScript<'_>, marked: &Milestone, page: &mut Pag
     }
 }
 
-/// What a line with that number waits for.
+/// Adds what the command of line `number` waits for.
 fn add_awaited(command: &Command, number: usize, page: &mut Page) {
     match command {
         Command::Wait(file) => {

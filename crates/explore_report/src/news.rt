@@ -106,7 +106,7 @@ impl<'a> News<'a> {
         }
     }
 
-    /// An answer, if it is wrong.
+    /// Adds an answer, if it is wrong.
     fn add_answer(&mut self, name: &str, case: &Case, making: &mut Making, page: &mut Page) {
         if let Some(finding) = case.finding {
             add_wrong(self.plan, name, case, finding, page);
@@ -116,6 +116,7 @@ impl<'a> News<'a> {
         }
     }
 
+    /// Counts a finding.
     fn count(&mut self) {
         self.findings = self.findings.saturating_add(1);
     }

@@ -158,7 +158,7 @@ impl<'a> PlanScript<'a> {
         }
     }
 
-    /// The number of the script's line that makes the row of that index.
+    /// The number of the script's line that makes the row at `index`.
     pub(crate) fn number_of(&self, index: usize) -> usize {
         match self.rows.get(index) {
             Some(row) => self.line_of(row),
@@ -240,14 +240,14 @@ impl<'a> PlanScript<'a> {
         count
     }
 
-    /// Which row is the first command below the row of that index.
+    /// The index of the first command's row below the row at `index`.
     pub(crate) fn command_below(&self, index: usize) -> Option<usize> {
         let rows = below(self.rows.as_slice(), index);
         let place = rows.iter().position(|row| row.is_command())?;
         Some(place.saturating_add(index).saturating_add(1))
     }
 
-    /// Which row is the command of that place in its section.
+    /// The index of the row with the section's command at `place`, counted from 0.
     pub(crate) fn row_at(&self, section: Section, place: usize) -> Option<usize> {
         let mut left = place;
         for (index, row) in self.rows.as_slice().iter().enumerate() {
@@ -263,7 +263,7 @@ impl<'a> PlanScript<'a> {
     }
 }
 
-/// The number of the script's line that makes the plan's line of that number; `last`, if the plan has no such line.
+/// The number of the script's line that makes line `number` of the plan; `last` if the plan has no such line.
 fn line_number(turns: &[Turn], number: usize, last: usize) -> usize
     ensures { result ≡ unwrap_or (option_map (λ (t : Turn). t.number) (slice_get turns.now (number - 1))) last }
 {
@@ -273,7 +273,7 @@ fn line_number(turns: &[Turn], number: usize, last: usize) -> usize
     }
 }
 
-/// The rows below the row of that index.
+/// The rows below the row at `index`.
 pub(crate) fn below(rows: &[Row], index: usize) -> &[Row]
     ensures below { result.now ≡ drop (index + 1) rows.now }
 {

@@ -62,7 +62,7 @@ fn verb_of(row: &Row) -> &'static str {
     }
 }
 
-/// Which row begins the access of that index.
+/// The index of the row that begins access number `access`, from 0.
 fn beginning(plan: &PlanScript<'_>, access: usize) -> Option<usize> {
     let mut left = access;
     for (index, row) in plan.rows.as_slice().iter().enumerate() {

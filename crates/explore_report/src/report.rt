@@ -99,8 +99,7 @@ impl<'a> Report<'a> {
         Ok(json?)
     }
 
-    /// The schedule of that number as a script, with the answers as what it expects; none if the report shows fewer. The first
-    /// is number 1.
+    /// Schedule `number`, from 1, as a script that expects its answers. None if the report shows fewer.
     ///
     /// Fails with `Memory` only.
     pub fn script(&self, number: usize) -> Result<Option<Vec<u8>>, Refusal>
@@ -136,6 +135,7 @@ impl<'a> Report<'a> {
         self.found.races.len()
     }
 
+    /// The verdict, from which the exit status follows.
     pub fn outcome(&self) -> Outcome
         ensures outcome { result ≡ outcome_of self.now }
     {
@@ -178,7 +178,7 @@ impl<'a> Report<'a> {
     }
 }
 
-/// By whether every schedule was covered, and whether something is found.
+/// The outcome, by whether every schedule was covered, and whether something is found (`any`).
 fn outcome_by(covered: bool, wanted: Wanted, any: bool) -> Outcome
     ensures { result ≡ outcome_by covered wanted any }
 {

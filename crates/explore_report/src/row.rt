@@ -221,6 +221,7 @@ fn take_line(
     }
 }
 
+/// Appends the row of a mark, and moves the context below it.
 fn push_row(
     number: usize,
     mark: &Mark,

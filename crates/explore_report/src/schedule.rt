@@ -61,7 +61,7 @@ impl Making {
         Ok(())
     }
 
-    /// The commands of the first section.
+    /// Makes the commands of the first section.
     fn push_first(&mut self, plan: &PlanScript<'_>) -> Result<(), AllocError>
         ensures first { OnOk result ((commands : List Made) (now : Standing) → HasMade commands now self.old →
             HasMade (commands ++ plan.now.plan.first) (standing_past now plan.now.plan.first) self.new) }
@@ -69,7 +69,7 @@ impl Making {
         self.push_section(plan, Section::First, plan.plan.first.as_slice())
     }
 
-    /// The commands of the last section.
+    /// Makes the commands of the last section.
     pub(crate) fn push_last(&mut self, plan: &PlanScript<'_>) -> Result<(), AllocError>
         ensures last { OnOk result ((commands : List Made) (now : Standing) → HasMade commands now self.old →
             HasMade (commands ++ plan.now.plan.last) (standing_past now plan.now.plan.last) self.new) }
@@ -77,7 +77,7 @@ impl Making {
         self.push_section(plan, Section::Last, plan.plan.last.as_slice())
     }
 
-    /// The commands of a section that is no client's.
+    /// Makes the commands of the first or the last section, which are `own`.
     fn push_section(
         &mut self,
         plan: &PlanScript<'_>,
@@ -111,7 +111,7 @@ impl Making {
         Ok(())
     }
 
-    /// The next line of each client, one after another.
+    /// Makes the lines of a schedule, in order.
     fn push_lines(&mut self, plan: &PlanScript<'_>, schedule: &[usize]) -> Result<(), AllocError>
         ensures lines { OnOk result ((commands : List Made) (now : Standing) → HasMade commands now self.old →
             HasMade (commands ++ commands_along plan.now.plan now schedule.now) (standing_along plan.now.plan now schedule.now) self.new) }
@@ -122,7 +122,7 @@ impl Making {
         Ok(())
     }
 
-    /// The next line of a client, if it is not done.
+    /// Makes the next line of a client, if it is not done.
     fn push_line(&mut self, plan: &PlanScript<'_>, client: usize) -> Result<(), AllocError>
         ensures line { OnOk result ((commands : List Made) (now : Standing) → HasMade commands now self.old →
             HasMade (commands ++ command_at plan.now.plan now client) (standing_with plan.now.plan now client) self.new) }
@@ -137,7 +137,7 @@ impl Making {
         Ok(())
     }
 
-    /// Makes a client's line, which is at this place, and gives the place of the client's next line.
+    /// Makes a client's line, which is at this place, and returns the place of the client's next line.
     fn make_line(&mut self, step: &Step, place: usize) -> Result<usize, AllocError>
         ensures made { OnOk result ((commands : List Made) (now : Standing) → HasMade commands now self.old →
             HasMade (commands ++ step.now.command ∷ []) (standing_past now (step.now.command ∷ [])) self.new) }
@@ -162,7 +162,7 @@ impl Making {
         count_to(&mut self.made, client, place);
     }
 
-    /// The next line of the section's client, if the section is a client's.
+    /// Makes the next line of the section's client, if the section is a client's.
     pub(crate) fn push_own(
         &mut self,
         plan: &PlanScript<'_>,
@@ -178,7 +178,7 @@ impl Making {
         }
     }
 
-    /// The row of the line that a client comes to.
+    /// The index of the row with the client's next line. None if the client is done.
     pub(crate) fn next_of(&self, plan: &PlanScript<'_>, client: usize) -> Option<usize> {
         plan.row_at(
             Section::Client(client),
@@ -197,7 +197,7 @@ impl Making {
         Some(marked)
     }
 
-    /// Appends the rows of the lines that clients come to.
+    /// Appends the index of the row of each client's next line.
     pub(crate) fn push_waiting(
         &self,
         plan: &PlanScript<'_>,
@@ -211,7 +211,7 @@ impl Making {
         Ok(())
     }
 
-    /// The lines that clients come to.
+    /// Makes each client's next line.
     pub(crate) fn push_next(&mut self, plan: &PlanScript<'_>) -> Result<(), AllocError> {
         for client in 0..plan.client_count() {
             self.push_line(plan, client)?;
@@ -220,7 +220,7 @@ impl Making {
     }
 }
 
-/// The row of the client's line of that place.
+/// Appends the index of the row of the client's line at this place.
 fn push_row(
     plan: &PlanScript<'_>,
     client: usize,

@@ -215,7 +215,7 @@ fn expects_for(
     }
 }
 
-/// The branch that begins directly below a line with these rows below it. That many lines of the client are above the branch.
+/// The branch that begins directly below a line with these rows below it. `above` lines of the client are above the branch.
 fn branch_below(
     alloc: Global,
     lines: &[&[u8]],
@@ -264,7 +264,7 @@ fn branch_of(
     Ok(Some(Branch { text, otherwise }))
 }
 
-/// The branch of a line below which the client leaves that many lines out, whatever the answer. No answer has an empty first line.
+/// A jump over `passed` lines, whatever the answer: a branch for an answer with an empty first line, which no answer has.
 fn jump(alloc: Global, above: usize, passed: usize) -> Result<Option<Branch>, AllocError>
     ensures branch { IfOk result (λ branch. branch ≡ jump above passed) }
 {
@@ -286,6 +286,7 @@ fn branch_line(alloc: Global, lines: &[&[u8]], row: &Row) -> Result<Vec<u8>, All
     Ok(line)
 }
 
+/// The text of line `number`, from 1; empty if there is none.
 pub(crate) fn text_at<'a>(lines: &[&'a [u8]], number: usize) -> &'a [u8]
     ensures text { result.now ≡ text_at (texts_of lines.now) number }
 {

@@ -14,7 +14,7 @@ use text_core::Page;
 /// The most answers that are listed of a line.
 const LISTED: usize = 6;
 
-/// What is said if schedules are left.
+/// The end of a report that doesn't cover every schedule.
 const SOME: &str = "; what is above was found in some of the schedules\n";
 
 /// The most answers that are named beside one that is wrong.
@@ -390,7 +390,7 @@ fn add_listed(report: &Report<'_>, cases: &[Case], page: &mut Page) {
     page.text("\n");
 }
 
-/// What is said of a line with this many answers. While schedules are left, its one answer is only the one that was seen.
+/// How the answers of a line are introduced. While schedules are left, a single answer is only the one seen so far.
 fn front_of(report: &Report<'_>, answers: usize) -> &'static str {
     if answers > 1 {
         "depends on the schedule: "

@@ -26,7 +26,7 @@ pub(crate) struct Block {
     pub made: usize,
 }
 
-/// The turns of a plan whose script has these lines: each `#repeat` is made, and each that is in one other.
+/// The turns of a plan whose script has these lines. A `#repeat` may be in one other, so they are unrolled twice.
 pub(crate) fn turns_of(alloc: Global, lines: &[&[u8]]) -> Result<Vec<Turn>, AllocError>
     ensures turns { IfOk result (λ turns. turns.items ≡ turns_of (texts_of lines.now)) }
 {
@@ -121,7 +121,7 @@ fn below_block<'a>(block: &Option<Block>, below: &'a [Turn]) -> &'a [Turn]
     }
 }
 
-/// The turns below the one of that place.
+/// The turns below the turn at `place`.
 fn past(turns: &[Turn], place: usize) -> &[Turn]
     ensures rest { result.now ≡ drop (place + 1) turns.now }
 {
@@ -132,6 +132,7 @@ fn past(turns: &[Turn], place: usize) -> &[Turn]
     }
 }
 
+/// The first `count` turns, or all if there are fewer.
 fn first(turns: &[Turn], count: usize) -> &[Turn]
     ensures first { result.now ≡ take count turns.now }
 {

@@ -13,7 +13,7 @@ pub(crate) enum Way {
     Comes,
     /// Below the lines of a part of a branch in which this many `#if` are open.
     Passes(usize),
-    /// With a line, which it has come to.
+    /// With a line that it has reached.
     Stays,
 }
 
@@ -45,7 +45,7 @@ impl Way {
         }
     }
 
-    /// Whether the client has come to its line.
+    /// Whether the client has reached its line.
     fn is_settled(self) -> bool
         ensures { result ≡ is_settled self }
     {
@@ -88,6 +88,7 @@ pub(crate) fn left_out(start: Way, rows: &[Row]) -> Result<usize, AllocError>
     Ok(count)
 }
 
+/// The sum of two counts of lines.
 pub(crate) fn more(count: usize, lines: usize) -> Result<usize, AllocError>
     ensures sum { IfOk result (λ sum. sum ≡ count + lines) }
 {

@@ -23,7 +23,7 @@ pub(crate) fn script_of(
     Ok(Some(script))
 }
 
-/// Whether the report shows a schedule of that number.
+/// Adds schedule `number` as a script. Returns whether the report shows a schedule with this number.
 fn add_script(report: &Report<'_>, number: usize, making: &mut Making, page: &mut Page) -> bool {
     match &report.found.stuck {
         Some(schedule) if number == 1 => {

@@ -55,7 +55,7 @@ pub(crate) fn action_by<'a>(alloc: Global, matches: &ArgMatches<'a>) -> Result<A
     }
 }
 
-/// By the word of a subcommand, and what follows it.
+/// The action of the subcommand `word` with these matches.
 fn action_after<'a>(
     alloc: Global,
     word: &str,
@@ -169,7 +169,7 @@ fn explore_of<'a>(matches: &ArgMatches<'a>) -> Explore<'a>
     }
 }
 
-/// The text of that name.
+/// The text of the option or operand `name`.
 fn text_of<'a>(matches: &ArgMatches<'a>, name: &str) -> Option<&'a str>
     ensures { option_map (λ t. t.now) result ≡ first_of name.now (rows_of (found_of matches.now)) }
 {
@@ -239,7 +239,7 @@ fn clients_of(matches: &ArgMatches<'_>) -> Result<Clients, Refusal>
     })
 }
 
-/// The number of that name, or 0 if there is none.
+/// The number of the option or operand `name`, or 0 if there is none.
 fn number_of(matches: &ArgMatches<'_>, name: &str) -> u16
     ensures { 1 ≤ result → result ≡ number_named (one_of name.now (rows_of (found_of matches.now))) }
 {

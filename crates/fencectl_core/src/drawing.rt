@@ -26,7 +26,7 @@ pub(crate) fn draw(rt: &HostRuntime, asked: &Draw<'_>) -> Result<u8, Refusal> {
     }
 }
 
-// A function that owns much memory only hands on a reference to it.
+// A function that owns a text or a run lends it to the next: proofs about owned memory are expensive.
 
 fn draw_lines(rt: &HostRuntime, asked: &Draw<'_>, window: &Window) -> Result<u8, Refusal> {
     let script = script_of(rt, asked.script)?;

@@ -40,7 +40,8 @@ fn bound_of(states: Option<&str>) -> Option<usize> {
     }
 }
 
-// A function that owns much memory only hands on a reference to it.
+// `explore` owns the text, `explore_script` the plan, and `explore_plan` the search, and each lends it to the next: proofs about
+// owned memory are expensive.
 
 fn explore_script(
     rt: &HostRuntime,
@@ -91,7 +92,7 @@ fn follow(
     Ok(())
 }
 
-/// Whether what was found up to a level is enough. Says what is new in it, if it is time.
+/// Whether what was found up to a level is enough. Also reports at a terminal what is new, if it is time.
 fn has_ended(
     rt: &HostRuntime,
     asked: &Explore<'_>,
@@ -147,8 +148,8 @@ fn write_report(rt: &HostRuntime, asked: &Explore<'_>, report: &Report<'_>) -> R
     Ok(if are_written { status } else { FAULT })
 }
 
-/// Writes each schedule to files of its own, as it is asked for. Whether all are written: a file that is there stays, which is
-/// reported.
+/// Writes each schedule to files of its own, as asked. Returns whether all are written: it stops at a file that exists, which is
+/// reported and kept.
 fn write_schedules(
     rt: &HostRuntime,
     asked: &Explore<'_>,
@@ -168,7 +169,7 @@ fn write_schedules(
     Ok(true)
 }
 
-/// Writes the schedule of that number as a script, and as a picture.
+/// Writes schedule `number` as a script, and as a picture, as asked. Returns whether the files are written.
 fn write_schedule(
     rt: &HostRuntime,
     asked: &Explore<'_>,

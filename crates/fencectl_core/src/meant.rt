@@ -11,7 +11,7 @@ const LETTERS: usize = 3;
 
 const DASHES: &str = "--";
 
-/// What stands for a mistyped word.
+/// What a mistyped word may stand for.
 #[derive(Clone, Copy)]
 pub(crate) enum Meant {
     Subcommand(&'static str),
@@ -134,7 +134,7 @@ pub(crate) fn meant_among<'a>(
     Ok(found)
 }
 
-/// A word of a sentence.
+/// The word without the comma or semicolon behind it.
 fn without_comma(word: &str) -> &str {
     let word = word.strip_suffix(',').unwrap_or(word);
     word.strip_suffix(';').unwrap_or(word)
@@ -144,7 +144,7 @@ fn is_directive(word: &str) -> bool {
     word.len() > 1 && word.starts_with('#')
 }
 
-/// One more than the letters in which another word may differ.
+/// The least distance at which another word is no longer taken for the meant one.
 fn least_of(word: &str) -> usize {
     word.len() / LETTERS + 1
 }

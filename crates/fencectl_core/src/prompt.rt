@@ -79,7 +79,7 @@ fn request_of(line: &[u8], begins: bool) -> Request<'_> {
     if !begins || !without_spaces(rest).is_empty() {
         Request::Line
     } else if word == HELP {
-        Request::Help(some_of(command))
+        Request::Help(non_empty(command))
     } else if word == QUIT && command.is_empty() {
         Request::Quit
     } else {
@@ -94,7 +94,7 @@ fn without_line_feed(line: &[u8]) -> &[u8] {
     }
 }
 
-fn some_of(word: &[u8]) -> Option<&[u8]> {
+fn non_empty(word: &[u8]) -> Option<&[u8]> {
     if word.is_empty() { None } else { Some(word) }
 }
 

@@ -47,6 +47,7 @@ fn start<T: Threads + Wait + Sync>(rt: &HostRuntime, threads: &T) -> Result<u8, 
     }
 }
 
+/// Parses the words that are left after `--color`, and performs their action.
 fn start_by<T: Threads + Wait + Sync>(
     rt: &HostRuntime,
     threads: &T,
@@ -79,7 +80,7 @@ fn is_plain(rt: &HostRuntime) -> bool {
     no_color || dumb
 }
 
-/// Does it. Gives the exit status.
+/// Performs the action. Returns the exit status.
 fn act<T: Threads + Wait + Sync>(
     rt: &HostRuntime,
     threads: &T,
@@ -112,8 +113,8 @@ fn act<T: Threads + Wait + Sync>(
     }
 }
 
-/// The end of an action on an input, which may write a file. A fault of a file was reported with its name and its reason, so it
-/// gets no line of its own.
+/// Turns a fault that was reported already into its status, so that it isn't reported again: a fault of a file is reported where it
+/// happens, with its name and its reason.
 fn untold(
     ended: Result<u8, Refusal>,
     input: Input<'_>,
