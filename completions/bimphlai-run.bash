@@ -5,7 +5,7 @@ _bimphlai_run() {
     # After the options comes a program, followed by its own words.
     while [ "$at" -lt "$COMP_CWORD" ]; do
         case "${COMP_WORDS[at]}" in
-        --trace | --shuffle | --patience | --plan | --calls | --orders) at=$((at + 2)) ;;
+        --trace | --shuffle | --patience | --plan | --calls | --orders | --runs) at=$((at + 2)) ;;
         --follow)
             at=$((at + 2))
             # A number behind the file is a schedule's.
@@ -18,7 +18,7 @@ _bimphlai_run() {
     done
     if [[ ${COMP_WORDS[COMP_CWORD - 1]} == --@(trace|follow|plan) ]]; then
         mapfile -t COMPREPLY < <(compgen -f -- "$word")
-    elif [[ ${COMP_WORDS[COMP_CWORD - 1]} == --@(shuffle|patience|calls) ]]; then
+    elif [[ ${COMP_WORDS[COMP_CWORD - 1]} == --@(shuffle|patience|calls|runs) ]]; then
         COMPREPLY=()
     elif [ "${COMP_WORDS[COMP_CWORD - 1]}" = --orders ]; then
         mapfile -t COMPREPLY < <(compgen -W "all locks" -- "$word")
@@ -28,7 +28,7 @@ _bimphlai_run() {
     elif [ "$at" -lt "$COMP_CWORD" ]; then
         mapfile -t COMPREPLY < <(compgen -f -- "$word")
     elif [[ $word == -* ]]; then
-        mapfile -t COMPREPLY < <(compgen -W "--local --direct --trace --report --check --require --require-fences --shuffle --follow --patience --plan --calls --orders --predict --verbose -h --help --version" -- "$word")
+        mapfile -t COMPREPLY < <(compgen -W "--local --direct --trace --report --check --require --require-fences --shuffle --follow --patience --plan --calls --orders --predict --runs --verbose -h --help --version" -- "$word")
     else
         mapfile -t COMPREPLY < <(compgen -c -- "$word")
         mapfile -t -O "${#COMPREPLY[@]}" COMPREPLY < <(compgen -f -- "$word")

@@ -118,7 +118,7 @@ int main(int count, char **words)
     if (status >= 0)
         return status;
     if (options.predicts)
-        return predict(&options, words);
+        return predict(&options, words[0]);
     status = program_check(options.program[0]);
     if (!status)
         status = set_variable(BIM_SHUFFLE, options.seed);

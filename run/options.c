@@ -33,6 +33,7 @@ static const char HELP[] =
     "  --orders all|locks\n"
     "                keeps the orders of all locks, or lets the sections of a mutex come in any order\n"
     "  --predict     records a run as a plan, explores it, and follows each schedule that is found\n"
+    "  --runs N      the same of N runs, of which all but the first are shuffled\n"
     "  --verbose     says where the service is, and what was left at the end\n"
     "  -h, --help, --version\n"
     "\n"
@@ -56,6 +57,7 @@ enum word {
     CALLS,
     ORDERS,
     PREDICT,
+    RUNS,
     VERBOSE,
     VERSION
 };
@@ -77,6 +79,7 @@ static const struct option WORDS[] = {
     { "calls", required_argument, NULL, CALLS },
     { "orders", required_argument, NULL, ORDERS },
     { "predict", no_argument, NULL, PREDICT },
+    { "runs", required_argument, NULL, RUNS },
     { "verbose", no_argument, NULL, VERBOSE },
     { "help", no_argument, NULL, 'h' },
     { "version", no_argument, NULL, VERSION },
@@ -163,14 +166,15 @@ static int take_number(const char *option)
     return tell_usage();
 }
 
-static int take_calls(struct options *options)
+/* Takes how many there are to be. */
+static int take_count(const char *option, unsigned long long *count)
 {
-    int status = take_number("--calls");
+    int status = take_number(option);
 
-    options->calls = strtoull(optarg, NULL, 10);
-    if (status >= 0 || options->calls > 0)
+    *count = strtoull(optarg, NULL, 10);
+    if (status >= 0 || *count > 0)
         return status;
-    say("--calls takes a number from 1 on");
+    say("%s takes a number from 1 on", option);
     return tell_usage();
 }
 
@@ -211,9 +215,10 @@ static int take(struct options *options, int word, char **words)
     case FOLLOW: return take_schedule(options, words);
     case PATIENCE: return take_patience(options);
     case PLAN: return take_file("--plan", &options->plan);
-    case CALLS: return take_calls(options);
+    case CALLS: return take_count("--calls", &options->calls);
     case ORDERS: return take_orders(options);
     case PREDICT: options->predicts = true; return -1;
+    case RUNS: return take_count("--runs", &options->runs);
     case VERBOSE: options->is_verbose = true; return -1;
     case 'h': return print(USAGE, HELP);
     case VERSION: return print("bimphlai-run " BIM_VERSION, "\n");
@@ -237,17 +242,39 @@ bool options_report(const struct options *options)
     return options_trace(options) || options_check(options) || options->plan;
 }
 
+/* Moves the words of an option to those that are kept, unless it is one of --predict itself. */
+static void keep_words(struct options *options, int word, char **words, int from)
+{
+    for (int at = from; at < optind && word != PREDICT && word != RUNS; at++)
+        options->kept[options->kept_count++] = words[at];
+}
+
+/* Returns -1, or 2 once standard error says which options don't fit together. */
+static int check_together(const struct options *options)
+{
+    if (options->predicts && (options->plan || options->schedule))
+        say("--predict records a plan and follows it by itself, without --plan and --follow");
+    else if (options->runs && !options->predicts)
+        say("--runs says of how many runs --predict makes plans");
+    else if (options->runs && options->seed)
+        say("--runs shuffles by itself, without --shuffle");
+    else
+        return -1;
+    return tell_usage();
+}
+
 int options_read(struct options *options, int count, char **words)
 {
-    int word, status = -1;
+    int word, from = optind, status = -1;
 
-    *options = (struct options){ .patience = PATIENCE_MS };
-    while (status < 0 && (word = getopt_long(count, words, "+:h", WORDS, NULL)) >= 0)
+    *options = (struct options){ .patience = PATIENCE_MS, .kept = words + 1 };
+    while (status < 0 && (word = getopt_long(count, words, "+:h", WORDS, NULL)) >= 0) {
         status = take(options, word, words);
-    options->program = words + optind;
-    if (status < 0 && options->predicts && (options->plan || options->schedule)) {
-        say("--predict records a plan and follows it by itself, without --plan and --follow");
-        return tell_usage();
+        keep_words(options, word, words, from);
+        from = optind;
     }
+    options->program = words + optind;
+    if (status < 0)
+        status = check_together(options);
     return status < 0 && !options->program[0] ? tell_usage() : status;
 }

@@ -3,6 +3,7 @@
 #define BIM_RUN_OPTIONS_H
 
 #include <stdbool.h>
+#include <stddef.h>
 
 enum { STATUS_OPTIONS = 2 };
 
@@ -16,10 +17,13 @@ struct options {
     const char *plan;  /* a file name, or NULL */
     unsigned long long calls; /* how many calls a plan may have, or 0 */
     bool excludes;            /* whether a mutex only excludes, in a plan */
+    unsigned long long runs;  /* of how many runs --predict makes plans, or 0 */
+    char **kept;              /* the words of the other options than --predict and --runs */
+    size_t kept_count;
     char **program;    /* with its arguments */
 };
 
-/* Returns -1, or the exit status if bimphlai-run is to end: after it has printed help, the version or a usage error. */
+/* Returns -1, or the exit status if bimphlai-run is to end: after it has printed help, the version or a usage error. Moves words. */
 int options_read(struct options *options, int count, char **words);
 /* Returns whether accesses are checked. */
 bool options_check(const struct options *options);

@@ -4,6 +4,8 @@
 #include "explore.h"
 #include "folder.h"
 #include "launch.h"
+#include "mistakes.h"
+#include "noted.h"
 #include "report.h"
 #include "say.h"
 #include "verdict.h"
@@ -18,30 +20,36 @@
 #include <sys/wait.h>
 #include <unistd.h>
 
-enum { MORE_WORDS = 3 };
+enum { MORE_WORDS = 4, NUMBER_ROOM = 24 };
 
-/* How many schedules end so. */
-struct verdicts {
-    unsigned happen, harmless, others;
+/* What all recordings are made with, and what they have found. */
+struct prediction {
+    const struct options *options;
+    char *tool; /* how this program is called */
+    char folder[PATH_MAX], plan[PATH_MAX];
+    struct mistakes mistakes;
+    bool is_bounded; /* a plan has too many states */
 };
 
-/* Returns the words of a run with other options in place of --predict, or NULL. */
-static char **words_of_run(char **words, char **program, const char *const more[MORE_WORDS])
+/* Returns the words of a run that has other options in place of --predict, or NULL. */
+static char **words_of_run(const struct prediction *prediction, const char *const more[MORE_WORDS])
 {
+    const struct options *options = prediction->options;
     size_t count = 0, at = 0;
     char **run;
 
-    while (words[count])
+    while (options->program[count])
         count++;
-    run = calloc(count + MORE_WORDS + 1, sizeof *run);
+    run = calloc(options->kept_count + MORE_WORDS + count + 3, sizeof *run);
     if (!run)
         return NULL;
-    run[at++] = words[0];
+    run[at++] = prediction->tool;
     for (int i = 0; i < MORE_WORDS && more[i]; i++)
         run[at++] = (char *)more[i];
-    for (char **word = words + 1; *word; word++)
-        if (word >= program || strcmp(*word, "--predict") != 0)
-            run[at++] = *word;
+    for (size_t i = 0; i < options->kept_count; i++)
+        run[at++] = options->kept[i];
+    run[at++] = "--";
+    memcpy(run + at, options->program, count * sizeof *run);
     return run;
 }
 
@@ -54,9 +62,9 @@ static void become_run(char **run)
 }
 
 /* Runs the program with other options in place of --predict. Returns the exit status. */
-static int run_with(char **words, char **program, const char *const more[MORE_WORDS])
+static int run_with(const struct prediction *prediction, const char *const more[MORE_WORDS])
 {
-    char **run = words_of_run(words, program, more);
+    char **run = words_of_run(prediction, more);
     pid_t child = run ? fork() : -1;
     int waited;
 
@@ -69,74 +77,124 @@ static int run_with(char **words, char **program, const char *const more[MORE_WO
     return child < 0 ? fault("a run of the program", errno) : launch_status(waited);
 }
 
-/* Has the program follow each schedule that is shown. Returns 0, or the exit status of a run that failed otherwise. */
-static int follow_all(struct verdicts *verdicts, char **words, char **program, const char *plan, unsigned long count)
+/* Has the program follow a schedule of the plan, unless its mistake has happened already. Returns 0, or the exit status of a run
+ * that failed otherwise. */
+static int follow(const struct prediction *prediction, size_t number, size_t count, struct mistake *mistake)
 {
-    char number[32];
+    char word[NUMBER_ROOM];
+    int status;
 
-    for (unsigned long i = 1; i <= count; i++) {
-        int status;
-
-        snprintf(number, sizeof number, "%lu", i);
-        say("schedule %lu of %lu:", i, count);
-        status = run_with(words, program, (const char *[MORE_WORDS]){ "--follow", plan, number });
-        switch (status) {
-        case VERDICT_HAPPENS: verdicts->happen++; break;
-        case VERDICT_HARMLESS: verdicts->harmless++; break;
-        case VERDICT_NOT_REACHED: verdicts->others++; break;
-        default: return status;
-        }
+    if (mistake->verdict == VERDICT_HAPPENS) {
+        say("schedule %zu of %zu: as before (%s)", number, count, mistake->name);
+        return 0;
     }
+    say("schedule %zu of %zu:", number, count);
+    snprintf(word, sizeof word, "%zu", number);
+    status = run_with(prediction, (const char *[MORE_WORDS]){ "--follow", prediction->plan, word });
+    if (status != VERDICT_HAPPENS && status != VERDICT_HARMLESS && status != VERDICT_NOT_REACHED)
+        return status;
+    mistakes_judge(mistake, status);
     return 0;
 }
 
-/* Returns how many schedules are shown, and removes their files. */
-static unsigned long count_shown(const char *folder)
+/* Finds the mistakes of the schedules that are shown. Returns 0 or an errno. */
+static int find_all(struct prediction *prediction, const struct noted *plan, struct mistake **all, size_t count)
 {
-    char path[PATH_MAX];
-    unsigned long count = 0;
+    int error = 0;
 
-    explore_shown(path, folder, 1);
-    while (access(path, R_OK) == 0)
-        explore_shown(path, folder, ++count + 1);
-    explore_remove(folder);
-    return count;
-}
+    for (size_t i = 0; i < count && !error; i++) {
+        struct shown shown;
 
-static int tell(const struct verdicts *verdicts, int explored)
-{
-    if (explored == EXPLORE_CLEAN)
-        say("in no order of the recorded calls that the plan allows does anything fail");
-    else
-        say("schedules: %u, happen: %u, harmless: %u, not made: %u", verdicts->happen + verdicts->harmless + verdicts->others,
-            verdicts->happen, verdicts->harmless, verdicts->others);
-    return verdicts->happen ? VERDICT_HAPPENS : explored == EXPLORE_BOUND ? EXPLORE_BOUND : 0;
-}
-
-static int predict_in(const char *folder, const char *plan, char **words, char **program)
-{
-    struct verdicts verdicts = { 0, 0, 0 };
-    int status = run_with(words, program, (const char *[MORE_WORDS]){ "--plan", plan, NULL }), explored;
-
-    if (status) {
-        say("the recorded run ended with status %d, so nothing is predicted", status);
-        return status;
+        error = explore_read(&shown, prediction->folder, i + 1);
+        all[i] = error ? NULL : mistakes_find(&prediction->mistakes, plan, &shown);
+        explore_free(&shown);
+        error = error ? error : all[i] ? 0 : ENOMEM;
     }
-    explored = explore(plan, folder, true);
+    return error;
+}
+
+/* Has the program follow each schedule of the plan that is shown. Returns 0 or an exit status. */
+static int follow_all(struct prediction *prediction, const struct noted *plan)
+{
+    size_t count = explore_count(prediction->folder);
+    struct mistake **all = calloc(count + 1, sizeof *all);
+    int error = all ? find_all(prediction, plan, all, count) : ENOMEM;
+    int status = error ? fault(prediction->plan, error) : 0;
+
+    /* A run that is killed leaves no files that the next one doesn't know. */
+    explore_remove(prediction->folder);
+    for (size_t i = 0; i < count && !status; i++)
+        status = follow(prediction, i + 1, count, all[i]);
+    free(all);
+    return status;
+}
+
+/* Explores the plan of a recorded run, and has the program follow it. Returns 0 or an exit status. */
+static int predict_from(struct prediction *prediction)
+{
+    struct noted plan;
+    int explored = explore(prediction->plan, prediction->folder, true), status;
+
     if (explored > EXPLORE_BOUND)
         return explored;
-    status = follow_all(&verdicts, words, program, plan, count_shown(folder));
-    return status ? status : tell(&verdicts, explored);
+    prediction->is_bounded |= explored == EXPLORE_BOUND;
+    if (!noted_read(&plan, prediction->plan))
+        return STATUS_FAULT;
+    status = follow_all(prediction, &plan);
+    noted_free(&plan);
+    return status;
 }
 
-int predict(const struct options *options, char **words)
+/* Records a run of the program, the first one undisturbed, and the others under --shuffle. Returns 0 or its exit status. */
+static int record(const struct prediction *prediction, unsigned long long run)
 {
-    char folder[PATH_MAX], plan[PATH_MAX];
-    int error = report_path(".", folder), status;
+    char seed[NUMBER_ROOM];
+    int status;
 
+    snprintf(seed, sizeof seed, "%llu", run - 1);
+    if (run > 1)
+        say("recording %llu of %llu, with --shuffle %s:", run, prediction->options->runs, seed);
+    status = run_with(prediction, (const char *[MORE_WORDS]){ "--plan", prediction->plan, run > 1 ? "--shuffle" : NULL, seed });
+    if (status)
+        say("the recorded run ended with status %d, so nothing is predicted%s", status, run > 1 ? " of it" : "");
+    return status;
+}
+
+static int tell(const struct prediction *prediction, int failed)
+{
+    if (!prediction->mistakes.first && !prediction->is_bounded && !failed)
+        say("in no order of the recorded calls that the plan allows does anything fail");
+    if (prediction->mistakes.first && mistakes_tell(&prediction->mistakes))
+        return VERDICT_HAPPENS;
+    return failed ? failed : prediction->is_bounded ? EXPLORE_BOUND : 0;
+}
+
+/* Predicts from all recorded runs. Nothing is predicted if the first one fails, but another one may fail by its delays. */
+static int predict_all(struct prediction *prediction)
+{
+    int failed = 0;
+    unsigned long long run = 0;
+
+    do {
+        int recorded = record(prediction, ++run), status = recorded ? 0 : predict_from(prediction);
+
+        if (status || (recorded && run == 1) || recorded == STATUS_FAULT)
+            return status ? status : recorded;
+        failed = failed ? failed : recorded;
+    } while (run < prediction->options->runs);
+    return tell(prediction, failed);
+}
+
+int predict(const struct options *options, char *tool)
+{
+    struct prediction prediction = { .options = options, .tool = tool };
+    int error = report_path(".", prediction.folder), status;
+
+    mistakes_begin(&prediction.mistakes);
     if (!error)
-        error = report_path(FOLDER_PREDICTED, plan);
-    status = error ? fault("a folder for the plan", error) : predict_in(folder, plan, words, options->program);
+        error = report_path(FOLDER_PREDICTED, prediction.plan);
+    status = error ? fault("a folder for the plan", error) : predict_all(&prediction);
+    mistakes_free(&prediction.mistakes);
     report_remove_temporary();
     return status;
 }

@@ -1,7 +1,6 @@
 /* Reads the schedule that --follow is to follow: the lines of a script, or the schedule that fencectl shows for a finding of a
- * plan. The note above a line says what the line is: `# @1.2:3 PLACE` the third call of the thread 1.2, and `# @1.2:L3 PLACE` the
- * third mutex that it locks. A call whose note has no line is made out of turn, as are the calls above a plan's clients; a
- * mutex is then locked after all turns. */
+ * plan. A call whose note has no line is made out of turn, as are the calls above a plan's clients; a mutex is then locked after
+ * all turns. */
 #ifndef BIM_RUN_TURNS_H
 #define BIM_RUN_TURNS_H
 
@@ -10,7 +9,5 @@
 /* Reads a schedule, which the caller frees. `finding` is the number of a plan's finding, or NULL for a script; `folder` is one for
  * temporary files. Returns NULL once standard error has the reason. */
 struct schedule *turns_read(const char *path, const char *finding, const char *folder);
-/* Returns the word of a plan's line for a kind of call. */
-const char *turns_word(enum step_kind kind);
 
 #endif

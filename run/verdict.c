@@ -3,6 +3,7 @@
 
 #include "folder.h"
 #include "launch.h"
+#include "noted.h"
 #include "processes.h"
 #include "report.h"
 #include "say.h"
@@ -79,7 +80,7 @@ void verdict_note_hang(void)
 /* Writes which call of its thread a turn is, its kind, and its place. */
 static void write_call(char *text, const struct turn *turn)
 {
-    snprintf(text, CALL_ROOM, "its call %u (%s%s%.119s)", turn->number, turns_word(turn->kind), turn->place[0] ? ", " : "",
+    snprintf(text, CALL_ROOM, "its call %u (%s%s%.119s)", turn->number, noted_word(turn->kind), turn->place[0] ? ", " : "",
              turn->place);
 }
 
@@ -90,7 +91,7 @@ static void tell_last(void)
 
     say("its last calls:");
     for (uint32_t i = first; i < schedule->turns; i++)
-        say("  %-9s %-8s %.119s", schedule->all[i].thread.text, turns_word(schedule->all[i].kind), schedule->all[i].place);
+        say("  %-9s %-8s %.119s", schedule->all[i].thread.text, noted_word(schedule->all[i].kind), schedule->all[i].place);
 }
 
 static int tell_made(int status, bool has_findings)
@@ -136,7 +137,7 @@ static int tell_left(void)
 
     write_call(wanted, turn);
     say("another way: after %u of %u calls %s was to make %s, but made another call (%s)", schedule->at, schedule->turns,
-        turn->thread.text, wanted, turns_word(schedule->other.kind));
+        turn->thread.text, wanted, noted_word(schedule->other.kind));
     return VERDICT_NOT_REACHED;
 }
 
