@@ -13,8 +13,8 @@
 
 #define NAME "bimphlai-run."
 
-static const char *const FILES[] = { FOLDER_SOCKET, FOLDER_TRACE,   FOLDER_CHECK,
-                                     FOLDER_PLAN,   FOLDER_THREADS, FOLDER_SCHEDULE, FOLDER_PREDICTED };
+static const char *const FILES[] = { FOLDER_SOCKET,  FOLDER_TRACE,    FOLDER_CHECK, FOLDER_PLAN,
+                                     FOLDER_THREADS, FOLDER_SCHEDULE, FOLDER_WAYS,  FOLDER_PREDICTED };
 
 /* By su or sudo, the environment may name another user's folder, and that user could put a service of their own
  * there. */

@@ -12,6 +12,7 @@
 #define FOLDER_PLAN      "plan"
 #define FOLDER_THREADS   "threads"
 #define FOLDER_SCHEDULE  "schedule"
+#define FOLDER_WAYS      "ways"
 #define FOLDER_PREDICTED "predicted"
 
 /* Makes a folder that only this user may enter. Stores its path, and a descriptor that holds the lock. Removes all

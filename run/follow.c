@@ -1,6 +1,7 @@
 #define _GNU_SOURCE
 #include "follow.h"
 
+#include "callers.h"
 #include "calls.h"
 #include "schedule.h"
 #include "thread.h"
@@ -8,6 +9,7 @@
 #include <errno.h>
 #include <limits.h>
 #include <linux/futex.h>
+#include <stdio.h>
 #include <stdlib.h>
 #include <string.h>
 #include <time.h>
@@ -24,6 +26,8 @@ void follow_begin(void)
     const char *path = getenv(BIM_FOLLOW);
 
     schedule = path && thread_is_on() ? schedule_open(path) : NULL;
+    if (schedule)
+        callers_begin();
 }
 
 static bool runs(void)
@@ -187,6 +191,15 @@ bool follow_counts(const struct step *step, uint32_t number)
     return fits(&schedule->all[at], step);
 }
 
+/* Notes where the program makes the call of a turn. */
+static void note_way(uint32_t at)
+{
+    char begin[16];
+
+    snprintf(begin, sizeof begin, "%u", at);
+    callers_note(schedule->ways, begin);
+}
+
 void follow_end(const struct step *step, uint32_t number)
 {
     uint32_t at = schedule ? schedule->at : 0;
@@ -196,6 +209,7 @@ void follow_end(const struct step *step, uint32_t number)
         schedule->last = schedule_now();
     if (!runs() || !is_turn(at, number, false))
         return;
+    note_way(at);
     if (fits(&schedule->all[at], step)) {
         go_on(at);
         return;

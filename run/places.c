@@ -10,7 +10,7 @@
 #include <sys/wait.h>
 #include <unistd.h>
 
-enum { WORDS = 8, ADDRESS = 20 };
+enum { WORDS = 8, ADDRESS = 20, SHOWN = 2 };
 
 const struct place *places_at(const struct places *places, const char *object, uint64_t address)
 {
@@ -136,6 +136,54 @@ void places_find(struct places *places)
     for (size_t i = 0; i < places->count; i++)
         if (!was_found(places, i))
             find_in(places, places->all[i].object);
+}
+
+/* A place that is worth reading: a line of a source that is no header. */
+static bool is_good(const struct place *place, int call)
+{
+    const char *line = place->calls[call].line, *end = strchr(line, ':');
+
+    return line[0] && !(end && end - line >= 2 && strncmp(end - 2, ".h", 2) == 0);
+}
+
+/* The C library's calls are of no interest. */
+static bool is_of_program(const struct spot *spot)
+{
+    const char *name = spot->object ? strrchr(spot->object, '/') : NULL;
+
+    return name && strncmp(name, "/libc.", 6) != 0 && strncmp(name, "/libc-", 6) != 0;
+}
+
+static void add_call(char *text, size_t room, const char *function, const char *line)
+{
+    size_t length = strlen(text);
+
+    snprintf(text + length, room - length, "%s%s%s%s", length ? ", " : "", function, *function ? " " : "", line);
+}
+
+static void write_address(const struct spot *spot, char *text, size_t room)
+{
+    const char *name = spot->object ? strrchr(spot->object, '/') : NULL;
+
+    snprintf(text, room, "%.60s+%#llx", name ? name + 1 : "?", (unsigned long long)spot->address);
+}
+
+void places_write(const struct places *places, const struct spot *spots, int count, char *text, size_t room)
+{
+    int shown = 0;
+
+    text[0] = 0;
+    for (int i = 0; i < count; i++) {
+        const struct place *place = is_of_program(&spots[i]) ? places_at(places, spots[i].object, spots[i].address) : NULL;
+
+        for (int call = 0; place && call < place->count && shown < SHOWN; call++)
+            if (is_good(place, call)) {
+                add_call(text, room, place->calls[call].function, place->calls[call].line);
+                shown++;
+            }
+    }
+    if (!shown && count > 0)
+        write_address(&spots[0], text, room);
 }
 
 void places_free(struct places *places)

@@ -17,6 +17,12 @@ struct place {
     } calls[PLACE_CALLS];
 };
 
+/* An address in a program or a library; `object` is NULL if it isn't known in which. */
+struct spot {
+    const char *object;
+    uint64_t address;
+};
+
 struct places {
     struct place *all;
     size_t count, room;
@@ -28,6 +34,9 @@ void places_add(struct places *places, const char *object, uint64_t address);
 void places_find(struct places *places);
 /* Returns a place that was added, or NULL. */
 const struct place *places_at(const struct places *places, const char *object, uint64_t address);
+/* Writes the first two calls at these addresses, the innermost first, each with its function and its line; or the first address, if
+ * no line is known. */
+void places_write(const struct places *places, const struct spot *spots, int count, char *text, size_t room);
 void places_free(struct places *places);
 
 #endif

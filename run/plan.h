@@ -6,6 +6,7 @@
 
 #include "log.h"
 #include "map.h"
+#include "places.h"
 
 #include <stdbool.h>
 #include <stddef.h>
@@ -135,12 +136,6 @@ struct loaded {
     struct loaded *next;
 };
 
-/* An address in a program or a library; `object` is NULL if the log doesn't say in which. */
-struct spot {
-    const char *object;
-    uint64_t address;
-};
-
 struct plan {
     /* Of the log. */
     const struct log *log;
@@ -190,7 +185,6 @@ void plan_end_sections(struct plan *plan);
 /* Decides which lines the plan has, where each is, and which tokens it waits for. */
 void plan_order(struct plan *plan);
 
-struct places;
 void plan_write(const struct plan *plan, const struct places *places, const char *program, FILE *to);
 /* Writes the run itself: its lines in their order, with what each was answered. */
 void plan_write_run(const struct plan *plan, FILE *to);

@@ -8,53 +8,17 @@
 #include <string.h>
 
 /* No line of a script may be longer, without its line feed. */
-enum { LINE_BYTES = 256, SHOWN = 2 };
+enum { LINE_BYTES = 256 };
 
-/* A place that is worth reading: a line of a source that is no header. */
-static bool is_good(const struct place *place, int call)
-{
-    const char *line = place->calls[call].line, *end = strchr(line, ':');
-
-    return line[0] && !(end && end - line >= 2 && strncmp(end - 2, ".h", 2) == 0);
-}
-
-static void add_place(char *text, size_t room, const char *function, const char *line)
-{
-    size_t length = strlen(text);
-
-    snprintf(text + length, room - length, "%s%s%s%s", length ? ", " : "", function, *function ? " " : "", line);
-}
-
-/* The C library's calls are of no interest. */
-static bool is_of_program(const struct spot *spot)
-{
-    const char *name = spot->object ? strrchr(spot->object, '/') : NULL;
-
-    return name && strncmp(name, "/libc.", 6) != 0 && strncmp(name, "/libc-", 6) != 0;
-}
-
-/* Writes the first calls that led to a record, or as much as is known of the last. */
+/* Writes where the program made a call. */
 static void write_places(const struct plan *plan, const struct log_record *record, const struct places *places, char *text, size_t room)
 {
-    int shown = 0;
+    struct spot spots[LOG_FRAMES];
+    int count = 0;
 
-    text[0] = 0;
-    for (int i = 0; record && i < LOG_FRAMES && record->frames[i]; i++) {
-        struct spot spot = plan_spot(plan, record, record->frames[i] - 1);
-        const struct place *place = is_of_program(&spot) ? places_at(places, spot.object, spot.address) : NULL;
-
-        for (int call = 0; place && call < place->count && shown < SHOWN; call++)
-            if (is_good(place, call)) {
-                add_place(text, room, place->calls[call].function, place->calls[call].line);
-                shown++;
-            }
-    }
-    if (!shown && record && record->frames[0]) {
-        struct spot spot = plan_spot(plan, record, record->frames[0] - 1);
-        const char *name = spot.object ? strrchr(spot.object, '/') : NULL;
-
-        snprintf(text, room, "%.60s+%#llx", name ? name + 1 : "?", (unsigned long long)spot.address);
-    }
+    for (; record && count < LOG_FRAMES && record->frames[count]; count++)
+        spots[count] = plan_spot(plan, record, record->frames[count] - 1);
+    places_write(places, spots, count, text, room);
 }
 
 static const char *flags_of(uint64_t flags)

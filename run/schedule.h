@@ -6,6 +6,7 @@
 #include "step.h"
 #include "thread.h"
 
+#include <limits.h>
 #include <stdatomic.h>
 
 enum { SCHEDULE_PLACE = 120 };
@@ -32,6 +33,7 @@ struct schedule {
     _Atomic uint64_t turned;  /* when the turn `at` began, in nanoseconds */
     _Atomic uint64_t last;    /* when a call last began or ended, in nanoseconds */
     uint64_t patience;        /* in nanoseconds */
+    char ways[PATH_MAX];      /* the file in which threads note where they make the calls that are in turn */
     uint32_t turns, others;   /* behind the turns are the calls that are made out of turn, and the locks that may have no turn */
     struct turn all[];
 };

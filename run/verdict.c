@@ -9,6 +9,7 @@
 #include "say.h"
 #include "schedule.h"
 #include "turns.h"
+#include "ways.h"
 #include "wire.h"
 
 #include <errno.h>
@@ -18,7 +19,7 @@
 #include <stdlib.h>
 #include <string.h>
 
-enum { NANOSECONDS_OF_MS = 1000000, CALL_ROOM = SCHEDULE_PLACE + 64, LAST = 5 };
+enum { NANOSECONDS_OF_MS = 1000000, CALL_ROOM = SCHEDULE_PLACE + 64, LAST = 5, END_ROOM = 32 };
 
 static struct schedule *schedule;
 static bool has_hung;
@@ -59,7 +60,11 @@ int verdict_begin(const struct options *options)
         return STATUS_OPTIONS;
     read->patience = nanoseconds_of(options->patience);
     read->turned = schedule_now();
-    error = make_shared(FOLDER_THREADS, BIM_THREADS, NULL);
+    error = report_path(FOLDER_WAYS, read->ways);
+    if (!error)
+        error = ways_begin(read->ways);
+    if (!error)
+        error = make_shared(FOLDER_THREADS, BIM_THREADS, NULL);
     if (!error)
         error = make_shared(FOLDER_SCHEDULE, BIM_FOLLOW, read);
     free(read);
@@ -112,15 +117,24 @@ static int tell_made(int status, bool has_findings)
     return VERDICT_HAPPENS;
 }
 
+/* Writes how the program ended, unless it succeeded. */
+static void write_end(char *text, size_t room, int status)
+{
+    text[0] = 0;
+    if (has_hung)
+        snprintf(text, room, "; then it hung");
+    else if (status != 0)
+        snprintf(text, room, "; its status was %d", status);
+}
+
 static int tell_missed(int status)
 {
     const struct turn *turn = &schedule->all[schedule->at], *other = &schedule->other;
-    char missed[CALL_ROOM], waited[CALL_ROOM], ended[32] = "";
+    char missed[CALL_ROOM], waited[CALL_ROOM], ended[END_ROOM];
 
     write_call(missed, turn);
     write_call(waited, other);
-    if (status != 0)
-        snprintf(ended, sizeof ended, "; its status was %d", status);
+    write_end(ended, sizeof ended, status);
     if (schedule->outcome == SCHEDULE_MISSED)
         say("not reached: after %u of %u calls %s did not come to %s while %s waited to make %s%s", schedule->at, schedule->turns,
             turn->thread.text, missed, other->thread.text, waited, ended);
@@ -130,22 +144,36 @@ static int tell_missed(int status)
     return VERDICT_NOT_REACHED;
 }
 
-static int tell_left(void)
+/* Says that a turn's thread made another call: of another kind, or at another place. */
+static int tell_left(uint32_t at, enum step_kind kind, const char *place, int status)
 {
-    const struct turn *turn = &schedule->all[schedule->at];
-    char wanted[CALL_ROOM];
+    char wanted[CALL_ROOM], ended[END_ROOM];
 
-    write_call(wanted, turn);
-    say("another way: after %u of %u calls %s was to make %s, but made another call (%s)", schedule->at, schedule->turns,
-        turn->thread.text, wanted, noted_word(schedule->other.kind));
+    write_call(wanted, &schedule->all[at]);
+    write_end(ended, sizeof ended, status);
+    say("another way: after %u of %u calls %s was to make %s, but made another call (%s%s%s)%s", at, schedule->turns,
+        schedule->all[at].thread.text, wanted, noted_word(kind), place[0] ? ", " : "", place, ended);
     return VERDICT_NOT_REACHED;
+}
+
+static int tell(const struct way *ways, int status, bool has_findings)
+{
+    uint32_t other = ways ? ways_other(schedule, ways) : schedule->turns;
+
+    if (other < schedule->turns && other < schedule->at)
+        return tell_left(other, schedule->all[other].kind, ways[other].place, status);
+    switch (schedule->outcome) {
+    case SCHEDULE_MADE: return tell_made(status, has_findings);
+    case SCHEDULE_LEFT: return tell_left(schedule->at, schedule->other.kind, ways ? ways[schedule->at].place : "", status);
+    default: return tell_missed(status);
+    }
 }
 
 int verdict_tell(int status, bool has_findings)
 {
-    switch (schedule->outcome) {
-    case SCHEDULE_MADE: return tell_made(status, has_findings);
-    case SCHEDULE_LEFT: return tell_left();
-    default: return tell_missed(status);
-    }
+    struct way *ways = ways_read(schedule);
+    int verdict = tell(ways, status, has_findings);
+
+    free(ways);
+    return verdict;
 }
