@@ -1,5 +1,5 @@
-/* posix_spawn(3) and the calls that wait for a child process. If threads have names, a child gets its name from the thread that
- * makes it; shim.c names the children of fork(3). */
+/* posix_spawn(3), and the calls that wait for a child process, as system(3) does. If threads have names, a child gets its name from
+ * the thread that makes it; shim.c names the children of fork(3). */
 #define _GNU_SOURCE
 #include "shim.h"
 #include "thread.h"
@@ -77,7 +77,7 @@ SPAWN(posix_spawnp)
 static pid_t reaped(pid_t child, int how)
 {
     if (child > 0 && (WIFEXITED(how) || WIFSIGNALED(how)))
-        thread_tell(THREAD_REAPS, "", child);
+        thread_reap(child);
     return child;
 }
 
@@ -114,6 +114,29 @@ EXPORT int waitid(idtype_t kind, id_t id, siginfo_t *found, int options)
     result = next(kind, id, found, options);
     if (result == 0 && found->si_pid > 0 && !(options & WNOWAIT) &&
         (found->si_code == CLD_EXITED || found->si_code == CLD_KILLED || found->si_code == CLD_DUMPED))
-        thread_tell(THREAD_REAPS, "", found->si_pid);
+        thread_reap(found->si_pid);
     return result;
+}
+
+/* The C library waits in these for a child whose number it doesn't tell. */
+EXPORT int system(const char *command)
+{
+    NEXT(system);
+    int how = next(command), before = errno;
+
+    if (shim_is_on())
+        thread_reap_ended();
+    errno = before;
+    return how;
+}
+
+EXPORT int pclose(FILE *stream)
+{
+    NEXT(pclose);
+    int how = next(stream), before = errno;
+
+    if (shim_is_on())
+        thread_reap_ended();
+    errno = before;
+    return how;
 }

@@ -344,12 +344,12 @@ static bool is_stray(const struct plan *plan, const struct plan_thread *thread)
            !descends(plan->lines[plan->count - 1]->thread, thread);
 }
 
-/* A process that system(3) makes has ended before that returns, which the log doesn't show. */
+/* A process that was waited for by a system call has ended before others go on, which the log doesn't show. */
 static void look_for_ends(struct plan *plan)
 {
     for (unsigned i = 0; i < plan->thread_count && plan->count; i++)
         if (is_stray(plan, &plan->threads[i]))
-            lack(plan, "the end of process %s isn't in the log, as of one that system() made", plan->threads[i].name);
+            lack(plan, "the end of process %s isn't in the log, as of one that a system call waits for", plan->threads[i].name);
 }
 
 void plan_read_lines(struct plan *plan)

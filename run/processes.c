@@ -5,6 +5,7 @@
 #include "wire.h"
 
 #include <errno.h>
+#include <signal.h>
 #include <stdio.h>
 #include <stdlib.h>
 #include <string.h>
@@ -80,6 +81,37 @@ void thread_name_child(struct thread_name *name, struct thread *maker)
 
     if (!maker->name.text[0] || length >= (int)sizeof name->text)
         name->text[0] = 0;
+}
+
+void processes_reap(struct processes *processes, pid_t process)
+{
+    struct thread *ended = find(processes, process);
+
+    if (ended)
+        ended->is_reaped = true;
+}
+
+/* Returns whether a process was made by another one, or by what that made. */
+static bool is_below(const struct thread *process, const struct thread *above)
+{
+    size_t length = strlen(above->name.text);
+
+    return length > 0 && strncmp(process->name.text, above->name.text, length) == 0 && process->name.text[length] == '.';
+}
+
+pid_t processes_ended(struct processes *processes)
+{
+    const struct thread *own = find(processes, getpid());
+
+    for (uint32_t at = 0; own && at < count_of(processes); at++) {
+        struct thread *process = &processes->first[at];
+
+        if (process->is_reaped || !is_below(process, own) || kill(process->process, 0) == 0 || errno != ESRCH)
+            continue;
+        process->is_reaped = true;
+        return process->process;
+    }
+    return 0;
 }
 
 /* Finds the name of a new process. Its children inherit the environment too, whose name is then taken. */

@@ -34,6 +34,21 @@ void thread_tell(enum thread_event event, const char *name, pid_t process)
     tell(&(struct thread_fact){ event, name, NULL, process });
 }
 
+void thread_reap(pid_t process)
+{
+    if (processes)
+        processes_reap(processes, process);
+    thread_tell(THREAD_REAPS, "", process);
+}
+
+void thread_reap_ended(void)
+{
+    pid_t process;
+
+    while (processes && (process = processes_ended(processes)) > 0)
+        thread_tell(THREAD_REAPS, "", process);
+}
+
 /* Becomes the first thread of a process. */
 static void begin_process(struct thread *first)
 {

@@ -58,6 +58,10 @@ struct thread_name thread_draw(void);
 /* Begins a new thread, which got its name from its maker. */
 void thread_start(const struct thread_name *name, const void *routine);
 void thread_tell(enum thread_event event, const char *name, pid_t process);
+/* Tells THREAD_REAPS. */
+void thread_reap(pid_t process);
+/* Tells it of all processes below this one that have been waited for by a call that doesn't say for which. */
+void thread_reap_ended(void);
 /* Called on the thread that forks, before the fork and in the child. */
 void thread_before_fork(void);
 void thread_in_child(void);
