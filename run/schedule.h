@@ -8,6 +8,7 @@
 
 #include <limits.h>
 #include <stdatomic.h>
+#include <stdbool.h>
 
 enum { SCHEDULE_PLACE = 120 };
 
@@ -34,6 +35,7 @@ struct schedule {
     _Atomic uint64_t last;    /* when a call last began or ended, in nanoseconds */
     uint64_t patience;        /* in nanoseconds */
     char ways[PATH_MAX];      /* the file in which threads note where they make the calls that are in turn */
+    bool is_race;             /* two threads access a buffer once all turns were made */
     uint32_t turns, others;   /* behind the turns are the calls that are made out of turn, and the locks that may have no turn */
     struct turn all[];
 };

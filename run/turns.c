@@ -15,6 +15,7 @@
 struct turns {
     struct turn *all;
     size_t count;
+    bool is_race;
 };
 
 /* Adds a turn. A poll that found several files is one call with several lines: its turn is the last of these. */
@@ -35,6 +36,7 @@ static bool add_turn(struct turns *turns, const struct turn *turn)
 /* Adds the calls that a shown schedule makes, by their lines in the plan. */
 static bool add_shown(struct turns *turns, const struct noted *plan, const struct shown *shown)
 {
+    turns->is_race = shown->is_race;
     for (size_t i = 0; i < shown->count; i++) {
         size_t at = shown->lines[i].line;
 
@@ -93,6 +95,7 @@ static struct schedule *schedule_of(const struct turns *turns, const struct note
         return NULL;
     schedule->turns = turns->count;
     schedule->others = text->frees;
+    schedule->is_race = turns->is_race;
     memcpy(schedule->all, turns->all, turns->count * sizeof *turns->all);
     if (text->frees > 0)
         memcpy(schedule->all + turns->count, text->free, text->frees * sizeof *text->free);
@@ -102,7 +105,7 @@ static struct schedule *schedule_of(const struct turns *turns, const struct note
 struct schedule *turns_read(const char *path, const char *finding, const char *folder)
 {
     struct schedule *schedule = NULL;
-    struct turns turns = { NULL, 0 };
+    struct turns turns = { NULL, 0, false };
     struct noted text;
 
     if (noted_read(&text, path) &&

@@ -109,10 +109,10 @@ static int tell_made(int status, bool has_findings)
         say("happens: %s, and the program ended with status %d", made, status);
     else if (has_findings)
         say("happens: %s, and an access ended while a fence was pending", made);
+    else if (schedule->is_race)
+        say("happens: %s, and two threads accessed a buffer at once", made);
     else
-        say("harmless: %s, and nothing failed", made);
-    if (!has_hung && status == 0 && !has_findings)
-        return VERDICT_HARMLESS;
+        return say("harmless: %s, and nothing failed", made), VERDICT_HARMLESS;
     tell_last();
     return VERDICT_HAPPENS;
 }
