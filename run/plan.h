@@ -1,6 +1,6 @@
 /* A plan of one run (--plan), made of its log (log.h): the lines that the calls of its threads become, and the orders between them.
- * plan_log.c reads the log, plan_lines.c makes the lines, plan_clocks.c takes the orders, plan_orders.c decides which of them need a
- * token, plan_text.c writes. */
+ * plan_log.c reads the log, plan_lines.c makes the lines, plan_clocks.c takes the orders, plan_orders.c decides which of them need
+ * notes of their own, plan_text.c writes. */
 #ifndef BIM_RUN_PLAN_H
 #define BIM_RUN_PLAN_H
 
@@ -66,10 +66,10 @@ struct section {
     struct section *next;
 };
 
-/* A token that a line waits for: its line's. */
-struct token {
+/* A line of another thread after which a line has to come. */
+struct order {
     struct line *line;
-    struct token *next;
+    struct order *next;
 };
 
 struct line {
@@ -86,9 +86,10 @@ struct line {
     unsigned *known;  /* by thread: how many of its lines the plan has before */
     bool awaits;      /* another thread makes what it uses */
     bool is_dropped, is_common; /* above the first client */
-    unsigned token;   /* its number, or 0 if no line waits for this one */
-    struct token *tokens;
+    unsigned mark;    /* its number, or 0 if no line has this one in its orders */
+    struct order *orders;
     struct section *begins, *ends, *passes;
+    unsigned turn, commands; /* how many commands of the plan come before its first one, as in the run, and how many it has */
     struct line *access; /* where the access ends that begins with this line, or the other way round, or NULL */
 };
 
@@ -156,7 +157,8 @@ struct plan {
     size_t count, room;
     struct plan_thread *main;  /* who made the first line */
     unsigned first, last; /* its lines up to `first` come before all others', its lines after `last` come after all */
-    unsigned tokens, mutex_count, clients, timelines, buffers, files, commands;
+    unsigned marks, mutex_count, clients, timelines, buffers, files, commands;
+    bool has_idle_lines; /* each has one more order of the line below it */
     struct held *empties; /* sections without lines */
     char lack[256];       /* what the plan lacks, or "" */
 
@@ -182,7 +184,7 @@ void plan_read_lines(struct plan *plan);
 void plan_take_order(struct plan *plan, const struct event *event);
 /* Adds the sections without lines. */
 void plan_end_sections(struct plan *plan);
-/* Decides which lines the plan has, where each is, and which tokens it waits for. */
+/* Decides which lines the plan has, where each is, and after which others it comes. */
 void plan_order(struct plan *plan);
 
 void plan_write(const struct plan *plan, const struct places *places, const char *program, FILE *to);

@@ -1,5 +1,5 @@
-/* Where each line of a plan is, and which orders of the run it has to keep by a token: those that neither a file, nor the place of
- * the lines, nor another token keeps. */
+/* Where each line of a plan is, and which orders of the run need notes (`#mark`, `#after`): those that neither a file, nor the place
+ * of the lines, nor another such order keeps. */
 #include "plan.h"
 
 #include <limits.h>
@@ -192,14 +192,14 @@ static void await_orders(struct plan *plan, struct line *line)
     struct line *needed;
 
     while ((needed = missing_before(plan, line))) {
-        struct token *token = plan_take(plan, sizeof *token), **end = &line->tokens;
+        struct order *order = plan_take(plan, sizeof *order), **end = &line->orders;
 
-        if (!needed->token)
-            needed->token = ++plan->tokens;
-        *token = (struct token){ needed, NULL };
+        if (!needed->mark)
+            needed->mark = ++plan->marks;
+        *order = (struct order){ needed, NULL };
         while (*end)
             end = &(*end)->next;
-        *end = token;
+        *end = order;
         learn(plan, line->thread->known, needed);
     }
 }
@@ -221,18 +221,34 @@ static void order_line(struct plan *plan, struct line *line)
     line->known = plan_copy(plan, thread->known);
 }
 
-static void count_line(struct plan *plan, const struct line *line)
+static unsigned length_of(const struct section *sections)
 {
-    plan->commands += !line->is_dropped;
+    unsigned length = 0;
+
+    for (; sections; sections = sections->next)
+        length++;
+    return length;
+}
+
+/* Each section that is passed is begun and ended. A line's notes have one order, and each other one an idle line above it. */
+static unsigned commands_of(const struct line *line)
+{
+    unsigned commands = 1 + 2 * length_of(line->passes) + length_of(line->begins) + length_of(line->ends);
+
+    for (const struct order *order = line->orders; order && order->next; order = order->next)
+        commands++;
+    return commands;
+}
+
+static void count_line(struct plan *plan, struct line *line)
+{
+    line->turn = plan->commands;
+    line->commands = line->is_dropped ? 0 : commands_of(line);
+    plan->commands += line->commands;
+    plan->has_idle_lines |= line->orders && line->orders->next;
     plan->timelines += line->verb == LINE_TIMELINE;
     plan->buffers += line->verb == LINE_BUFFER;
     plan->files += line->verb == LINE_FENCE || line->verb == LINE_MERGE || line->verb == LINE_EXPORT;
-    for (const struct token *token = line->tokens; token; token = token->next)
-        plan->commands++;
-    for (const struct section *section = line->begins; section; section = section->next)
-        plan->commands += 2;
-    for (const struct section *section = line->passes; section; section = section->next)
-        plan->commands += 2;
 }
 
 void plan_order(struct plan *plan)
@@ -252,9 +268,8 @@ void plan_order(struct plan *plan)
         plan->buffers += plan->threads[t].checked != NULL;
         plan->commands += plan->threads[t].checked != NULL;
     }
-    plan->commands += plan->tokens;
     if (plan->main && plan->first == plan->last)
         plan->clients--;
-    plan->files += plan->tokens + plan->mutex_count;
-    plan->timelines += plan->tokens || plan->mutex_count;
+    plan->files += plan->mutex_count;
+    plan->timelines += plan->has_idle_lines || plan->mutex_count;
 }

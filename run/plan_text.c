@@ -101,35 +101,73 @@ static void write_origin(const struct plan *plan, const struct line *line, const
     fprintf(to, "%s\n", text);
 }
 
-/* Writes that a section begins, below which mutex of its thread it is. A wait for a condition ends with one that has no number. */
-static void write_taken(const struct section *section, FILE *to)
-{
-    if (section->taken->record->call)
-        fprintf(to, "# @%s:L%u\n", section->taken->thread->name, section->taken->record->call);
-    fprintf(to, "#await\nfence lock%u order 0\n", section->mutex->number);
-}
-
-static void write_given(const struct section *given, FILE *to)
-{
-    for (; given; given = given->next)
-        fprintf(to, "close lock%u\n", given->mutex->number);
-}
-
-static void write_before(const struct line *line, FILE *to)
-{
-    for (const struct token *token = line->tokens; token; token = token->next)
-        fprintf(to, "wait o%u\n", token->line->token);
-    for (const struct section *passed = line->passes; passed; passed = passed->next) {
-        write_taken(passed, to);
-        fprintf(to, "close lock%u\n", passed->mutex->number);
-    }
-    for (const struct section *taken = line->begins; taken; taken = taken->next)
-        write_taken(taken, to);
-}
-
 static bool is_of_client(const struct plan *plan, const struct line *line)
 {
+    if (line->is_common)
+        return false;
     return line->thread != plan->main || (line->number > plan->first && line->number <= plan->last);
+}
+
+/* A line whose commands are written: those of locks and idle ones are around its own. */
+struct writing {
+    const struct line *line;
+    const struct order *orders; /* those that aren't written yet */
+    unsigned written;
+    bool is_of_client;
+    FILE *to;
+};
+
+/* Writes the notes of a line's next command: when it comes in the run, after which line it has to come, and whether others come
+ * after the line. */
+static void write_notes(struct writing *writing)
+{
+    const struct line *line = writing->line;
+
+    writing->written++;
+    if (!writing->is_of_client)
+        return;
+    fprintf(writing->to, "#turn %u\n", line->turn + writing->written);
+    if (writing->orders) {
+        fprintf(writing->to, "#after o%u\n", writing->orders->line->mark);
+        writing->orders = writing->orders->next;
+    }
+    if (line->mark && writing->written == line->commands)
+        fprintf(writing->to, "#mark o%u\n", line->mark);
+}
+
+/* A command has one order: each other one is that of an idle line above it. */
+static void write_idle(struct writing *writing)
+{
+    while (writing->orders && writing->orders->next) {
+        write_notes(writing);
+        fputs("value order\n", writing->to);
+    }
+}
+
+/* Writes that a section begins, below which mutex of its thread it is. A wait for a condition ends with one that has no number. */
+static void write_taken(struct writing *writing, const struct section *section)
+{
+    if (section->taken->record->call)
+        fprintf(writing->to, "# @%s:L%u\n", section->taken->thread->name, section->taken->record->call);
+    write_notes(writing);
+    fprintf(writing->to, "#await\nfence lock%u order 0\n", section->mutex->number);
+}
+
+static void write_given(struct writing *writing, const struct section *given)
+{
+    write_notes(writing);
+    fprintf(writing->to, "close lock%u\n", given->mutex->number);
+}
+
+static void write_before(struct writing *writing)
+{
+    write_idle(writing);
+    for (const struct section *passed = writing->line->passes; passed; passed = passed->next) {
+        write_taken(writing, passed);
+        write_given(writing, passed);
+    }
+    for (const struct section *taken = writing->line->begins; taken; taken = taken->next)
+        write_taken(writing, taken);
 }
 
 /* Writes the notes of an access that begins or ends with a line. */
@@ -147,16 +185,18 @@ static void write_access(const struct plan *plan, const struct line *line, FILE 
 
 static void write_line(const struct plan *plan, const struct line *line, const struct places *places, FILE *to)
 {
-    write_before(line, to);
+    struct writing writing = { .line = line, .orders = line->orders, .is_of_client = is_of_client(plan, line), .to = to };
+
+    write_before(&writing);
     write_origin(plan, line, places, to);
+    write_notes(&writing);
     if (line->awaits)
         fputs("#await\n", to);
     write_command(line, to);
     write_expected(line, to);
     write_access(plan, line, to);
-    write_given(line->ends, to);
-    if (line->token)
-        fprintf(to, "fence o%u order 0\n", line->token);
+    for (const struct section *given = line->ends; given; given = given->next)
+        write_given(&writing, given);
 }
 
 static void write_lines(const struct plan *plan, const struct plan_thread *thread, unsigned from, unsigned to_line,
@@ -182,7 +222,7 @@ static void write_head(const struct plan *plan, const char *program, FILE *to)
         *byte = *byte < ' ' ? '?' : *byte;
     fprintf(to, "# One run of %s (bimphlai-run --plan): %llu of its %llu calls.\n", name, (unsigned long long)plan->calls,
             (unsigned long long)plan->calls_of_run);
-    fputs("# Above the line of a call are its thread, its number in that, its time, and its place in the program.\n"
+    fputs("# Above the line of a call are its thread, its number in that, its time, its place in the program, and its turn in the run.\n"
           "# Orders of threads by their making, their ends, pipes and pairs of sockets are kept as in the run.\n",
           to);
     fputs(plan->excludes ? "# A mutex excludes: its sections come in any order. All other locks' orders are kept (--orders locks).\n" :
@@ -195,8 +235,9 @@ static void write_head(const struct plan *plan, const char *program, FILE *to)
 /* Writes what comes before the clients. */
 static void write_first(const struct plan *plan, const struct places *places, FILE *to)
 {
-    if (plan->tokens || plan->mutex_count)
-        fputs("# Orders: a client makes a file once a line is made, and others wait for it.\ntimeline order\n", to);
+    if (plan->has_idle_lines || plan->mutex_count)
+        fputs("# No calls of the program: `fence lock1 order 0` locks a mutex, and `value order` only comes after a marked line.\n"
+              "timeline order\n", to);
     for (size_t i = 0; i < plan->count; i++)
         if (plan->lines[i]->is_common)
             write_line(plan, plan->lines[i], places, to);
