@@ -1,6 +1,6 @@
 /* A plan of one run (--plan), made of its log (log.h): the lines that the calls of its threads become, and the orders between them.
  * plan_log.c reads the log, plan_lines.c makes the lines, plan_clocks.c takes the orders, plan_orders.c decides which of them need
- * notes of their own, plan_text.c writes. */
+ * notes of their own, plan_files.c which files are closed, plan_text.c writes. */
 #ifndef BIM_RUN_PLAN_H
 #define BIM_RUN_PLAN_H
 
@@ -42,6 +42,9 @@ struct thing {
     uint64_t greatest;      /* of a timeline: its greatest point */
     struct plan_thread *user;    /* of a timeline: who uses it */
     bool is_shared;         /* if others use it too */
+    bool is_lent;           /* of a file: another thread than its maker uses it */
+    struct line *last;      /* of a file: its last use */
+    struct thing *next;     /* that is closed below the same line */
 };
 
 /* A mutex, as an exclusion (--orders locks). */
@@ -89,6 +92,7 @@ struct line {
     unsigned mark;    /* its number, or 0 if no line has this one in its orders */
     struct order *orders;
     struct section *begins, *ends, *passes;
+    struct thing *closes; /* files that are closed below the line */
     unsigned turn, commands; /* how many commands of the plan come before its first one, as in the run, and how many it has */
     struct line *access; /* where the access ends that begins with this line, or the other way round, or NULL */
 };
@@ -186,6 +190,8 @@ void plan_take_order(struct plan *plan, const struct event *event);
 void plan_end_sections(struct plan *plan);
 /* Decides which lines the plan has, where each is, and after which others it comes. */
 void plan_order(struct plan *plan);
+/* Counts how many files the plan has open at most, and closes some if these are too many. */
+void plan_close_files(struct plan *plan);
 
 void plan_write(const struct plan *plan, const struct places *places, const char *program, FILE *to);
 /* Writes the run itself: its lines in their order, with what each was answered. */

@@ -235,6 +235,8 @@ static unsigned commands_of(const struct line *line)
 {
     unsigned commands = 1 + 2 * length_of(line->passes) + length_of(line->begins) + length_of(line->ends);
 
+    for (const struct thing *closed = line->closes; closed; closed = closed->next)
+        commands++;
     for (const struct order *order = line->orders; order && order->next; order = order->next)
         commands++;
     return commands;
@@ -248,7 +250,6 @@ static void count_line(struct plan *plan, struct line *line)
     plan->has_idle_lines |= line->orders && line->orders->next;
     plan->timelines += line->verb == LINE_TIMELINE;
     plan->buffers += line->verb == LINE_BUFFER;
-    plan->files += line->verb == LINE_FENCE || line->verb == LINE_MERGE || line->verb == LINE_EXPORT;
 }
 
 void plan_order(struct plan *plan)
@@ -262,6 +263,7 @@ void plan_order(struct plan *plan)
     for (size_t i = 0; i < plan->count; i++)
         if (is_left(plan->lines[i]))
             order_line(plan, plan->lines[i]);
+    plan_close_files(plan);
     for (size_t i = 0; i < plan->count; i++)
         count_line(plan, plan->lines[i]);
     for (unsigned t = 0; t < plan->thread_count; t++) {
@@ -270,6 +272,5 @@ void plan_order(struct plan *plan)
     }
     if (plan->main && plan->first == plan->last)
         plan->clients--;
-    plan->files += plan->mutex_count;
     plan->timelines += plan->has_idle_lines || plan->mutex_count;
 }

@@ -183,6 +183,14 @@ static void write_access(const struct plan *plan, const struct line *line, FILE 
         fprintf(to, "#%s %s\n", line->value & DMA_BUF_SYNC_WRITE ? "writes" : "reads", name_of(line->with));
 }
 
+static void write_closes(struct writing *writing)
+{
+    for (const struct thing *closed = writing->line->closes; closed; closed = closed->next) {
+        write_notes(writing);
+        fprintf(writing->to, "close %s\n", closed->name);
+    }
+}
+
 static void write_line(const struct plan *plan, const struct line *line, const struct places *places, FILE *to)
 {
     struct writing writing = { .line = line, .orders = line->orders, .is_of_client = is_of_client(plan, line), .to = to };
@@ -197,6 +205,7 @@ static void write_line(const struct plan *plan, const struct line *line, const s
     write_access(plan, line, to);
     for (const struct section *given = line->ends; given; given = given->next)
         write_given(&writing, given);
+    write_closes(&writing);
 }
 
 static void write_lines(const struct plan *plan, const struct plan_thread *thread, unsigned from, unsigned to_line,
@@ -302,5 +311,7 @@ void plan_write_run(const struct plan *plan, FILE *to)
         if (!plan->lines[i]->is_dropped) {
             write_command(plan->lines[i], to);
             write_answered(plan->lines[i], to);
+            for (const struct thing *closed = plan->lines[i]->closes; closed; closed = closed->next)
+                fprintf(to, "close %s\n#= ok\n", closed->name);
         }
 }
