@@ -12,6 +12,10 @@
 #include <sys/wait.h>
 #include <unistd.h>
 
+/* How plans of runs are explored: a schedule ends at its first wrong answer, since the program would go another way, and one that is
+ * shown is near to the recorded run. */
+static const char MODE[] = "--predict";
+
 /* Becomes fencectl (exec). A report that is read names a plan of the folder without the folder. */
 static void become_fencectl(const char *plan, const char *folder, const char *prefix, bool tells)
 {
@@ -23,7 +27,7 @@ static void become_fencectl(const char *plan, const char *folder, const char *pr
     launch_find_fencectl(fencectl);
     if (tells && chdir(folder) == 0)
         plan = strrchr(plan, '/') + 1;
-    execlp(fencectl, "fencectl", "explore", "--witness", prefix, plan, (char *)NULL);
+    execlp(fencectl, "fencectl", "explore", MODE, "--witness", prefix, plan, (char *)NULL);
     fault("fencectl", errno);
     _exit(STATUS_FAULT);
 }

@@ -1,4 +1,4 @@
-/* Runs `fencectl explore`, and reads the schedules that it shows. */
+/* Runs `fencectl explore --predict`, and reads the schedules that it shows. */
 #ifndef BIM_RUN_EXPLORE_H
 #define BIM_RUN_EXPLORE_H
 

@@ -28,7 +28,7 @@ static const char HELP[] =
     "  --follow FILE [N]\n"
     "                has threads make their calls as schedule N of the plan FILE, or as the script FILE\n"
     "  --patience MS for --follow: how long a thread waits for its turn, by default 1500 ms\n"
-    "  --plan FILE   writes the run as a plan to FILE, for `fencectl explore`\n"
+    "  --plan FILE   writes the run as a plan to FILE, for `fencectl explore --predict`\n"
     "  --calls N     only its first N calls\n"
     "  --orders all|locks\n"
     "                keeps the orders of all locks, or lets the sections of a mutex come in any order\n"
