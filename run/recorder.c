@@ -2,12 +2,12 @@
 #include "recorder.h"
 
 #include "calls.h"
+#include "frames.h"
 #include "shim.h"
 #include "step.h"
 #include "thread.h"
 
 #include <errno.h>
-#include <execinfo.h>
 #include <limits.h>
 #include <link.h>
 #include <stdatomic.h>
@@ -15,8 +15,8 @@
 #include <string.h>
 #include <sys/prctl.h>
 
-/* How many frames of this library may be above its callers', and how many files of a process are known. */
-enum { OWN_FRAMES = 8, LOADED = 256 };
+/* How many files of a process are known. */
+enum { LOADED = 256 };
 
 struct range {
     uintptr_t begin, end;
@@ -28,7 +28,6 @@ OF_THREAD uint32_t me; /* number of this thread in the log, or 0 */
 static bool is_on;
 static pid_t process;                /* whose memory this is */
 static uint32_t memory;              /* its number in the log */
-static struct range own;             /* of this library */
 static struct range loaded[LOADED];  /* of what is in the log */
 static _Atomic int loaded_count;
 static atomic_flag looks = ATOMIC_FLAG_INIT;
@@ -85,8 +84,6 @@ static int look_at(struct dl_phdr_info *file, size_t size, void *none)
     int count = loaded_count;
 
     (void)size, (void)none;
-    if (is_in(&range, (uintptr_t)recorder_begin))
-        own = range;
     if (is_known(range.begin) || count == LOADED)
         return 0;
     if (!path || !*path) {
@@ -158,28 +155,11 @@ static uint32_t number_of_thread(void)
     return me;
 }
 
-/* Stores the frames of the library's callers, of the frames of a thread. Returns how many. */
-static int keep_frames(struct log_record *record, void *const *frames, int count)
-{
-    int kept = 0;
-
-    for (int i = 0; i < count && kept < LOG_FRAMES; i++)
-        if (!is_in(&own, (uintptr_t)frames[i]))
-            record->frames[kept++] = (uintptr_t)frames[i];
-    return kept;
-}
-
-/* Each frame takes long to find, so no more are asked for than a call of this kind has had in this library so far. */
+/* What was loaded since is seen with the first frame in it. */
 static void add_frames(struct log_record *record)
 {
-    static _Atomic int depths[LOG_LAST_CALL + 1];
-    void *frames[OWN_FRAMES + LOG_FRAMES];
-    int most = depths[record->kind] + LOG_FRAMES, count = backtrace(frames, most);
-
-    while (keep_frames(record, frames, count) < LOG_FRAMES && count == most && most < OWN_FRAMES + LOG_FRAMES) {
-        depths[record->kind] = ++most - LOG_FRAMES;
-        count = backtrace(frames, most);
-    }
+    if (frames_find(record->frames))
+        return;
     for (int i = 0; i < LOG_FRAMES && record->frames[i]; i++)
         if (!is_known(record->frames[i]))
             look_at_all();
@@ -259,13 +239,11 @@ static void take_fact(const struct thread_fact *fact)
 void recorder_begin(void)
 {
     const char *path = getenv(BIM_PLAN);
-    void *frames[1];
 
     if (!path || log_open(path))
         return;
     is_on = true;
-    /* The first call loads a library, which no later call may wait for. */
-    backtrace(frames, 1);
+    frames_begin();
     step_listen(take_step);
     thread_listen(take_fact);
 }
