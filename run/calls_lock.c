@@ -13,31 +13,44 @@
 
 #define OBJECT(at) ((uint64_t)(uintptr_t)(at))
 
-/* A call that has the lock once it returns 0. A robust mutex may come with EOWNERDEAD. */
-#define TAKES(name, kind, type, parameters, arguments)            \
-    EXPORT int name parameters                                    \
-    {                                                             \
-        NEXT(name);                                               \
-        int error;                                                \
-                                                                  \
-        if (kind == LOG_MUTEX && thread_is_on())                  \
-            follow_begin_lock();                                  \
-        error = next arguments;                                   \
-        if (kind == LOG_MUTEX && thread_is_on())                  \
-            follow_end_lock(error == 0 || error == EOWNERDEAD);   \
-        if (recorder_is_on() && (error == 0 || error == EOWNERDEAD)) \
-            recorder_acquire(kind, OBJECT(lock), kind == LOG_MUTEX ? thread_locks() : 0); \
-        return error;                                             \
+/* Without --plan and --follow a call only jumps: programs lock more often than they do anything else here. */
+#define PASSES(name, parameters, arguments)                                          \
+    EXPORT int name parameters                                                       \
+    {                                                                                \
+        NEXT_IF_LOADED(name);                                                        \
+                                                                                     \
+        return next && !thread_is_on() ? next arguments : watched_##name arguments;  \
     }
 
-#define GIVES(name, kind, type)                    \
-    EXPORT int name(type *lock)                    \
-    {                                              \
-        NEXT(name);                                \
-                                                   \
-        recorder_release(kind, OBJECT(lock));      \
-        return next(lock);                         \
-    }
+/* A call that has the lock once it returns 0. A robust mutex may come with EOWNERDEAD. */
+#define TAKES(name, kind, type, parameters, arguments)                               \
+    static __attribute__((noinline)) int watched_##name parameters                   \
+    {                                                                                \
+        NEXT(name);                                                                  \
+        bool has_lock;                                                               \
+        int error;                                                                   \
+                                                                                     \
+        if (kind == LOG_MUTEX)                                                       \
+            follow_begin_lock();                                                     \
+        error = next arguments;                                                      \
+        has_lock = error == 0 || error == EOWNERDEAD;                                \
+        if (kind == LOG_MUTEX)                                                       \
+            follow_end_lock(has_lock);                                               \
+        if (has_lock)                                                                \
+            recorder_acquire(kind, OBJECT(lock), kind == LOG_MUTEX ? thread_locks() : 0); \
+        return error;                                                                \
+    }                                                                                \
+    PASSES(name, parameters, arguments)
+
+#define GIVES(name, kind, type)                                                      \
+    static __attribute__((noinline)) int watched_##name(type *lock)                  \
+    {                                                                                \
+        NEXT(name);                                                                  \
+                                                                                     \
+        recorder_release(kind, OBJECT(lock));                                        \
+        return next(lock);                                                           \
+    }                                                                                \
+    PASSES(name, (type *lock), (lock))
 
 #define LIMIT const struct timespec *restrict limit
 

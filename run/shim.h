@@ -13,11 +13,13 @@
 #include <stddef.h>
 
 /* The next library's definition of a function that this library overrides. All are looked up when the library is
- * loaded, since a signal handler can't look one up. A call before that looks up its own. */
-#define NEXT(name)                                                                        \
+ * loaded, since a signal handler can't look one up. A call before that looks up its own, or finds `next` NULL. */
+#define NEXT_IF_LOADED(name)                                                              \
     static __typeof__(&name) next;                                                        \
     static const struct next_call looked_up                                               \
-        __attribute__((used, section("bim_next"))) = { #name, __extension__(void *)&next }; \
+        __attribute__((used, section("bim_next"))) = { #name, __extension__(void *)&next }
+#define NEXT(name)                                                                        \
+    NEXT_IF_LOADED(name);                                                                 \
     if (!next)                                                                            \
     next = __extension__(__typeof__(&name)) dlsym(RTLD_NEXT, #name)
 
