@@ -143,13 +143,18 @@ static inline __u64 now(void)
     return (__u64)time.tv_sec * 1000000000u + (__u64)time.tv_nsec;
 }
 
-/* Ends the process by a signal after some seconds, multiplied by the environment variable SLOWNESS for slow
- * environments. */
+/* How many times longer than usual everything may take: the environment variable SLOWNESS. */
+static inline int slowness(void)
+{
+    const char *times = getenv("SLOWNESS");
+
+    return times ? atoi(times) : 1;
+}
+
+/* Ends the process by a signal after some seconds, more on a slow machine. */
 static inline void give_up_after(unsigned seconds)
 {
-    const char *slowness = getenv("SLOWNESS");
-
-    alarm(seconds * (slowness ? (unsigned)atoi(slowness) : 1));
+    alarm(seconds * (unsigned)slowness());
 }
 
 static inline void pause_for(int milliseconds)

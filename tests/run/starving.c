@@ -48,8 +48,7 @@ int main(int argc, char **argv)
         EXPECT(inc(t, 1), 0);
         close(f);
     }
-    const char *slowness = getenv("SLOWNESS");
-    int took = (int)((now() - begun) / 1000000), longest = LONGEST * (slowness ? atoi(slowness) : 1);
+    int took = (int)((now() - begun) / 1000000), longest = LONGEST * slowness();
     if (took > longest)
         printf("%d steps took %d ms\n", STEPS, took);
     HOLDS(took <= longest);
