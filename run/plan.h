@@ -14,7 +14,7 @@
 #include <stdio.h>
 
 /* Limits of `fencectl explore`. */
-enum { PLAN_CLIENTS = 16, PLAN_LINES = 4096, PLAN_FILES = 1024, PLAN_TIMELINES = 256, PLAN_BUFFERS = 64, PLAN_NAME = 32 };
+enum { PLAN_CLIENTS = 32, PLAN_LINES = 16384, PLAN_FILES = 1024, PLAN_TIMELINES = 256, PLAN_BUFFERS = 64, PLAN_NAME = 32 };
 
 enum verb {
     LINE_TIMELINE,

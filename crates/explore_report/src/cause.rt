@@ -2,13 +2,13 @@
 use thiserror::Error;
 
 /// The most clients of a plan.
-pub const PLAN_CLIENTS: usize = 16;
+pub const PLAN_CLIENTS: usize = 32;
 
 /// The number of the last client, from 0.
 pub(crate) const LAST_CLIENT: usize = PLAN_CLIENTS - 1;
 
 /// The most lines that the clients of a plan have together.
-pub const PLAN_LINES: usize = 4096;
+pub const PLAN_LINES: usize = 16_384;
 
 /// The most rounds of a `#repeat`.
 pub const PLAN_ROUNDS: u32 = 1024;
